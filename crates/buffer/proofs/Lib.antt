@@ -1,0 +1,3 @@
+-- Laws of parts, writes and numbers as bytes.
+pub mod Writes
+pub mod Numbers

@@ -1,0 +1,64 @@
+-- Laws of numbers as bytes, over the width: each direction undoes the other.
+use mathlib.Core.Path.{_≡_, refl, sym, _∙_, ap, ap₂}
+use Prim.Native.Nat.{ℕ, zero, suc, _+_, _*_, _/_, _%_, _^_, _<_, _≤_}
+use native.Mathlib.Nat.{pow-succ', add-mul, zero-add, mul-assoc, mod-eq-of-lt, add-assoc}
+use native.Mathlib.Omega.{arith}
+use mathlib.Core.List.{List, [], _∷_}
+use lib.ListN.{length}
+use lib.Arith.{mod-mul, digits-lt, digits-div, digits-mod}
+use Rattle.buffer.specs.Slice.{Bytes}
+use Rattle.buffer.specs.Number.{bytesOf, numberFrom, numberOf}
+
+pow-positive : (width : ℕ) → 0 < 256 ^ width
+pow-positive zero = omega arith
+pow-positive (suc width) = rw pow-succ' (let h = pow-positive width in omega arith)
+
+pub length-bytesOf : (width n : ℕ) → length (bytesOf width n) ≡ width
+unfolding bytesOf
+length-bytesOf zero n = refl
+length-bytesOf (suc width) n = ap suc (length-bytesOf width n)
+
+-- the bytes spell the number's remainder at their width
+from-bytes : (width a n : ℕ) → numberFrom a (bytesOf width n) ≡ a * 256 ^ width + n % 256 ^ width
+unfolding bytesOf numberFrom
+from-bytes zero a n = omega arith
+from-bytes (suc width) a n =
+    let p : ℕ = 256 ^ width in
+    let d : ℕ = n / p % 256 in
+    from-bytes width (a * 256 + d) n
+    ∙ rw (pow-succ', mod-mul n {m = 256} {c = 256 ^ width} (omega arith) (pow-positive width), add-mul, mul-assoc, add-assoc)
+
+-- a number that fits is what its bytes spell
+pub number-of-bytes : (width n : ℕ) → n < 256 ^ width → numberOf (bytesOf width n) ≡ n
+unfolding numberOf
+number-of-bytes width n h = from-bytes width 0 n ∙ rw (mod-eq-of-lt h) (omega arith)
+
+-- the higher bytes weigh as much as their place says, and the others stay below that
+from-higher : (bs : List ℕ) (a : ℕ) → Bytes bs → (numberFrom a bs ≡ a * 256 ^ length bs + numberFrom 0 bs) × (numberFrom 0 bs < 256 ^ length bs)
+unfolding numberFrom
+from-higher [] a h = (omega arith, omega arith)
+from-higher (b ∷ bs) a h =
+    let here : b < 256 = h 0 in
+    let high = from-higher bs (a * 256 + b) (λ i. h (suc i)) in
+    let low = from-higher bs (0 + b) (λ i. h (suc i)) in
+    ( high .0 ∙ rw (low .0, pow-succ', zero-add, add-mul, mul-assoc, add-assoc)
+    , rw (low .0, zero-add, pow-succ') (digits-lt here (low .1)) )
+
+-- bytes are those of the number that they spell
+bytes-from : (bs : List ℕ) (a : ℕ) → Bytes bs → bytesOf (length bs) (numberFrom a bs) ≡ bs
+unfolding bytesOf numberFrom
+bytes-from [] a h = refl
+bytes-from (b ∷ bs) a h =
+    let rest : Bytes bs = λ i. h (suc i) in
+    let split = from-higher bs (a * 256 + b) rest in
+    let high : numberFrom (a * 256 + b) bs / 256 ^ length bs ≡ a * 256 + b = rw (split .0) (digits-div (a * 256 + b) (split .1)) in
+    let top : numberFrom (a * 256 + b) bs / 256 ^ length bs % 256 ≡ b = rw high (digits-mod a (h 0)) in
+    ap₂ _∷_ top (bytes-from bs (a * 256 + b) rest)
+
+pub bytes-of-number : (bs : List ℕ) → Bytes bs → bytesOf (length bs) (numberOf bs) ≡ bs
+unfolding numberOf
+bytes-of-number bs h = bytes-from bs 0 h
+
+pub number-below : (bs : List ℕ) → Bytes bs → numberOf bs < 256 ^ length bs
+unfolding numberOf
+number-below bs h = from-higher bs 0 h .1

@@ -1,0 +1,16 @@
+-- A part of a slice, and a slice after bytes were written into it.
+use Prim.Native.Nat.{ℕ, _+_, _<_}
+use mathlib.Core.List.{List, _++_}
+use lib.ListN.{length, take, drop, getD}
+
+-- every element is a byte
+abbrev pub Bytes : List ℕ → Type 0
+Bytes m = (i : ℕ) → getD m i 0 < 256
+
+-- the n bytes of m from position at on
+unfoldable pub part : List ℕ → ℕ → ℕ → List ℕ
+part m at n = take n (drop at m)
+
+-- m with the bytes xs from position at on; every other byte as it was
+unfoldable pub write : ℕ → List ℕ → List ℕ → List ℕ
+write at xs m = take at m ++ (xs ++ drop (at + length xs) m)

@@ -1,0 +1,1 @@
+// Definitions and laws of bytes in a lent slice.
