@@ -1,0 +1,4 @@
+-- Laws of the lamp model.
+pub mod Comparing
+pub mod Keys
+pub mod Arrays
