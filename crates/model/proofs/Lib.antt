@@ -2,3 +2,4 @@
 pub mod Comparing
 pub mod Keys
 pub mod Arrays
+pub mod Outcomes
