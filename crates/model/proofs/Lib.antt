@@ -3,3 +3,5 @@ pub mod Comparing
 pub mod Keys
 pub mod Arrays
 pub mod Outcomes
+pub mod Ordered
+pub mod Sending

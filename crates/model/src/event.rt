@@ -95,7 +95,7 @@ fn count(counter: u32) -> u32
     if counter < 4294967295 {
         counter + 1
     } else {
-        counter
+        4294967295
     }
 }
 
