@@ -4,9 +4,10 @@ use Prim.Native.Nat.{ℕ, zero, suc, _+_, _*_, _/_, _%_, _^_, _<_, _≤_}
 use native.Mathlib.Nat.{pow-succ', add-mul, zero-add, mul-assoc, mod-eq-of-lt, add-assoc}
 use native.Mathlib.Omega.{arith}
 use mathlib.Core.List.{List, [], _∷_}
-use lib.ListN.{length}
+use lib.ListN.{length, getD, set}
 use lib.Arith.{mod-mul, digits-lt, digits-div, digits-mod}
-use Rattle.buffer.specs.Slice.{Bytes}
+use Rattle.buffer.specs.Slice.{Bytes, part, write}
+use Rattle.buffer.proofs.Writes.{part-cons, part-nil, set-write, write-snoc}
 use Rattle.buffer.specs.Number.{bytesOf, numberFrom, numberOf}
 
 pow-positive : (width : ℕ) → 0 < 256 ^ width
@@ -40,9 +41,10 @@ from-higher [] a h = (omega arith, omega arith)
 from-higher (b ∷ bs) a h =
     let here : b < 256 = h 0 in
     let high = from-higher bs (a * 256 + b) (λ i. h (suc i)) in
-    let low = from-higher bs (0 + b) (λ i. h (suc i)) in
-    ( high .0 ∙ rw (low .0, pow-succ', zero-add, add-mul, mul-assoc, add-assoc)
-    , rw (low .0, zero-add, pow-succ') (digits-lt here (low .1)) )
+    let low = from-higher bs (0 + b) (λ i. h (suc i)) in (
+      high .0 ∙ rw (low .0, pow-succ', zero-add, add-mul, mul-assoc, add-assoc),
+      rw (low .0, zero-add, pow-succ') (digits-lt here (low .1)),
+    )
 
 -- bytes are those of the number that they spell
 bytes-from : (bs : List ℕ) (a : ℕ) → Bytes bs → bytesOf (length bs) (numberFrom a bs) ≡ bs
@@ -62,3 +64,35 @@ bytes-of-number bs h = bytes-from bs 0 h
 pub number-below : (bs : List ℕ) → Bytes bs → numberOf bs < 256 ^ length bs
 unfolding numberOf
 number-below bs h = from-higher bs 0 h .1
+
+-- a number by its bytes in a slice
+pub read-two : (m : List ℕ) (at : ℕ) {a b : ℕ} → at + 2 ≤ length m → a ≡ getD m at 0 → b ≡ getD m (at + 1) 0 → a * 256 + b ≡ numberOf (part m at 2)
+unfolding numberOf numberFrom
+read-two m at h p q = rw (part-cons m at 1 (omega arith), part-cons m (at + 1) 0 (omega arith), part-nil) (omega arith)
+
+pub read-four : (m : List ℕ) (at : ℕ) {a b c d : ℕ} → at + 4 ≤ length m
+    → a ≡ getD m at 0 → b ≡ getD m (at + 1) 0 → c ≡ getD m (at + 2) 0 → d ≡ getD m (at + 3) 0
+    → (a * 256 + b) * 65536 + (c * 256 + d) ≡ numberOf (part m at 4)
+unfolding numberOf numberFrom
+read-four m at h p q r t =
+    rw (part-cons m at 3 (omega arith), part-cons m (at + 1) 2 (omega arith), part-cons m (at + 1 + 1) 1 (omega arith), part-cons m (at + 1 + 1 + 1) 0 (omega arith), part-nil, add-assoc at 1 1, add-assoc at 2 1)
+    (omega arith)
+
+-- a number's bytes stored one behind the other
+pub stored-two : (m : List ℕ) (at n : ℕ) → at + 2 ≤ length m → n < 65536 → set (set m at (n / 256)) (at + 1) (n % 256) ≡ write at (bytesOf 2 n) m
+unfolding bytesOf
+stored-two m at n h small =
+    let high : n / 256 ^ 1 % 256 ≡ n / 256 = omega arith in
+    let low : n / 256 ^ 0 % 256 ≡ n % 256 = omega arith in
+    rw (set-write m at (n / 256) (omega arith), high, low) (write-snoc at (n / 256 ∷ []) m (n % 256) (at + 1) (omega arith) refl)
+
+pub stored-four : (m : List ℕ) (at n : ℕ) → at + 4 ≤ length m → n < 4294967296
+    → set (set (set (set m at (n / 16777216)) (at + 1) (n / 65536 % 256)) (at + 2) (n / 256 % 256)) (at + 3) (n % 256) ≡ write at (bytesOf 4 n) m
+unfolding bytesOf
+stored-four m at n h small =
+    let a : ℕ = n / 16777216 in
+    let b : ℕ = n / 65536 % 256 in
+    let c : ℕ = n / 256 % 256 in
+    let high : n / 256 ^ 3 % 256 ≡ n / 16777216 = omega arith in
+    let low : n / 256 ^ 0 % 256 ≡ n % 256 = omega arith in
+    rw (set-write m at a (omega arith), write-snoc at (a ∷ []) m b (at + 1) (omega arith) refl, write-snoc at (a ∷ b ∷ []) m c (at + 2) (omega arith) refl, write-snoc at (a ∷ b ∷ c ∷ []) m (n % 256) (at + 3) (omega arith) refl, high, low)

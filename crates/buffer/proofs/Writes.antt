@@ -6,7 +6,7 @@ use native.Mathlib.Numerals.{add-one}
 use native.Mathlib.Omega.{arith}
 use mathlib.Core.List.{List, [], _∷_, _++_, append-assoc}
 use lib.ListN.{length, take, drop, set, getD, length-append, length-take, length-drop, take-append-drop, List·getD-append}
-use lib.Seq.{take-at, drop-at, drop-drop, take-add, set-split, getD-take, getD-drop, getD-append-add, take-append-le, drop-append-le, length-take-le, take-take, drop-append-add, take-nil}
+use lib.Seq.{take-at, drop-at, drop-drop, take-add, set-split, getD-take, getD-drop, getD-append-add, take-append-le, drop-append-le, length-take-le, take-take, drop-append-add, take-nil, drop-cons, take-suc, take-all}
 use Rattle.buffer.specs.Slice.{part, write}
 
 pub length-part : (m : List ℕ) (at n : ℕ) → at + n ≤ length m → length (part m at n) ≡ n
@@ -62,7 +62,7 @@ write-join at xs ys m h =
     let e : length (take at m ++ xs) ≡ at + length xs = simp (length-append, length-take) (omega arith) in
     let front : take (at + length xs) (write at xs m) ≡ take at m ++ xs = rw write-split (take-at _ _ _ e) in
     let rest : drop (at + length xs + length ys) (write at xs m) ≡ drop (at + length xs + length ys) m =
-        rw (write-split, ← e) (drop-append-add (take at m ++ xs) (drop (length (take at m ++ xs)) m) (length ys) ∙ drop-drop (length ys) (length (take at m ++ xs)) m)
+    rw (write-split, ← e) (drop-append-add (take at m ++ xs) (drop (length (take at m ++ xs)) m) (length ys) ∙ drop-drop (length ys) (length (take at m ++ xs)) m)
     in
     rw (write-split (at + length xs), write-split at (xs ++ ys), front, rest, length-append, add-assoc) (simp append-assoc)
 
@@ -90,3 +90,36 @@ pub part-part : (m : List ℕ) (at n from k : ℕ) → from + k ≤ n → part (
 unfolding part
 part-part m at n from k h =
     rw (← take-drop from k (take n (drop at m)), take-take (from + k) n (drop at m) h, take-drop from k (drop at m), drop-drop from at m)
+
+-- one more byte stored behind a write
+pub write-snoc : (at : ℕ) (xs m : List ℕ) (x k : ℕ) → at + length xs < length m → k ≡ at + length xs → set (write at xs m) k x ≡ write at (xs ++ (x ∷ [])) m
+write-snoc at xs m x k h e =
+    rw e
+    (set-write (write at xs m) (at + length xs) x (rw (length-write at xs m (omega arith)) h)
+    ∙ write-join at xs (x ∷ []) m (omega arith))
+
+take-none : (l : List ℕ) → take 0 l ≡ []
+take-none [] = refl
+take-none (x ∷ l) = refl
+
+-- a part by its first byte
+pub part-cons : (m : List ℕ) (at n : ℕ) → at < length m → part m at (suc n) ≡ getD m at 0 ∷ part m (at + 1) n
+unfolding part
+part-cons m at n h = rw (drop-cons m at 0 h, add-one)
+
+pub part-nil : (m : List ℕ) (at : ℕ) → part m at 0 ≡ []
+unfolding part
+part-nil m at = take-none (drop at m)
+
+-- a list copied byte by byte: at the start, after one more byte, at the end
+pub copy-start : (at : ℕ) (source m : List ℕ) → m ≡ write at (take 0 source) m
+copy-start at source m = rw (take-none source) (sym (write-nil at m))
+
+pub copy-turn : (at i : ℕ) (source m : List ℕ) {now : List ℕ} → at + length source ≤ length m → i < length source
+    → now ≡ write at (take i source) m → set now (at + i) (getD source i 0) ≡ write at (take (i + 1) source) m
+copy-turn at i source m fits h e =
+    let l : length (take i source) ≡ i = length-take-le i source (omega arith) in
+    rw (e, add-one, take-suc source i 0 h) (write-snoc at (take i source) m (getD source i 0) (at + i) (rw l (omega arith)) (rw l))
+
+pub copy-end : (at i : ℕ) (source m : List ℕ) {now : List ℕ} → length source ≤ i → now ≡ write at (take i source) m → now ≡ write at source m
+copy-end at i source m h e = e ∙ rw (take-all i source h)

@@ -1,0 +1,3 @@
+-- The definitions of routing.
+pub mod Figure2
+pub mod Arcs
