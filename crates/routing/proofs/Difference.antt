@@ -52,9 +52,9 @@ diff-double (above k e) = above (2 * k) (omega arith)
 diff-double (below k e) = rw (neg-pos (2 * suc k) (2 * k + 1) (omega arith)) (below (2 * k + 1) (omega arith))
 
 -- a difference that is not below 0
-pub diff-value : {a b : ℕ} {z : ℤ} → Diff a b z → b ≤ a → z ≡ pos (a - b)
-diff-value (above k e) h = ap pos (omega arith)
-diff-value (below k e) h = absurd (omega arith)
+pub diff-is : {a b : ℕ} {z : ℤ} → Diff a b z → (n : ℕ) → b + n ≡ a → z ≡ pos n
+diff-is (above k e) n h = ap pos (omega arith)
+diff-is (below k e) n h = absurd (omega arith)
 
 -- tests that ask the same have the same answer
 pub same-test : (m n a b : ℕ) → (m ≤ n → a ≤ b) → (a ≤ b → m ≤ n) → leb m n ≡ leb a b

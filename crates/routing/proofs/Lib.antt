@@ -4,3 +4,4 @@ pub mod Shape
 pub mod Counting
 pub mod Reading
 pub mod Theorems
+pub mod Branches

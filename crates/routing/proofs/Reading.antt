@@ -4,7 +4,7 @@ use mathlib.Core.Bool.{Bool, true, false, cond}
 use mathlib.Core.List.{List, [], _∷_, map}
 use Prim.Native.Nat.{ℕ, zero, suc, _+_, _*_, _-_, _/_, _%_, _^_, _≤_, _<_}
 use native.Mathlib.Omega.{arith}
-use native.Mathlib.Nat.{two-pow-succ, one-le-pow}
+use native.Mathlib.Nat.{two-pow-succ, one-le-pow, pow-le-pow-right}
 use native.Mathlib.Decide.{decLt, decLe, ℕ-discrete}
 use lib.Dec.{leb, ltb, eqb}
 use lib.IntN.{ℤ, pos, natAbs, _+ℤ_, _-ℤ_, _*ℤ_}
@@ -12,7 +12,7 @@ use lib.Signed.{ltZ, leZ, quotZ}
 use borrow.Author.Tests.{lt-ltb, le-ltb, eq-eqb, ne-eqb}
 use Rattle.routing.specs.Figure2.{Row, widen, share, setFrom, setTo, gvtcfg, odd}
 use Rattle.routing.specs.Arcs.{figure2, from, to, mid0, mid1}
-use Rattle.routing.proofs.Difference.{Diff, diff-as, diff-pos, diff-plus, diff-minus, diff-from, diff-double, diff-value, le-yes, le-no, eq-yes, eq-no}
+use Rattle.routing.proofs.Difference.{Diff, diff-as, diff-pos, diff-plus, diff-minus, diff-from, diff-double, diff-is, le-yes, le-no, eq-yes, eq-no}
 use Rattle.routing.proofs.Shape.{Split, From, To}
 
 -- the power of two at which the loop stops
@@ -25,6 +25,15 @@ twice-power k = two-pow-succ k ∙ omega arith
 
 positive : (k : ℕ) → 1 ≤ 2 ^ k
 positive k = one-le-pow k 2 (omega arith)
+
+-- only one power of two fits N
+pub one-fit : {N : ℕ} (j k : ℕ) → Fit N (2 ^ j) → Fit N (2 ^ k) → j ≡ k
+one-fit {N} j k f g = go (decLt j k) (decLt k j)
+  where
+    go : Dec (j < k) → Dec (k < j) → j ≡ k
+    go (yes h) q = absurd (omega (arith, twice-power j, pow-le-pow-right {n = 2} (omega arith) h))
+    go (no p) (yes h) = absurd (omega (arith, twice-power k, pow-le-pow-right {n = 2} (omega arith) h))
+    go (no p) (no q) = omega arith
 
 widen-on : (t M p : ℕ) → p < M + 1 → widen (suc t) (pos M) (pos p) ≡ widen t (pos M) (pos (2 * p + 1))
 unfolding widen
@@ -53,7 +62,7 @@ pub data RowIs (N P A B : ℕ) : Row → Type 0 where
   one-row : N + 2 ≤ 3 * P → A + P ≡ N → B + 1 ≡ P → RowIs N P A B (record { shared = true; Mid0 = pos A; Mid1 = pos B })
   two-rows : 3 * P < N + 2 → A ≡ (N - 1) / 2 → B ≡ N / 2 → RowIs N P A B (record { shared = false; Mid0 = pos A; Mid1 = pos B })
 
-pub record Middles (N : ℕ) (r : Row) : Type 0 where
+pub record Found (N : ℕ) (r : Row) : Type 0 where
   pub k : ℕ
   pub A : ℕ
   pub B : ℕ
@@ -70,9 +79,9 @@ share-is N P {pen0} {pen1} {Mid0} {Mid1} f d0 d1 m0 m1 = go (decLe (N + 2) (3 * 
 
     go : Dec (N + 2 ≤ 3 * P) → (A : ℕ) × (B : ℕ) × RowIs N P A B (share pen0 pen1 Mid0 Mid1)
     go (yes h) = (
-      N + 1 - (P + 1),
-      P + 1 - 2,
-      rw (le-yes d1 bound (omega arith), diff-value (diff-minus d1 1) (omega arith), diff-value (diff-plus d0 1) (omega arith))
+      N - P,
+      P - 1,
+      rw (le-yes d1 bound (omega arith), diff-is (diff-minus d1 1) (N - P) (omega arith), diff-is (diff-plus d0 1) (P - 1) (omega arith))
           (one-row h (omega arith) (omega arith)),
     )
     go (no h) = (
@@ -82,7 +91,7 @@ share-is N P {pen0} {pen1} {Mid0} {Mid1} f d0 d1 m0 m1 = go (decLe (N + 2) (3 * 
     )
 
 start0 : (N : ℕ) → 1 ≤ N → quotZ (pos N -ℤ pos 1) (pos 2) ≡ pos ((N - 1) / 2)
-start0 N h = ap (λ (z : ℤ). quotZ z (pos 2)) (diff-value (diff-minus (diff-pos N) 1) h)
+start0 N h = ap (λ (z : ℤ). quotZ z (pos 2)) (diff-is (diff-minus (diff-pos N) 1) (N - 1) (omega arith))
 
 start1 : (N : ℕ) → 1 ≤ N → {z : ℤ} → z ≡ pos ((N - 1) / 2) → cond (odd (pos N)) z (z +ℤ pos 1) ≡ pos (N / 2)
 start1 N h {z} e = go (ℕ-discrete (N % 2) 1)
@@ -91,7 +100,7 @@ start1 N h {z} e = go (ℕ-discrete (N % 2) 1)
     go (yes o) = rw (eq-eqb (N % 2) 1 o, e) (ap pos (omega arith))
     go (no o) = rw (ne-eqb (N % 2) 1 o, e) (ap pos (omega arith))
 
-pub row-is : (N i : ℕ) → 1 ≤ N → Middles N (figure2 N i .row)
+pub row-is : (N i : ℕ) → 1 ≤ N → Found N (figure2 N i .row)
 unfolding gvtcfg
 row-is N i h =
     let ends = widen-ends N ((N - 1) / 2) 0 (omega arith) (omega arith) in
@@ -117,11 +126,11 @@ setFrom-is {N} {A} {B} {i} (From.root p) h o d0 d1 dv = rw (eq-yes (diff-pos i) 
 setFrom-is {N} {A} {B} {i} (From.parent p q) h o d0 d1 dv =
     rw (eq-no (diff-pos i) (diff-pos 0) (omega arith), le-yes (diff-pos i) (diff-pos A) (omega arith), o p)
 setFrom-is {N} {A} {B} {i} (From.two p q r) h o d0 d1 dv =
-    rw (eq-no (diff-pos i) (diff-pos 0) (omega arith), le-no (diff-pos i) (diff-pos A) (omega arith), le-yes (diff-pos B) d1 (omega arith), diff-value d0 (omega arith), diff-value d1 (omega arith))
+    rw (eq-no (diff-pos i) (diff-pos 0) (omega arith), le-no (diff-pos i) (diff-pos A) (omega arith), le-yes (diff-pos B) d1 (omega arith), diff-is d0 (2 * i - N) (omega arith), diff-is d1 (2 * i - N - 1) (omega arith))
 setFrom-is {N} {A} {B} {i} (From.one p q r) h o d0 d1 dv =
-    rw (eq-no (diff-pos i) (diff-pos 0) (omega arith), le-no (diff-pos i) (diff-pos A) (omega arith), le-no (diff-pos B) d1 (omega arith), eq-yes (diff-pos B) d0 (omega arith), diff-value d0 (omega arith))
+    rw (eq-no (diff-pos i) (diff-pos 0) (omega arith), le-no (diff-pos i) (diff-pos A) (omega arith), le-no (diff-pos B) d1 (omega arith), eq-yes (diff-pos B) d0 (omega arith), diff-is d0 (2 * i - N) (omega arith))
 setFrom-is {N} {A} {B} {i} (From.across p q r) h o d0 d1 dv =
-    rw (eq-no (diff-pos i) (diff-pos 0) (omega arith), le-no (diff-pos i) (diff-pos A) (omega arith), le-no (diff-pos B) d1 (omega arith), eq-no (diff-pos B) d0 (omega arith), diff-value dv (omega arith))
+    rw (eq-no (diff-pos i) (diff-pos 0) (omega arith), le-no (diff-pos i) (diff-pos A) (omega arith), le-no (diff-pos B) d1 (omega arith), eq-no (diff-pos B) d0 (omega arith), diff-is dv (N - i - 1) (omega arith))
 
 setTo-is : {N A B i : ℕ} {l : List ℕ} {InTo Out0 Out1 myInv : ℤ} → To N A B i l → i < N
     → InTo ≡ pos ((N + i + 1) / 2) → Out0 ≡ pos (2 * i + 1) → Out1 ≡ pos (2 * i + 2) → Diff N (i + 1) myInv
@@ -135,7 +144,7 @@ setTo-is {N} {A} {B} {i} (To.two p q r) h n o0 o1 dv =
 setTo-is {N} {A} {B} {i} (To.one p q r) h n o0 o1 dv =
     rw (eq-no (diff-pos i) (diff-minus (diff-pos N) 1) (omega arith), le-no (diff-pos B) (diff-pos i) (omega arith), o0, o1, le-no (diff-pos (2 * i + 2)) (diff-pos A) (omega arith), eq-yes (diff-pos A) (diff-pos (2 * i + 1)) (omega arith))
 setTo-is {N} {A} {B} {i} (To.across p q r) h n o0 o1 dv =
-    rw (eq-no (diff-pos i) (diff-minus (diff-pos N) 1) (omega arith), le-no (diff-pos B) (diff-pos i) (omega arith), o0, o1, le-no (diff-pos (2 * i + 2)) (diff-pos A) (omega arith), eq-no (diff-pos A) (diff-pos (2 * i + 1)) (omega arith), diff-value dv (omega arith))
+    rw (eq-no (diff-pos i) (diff-minus (diff-pos N) 1) (omega arith), le-no (diff-pos B) (diff-pos i) (omega arith), o0, o1, le-no (diff-pos (2 * i + 2)) (diff-pos A) (omega arith), eq-no (diff-pos A) (diff-pos (2 * i + 1)) (omega arith), diff-is dv (N - i - 1) (omega arith))
 
 -- the middles as naturals
 pub record Mids (N i : ℕ) : Type 0 where
@@ -176,7 +185,7 @@ module _ (N i : ℕ) (h : i < N) where
       let m = mids N i (omega arith) in
       rw (m .is0, m .is1)
       (setFrom-is g h
-      (λ o. ap (λ (z : ℤ). quotZ z (pos 2)) (diff-value (diff-minus (diff-pos i) 1) o))
+      (λ o. ap (λ (z : ℤ). quotZ z (pos 2)) (diff-is (diff-minus (diff-pos i) 1) (i - 1) (omega arith)))
       (diff-as (2 * i) N (diff-minus (diff-pos (2 * i)) N) (omega arith))
       (diff-as (2 * i) (N + 1) (diff-minus (diff-minus (diff-pos (2 * i)) N) 1) (omega arith))
       inverse)
@@ -198,3 +207,15 @@ from-is N i h {l} g = ap (map natAbs) (figure-from N i h g) ∙ naturals l
 pub to-is : (N i : ℕ) → i < N → {l : List ℕ} → To N (mid0 N) (mid1 N) i l → to N i ≡ l
 unfolding to
 to-is N i h {l} g = ap (map natAbs) (figure-to N i h g) ∙ naturals l
+
+-- the power and the branch fix the middles
+same-middles : {N P A B C D : ℕ} {r q : Row} → RowIs N P A B r → RowIs N P C D q → (A ≡ C) × (B ≡ D)
+same-middles (one-row a b c) (one-row d e f) = omega arith
+same-middles (one-row a b c) (two-rows d e f) = absurd (omega arith)
+same-middles (two-rows a b c) (one-row d e f) = absurd (omega arith)
+same-middles (two-rows a b c) (two-rows d e f) = omega arith
+
+pub middles-are : (N k : ℕ) {A B : ℕ} {r : Row} → 1 ≤ N → Fit N (2 ^ k) → RowIs N (2 ^ k) A B r → (A ≡ mid0 N) × (B ≡ mid1 N)
+middles-are N k {A} {B} {r} h f g =
+    let m = mids N 0 h in
+    same-middles (subst (λ (j : ℕ). RowIs N (2 ^ j) A B r) (one-fit k (m .k) f (m .fit)) g) (m .is)

@@ -17,9 +17,9 @@ pub record Split (N A B : ℕ) : Type 0 where
 pub data From (N A B i : ℕ) : List ℕ → Type 0 where
   root : i ≡ 0 → From N A B i []
   parent : 1 ≤ i → i ≤ A → From N A B i (((i - 1) / 2) ∷ [])
-  two : 1 ≤ i → A < i → B + N + 1 ≤ 2 * i → From N A B i ((2 * i - N) ∷ (2 * i - (N + 1)) ∷ [])
+  two : 1 ≤ i → A < i → B + N + 1 ≤ 2 * i → From N A B i ((2 * i - N) ∷ (2 * i - N - 1) ∷ [])
   one : 1 ≤ i → A < i → B + N ≡ 2 * i → From N A B i ((2 * i - N) ∷ [])
-  across : 1 ≤ i → A < i → 2 * i < B + N → From N A B i ((N - (i + 1)) ∷ [])
+  across : 1 ≤ i → A < i → 2 * i < B + N → From N A B i ((N - i - 1) ∷ [])
 
 -- and for to
 pub data To (N A B i : ℕ) : List ℕ → Type 0 where
@@ -27,7 +27,7 @@ pub data To (N A B i : ℕ) : List ℕ → Type 0 where
   parent : i + 1 < N → B ≤ i → To N A B i (((N + i + 1) / 2) ∷ [])
   two : i + 1 < N → i < B → 2 * i + 2 ≤ A → To N A B i ((2 * i + 1) ∷ (2 * i + 2) ∷ [])
   one : i + 1 < N → i < B → A ≡ 2 * i + 1 → To N A B i ((2 * i + 1) ∷ [])
-  across : i + 1 < N → i < B → A < 2 * i + 1 → To N A B i ((N - (i + 1)) ∷ [])
+  across : i + 1 < N → i < B → A < 2 * i + 1 → To N A B i ((N - i - 1) ∷ [])
 
 -- i → j is an arc: down the tree with root 0, up the tree with root N − 1, or from the first tree across to the second
 pub data Joined (N A B i j : ℕ) : Type 0 where

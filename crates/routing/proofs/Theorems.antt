@@ -5,7 +5,6 @@ use mathlib.Core.Bool.{true, false, true≢false, false≢true}
 use mathlib.Core.List.{List, [], _∷_, _++_, map, List·Memᴰ·head as here, List·Memᴰ·tail as there, List·Memᴰ·not-nil, Memᴰ·append-left, Memᴰ·append-right, List·Memᴰ·append-cases, cons-ne-nil}
 use Prim.Native.Nat.{ℕ, zero, suc, _+_, _*_, _-_, _/_, _^_, _≤_, _<_}
 use native.Mathlib.Omega.{arith}
-use native.Mathlib.Nat.{pow-le-pow-right}
 use native.Mathlib.Numerals.{add-one}
 use native.Mathlib.Decide.{decLt, ℕ-discrete}
 use lib.ListN.{length, length-append, length-map}
@@ -14,16 +13,7 @@ use Rattle.routing.specs.Figure2.{Row}
 use Rattle.routing.specs.Arcs.{_∈_, figure2, from, to, mid0, mid1, Arc, arcsOfFirst, arcs, sum, arcCount, updates, roundMessages, Before, Ascending, none, more, Laws}
 use Rattle.routing.proofs.Shape.{Split, From, To, Joined, Sized, from-some, to-some, to-joined, from-joined, joined-to, joined-from, joined-up, to-size, from-size, three, to-ascends, from-descends}
 use Rattle.routing.proofs.Counting.{sum-plus, to-sum, from-sum, updates-sum}
-use Rattle.routing.proofs.Reading.{twice-power, Fit, RowIs, one-row, two-rows, Mids, mids, figure-from, figure-to, from-is, to-is}
-
--- only one power of two fits N
-one-fit : {N : ℕ} (j k : ℕ) → Fit N (2 ^ j) → 2 * 2 ^ k ≤ N + 1 → N + 2 ≤ 3 * 2 ^ k → j ≡ k
-one-fit {N} j k f low high = go (decLt j k) (decLt k j)
-  where
-    go : Dec (j < k) → Dec (k < j) → j ≡ k
-    go (yes h) q = absurd (omega (arith, twice-power j, pow-le-pow-right {n = 2} (omega arith) h))
-    go (no p) (yes h) = absurd (omega (arith, twice-power k, pow-le-pow-right {n = 2} (omega arith) h))
-    go (no p) (no q) = omega arith
+use Rattle.routing.proofs.Reading.{twice-power, one-fit, Fit, RowIs, one-row, two-rows, Mids, mids, figure-from, figure-to, from-is, to-is}
 
 -- two ascending lists one behind the other
 ascending-append : {A : Type 0} {R : A → A → Type 0} {xs ys : List A} → Ascending R xs → Ascending R ys
@@ -140,7 +130,8 @@ module _ (N : ℕ) (some : 1 ≤ N) where
     λ e. absurd (false≢true e),
     λ w.
         let low : 2 ^ suc (w .0) ≤ N + 1 = rw (add-one (w .0)) at (w .1) in
-        absurd (omega (arith, ap (λ (j : ℕ). 2 ^ j) (one-fit k (w .0) f (omega (arith, twice-power (w .0))) (w .2)))),
+        let g : Fit N (2 ^ w .0) = record { low = omega (arith, twice-power (w .0)); high = omega (arith, w .2) } in
+        absurd (omega (arith, w .2, ap (λ (j : ℕ). 2 ^ j) (one-fit k (w .0) f g))),
   )
 
   pub laws : Laws N
