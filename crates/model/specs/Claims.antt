@@ -1,0 +1,33 @@
+-- What is proved of these definitions beside the contracts.
+use mathlib.Core.Path.{_≡_}
+use Prim.Native.Nat.{ℕ, _<_, _≤_}
+use mathlib.Core.List.{List, [], _∷_}
+use lib.ListN.{length}
+use Rattle.model.specs.Doing.{sent}
+use Rattle.model.specs.EventOrder.{key, compared}
+use Rattle.model.specs.declared.Message.{Message}
+use Rattle.model.specs.declared.State.{State}
+use Rattle.model.specs.declared.Site.{Site}
+use Rattle.model.specs.declared.order.Comparison.{Comparison}
+use Rattle.model.specs.declared.order.Comparison.the-variants.{Before, Same, After}
+
+-- a comparison seen from the other message
+abbrev pub opposite : Comparison → Comparison
+opposite Before = After
+opposite Same = Same
+opposite After = Before
+
+-- the event order is total, antisymmetric and transitive, and only equal messages are the same in it
+pub record EventOrderLaws : Type 0 where
+  pub reflexive : (a : Message) → compared (key a) (key a) ≡ Same
+  pub same : (a b : Message) → compared (key a) (key b) ≡ Same → a ≡ b
+  pub flips : (a b : Message) → compared (key b) (key a) ≡ opposite (compared (key a) (key b))
+  pub transitive : (a b c : Message) → compared (key a) (key b) ≡ Before → compared (key b) (key c) ≡ Before → compared (key a) (key c) ≡ Before
+  pub injective : (a b : Message) → key a ≡ key b → a ≡ b
+
+-- at most one message is sent, from this gateway, later than its cause and not past the last hour
+pub record SendingLaws (site : Site) (s : State) (m : Message) : Type 0 where
+  pub one : length (sent site s m) ≤ 1
+  pub later : (x : Message) → sent site s m ≡ x ∷ [] → m .hour < x .hour
+  pub inside : (x : Message) → sent site s m ≡ x ∷ [] → x .hour ≤ site .last
+  pub source : (x : Message) → sent site s m ≡ x ∷ [] → x .from ≡ site .own

@@ -1,0 +1,86 @@
+-- Doing a message: the state after it, and what it sends.
+use mathlib.Core.Path.{_≡_}
+use Prim.Native.Nat.{ℕ, _+_, _-_, min}
+use mathlib.Core.Bool.{cond}
+use mathlib.Core.List.{List, [], _∷_}
+use lib.Dec.{leb, ltb}
+use Rattle.model.specs.declared.Kind.{Kind}
+use Rattle.model.specs.declared.Kind.the-variants.{Failure, Request, Delivery, Restock, Start, Lvt, Update}
+use Rattle.model.specs.declared.Message.{Message}
+use Rattle.model.specs.declared.State.{State}
+use Rattle.model.specs.declared.Site.{Site}
+use Rattle.model.specs.declared.event.Outcome.{Outcome}
+
+-- the hours from a message to the one that it sends: to a Request, to a Delivery, to the next Failure
+abbrev pub requestHours : ℕ
+requestHours = 1
+
+abbrev pub deliveryHours : ℕ
+deliveryHours = 24
+
+abbrev pub lifeHours : ℕ
+lifeHours = 43800
+
+-- a counter with one more; it stops at 4,294,967,295
+abbrev pub counted : ℕ → ℕ
+counted n = min (n + 1) 4294967295
+
+-- the shelf with the quantity added; it stops at 65,535
+abbrev pub shelved : ℕ → ℕ → ℕ
+shelved stock quantity = min (stock + quantity) 65535
+
+-- the state after doing a message of that kind
+abbrev pub after : State → Kind → State
+-- Failure: failed + 1
+after s (Failure origin) = record { stock = s .stock; failed = counted (s .failed); fitted = s .fitted; short = s .short }
+-- Request: with stock, stock − 1; without, short + 1
+after s (Request origin) =
+    cond (ltb 0 (s .stock))
+    (record { stock = s .stock - 1; failed = s .failed; fitted = s .fitted; short = s .short })
+    (record { stock = s .stock; failed = s .failed; fitted = s .fitted; short = counted (s .short) })
+-- Delivery: fitted + 1
+after s (Delivery origin) = record { stock = s .stock; failed = s .failed; fitted = counted (s .fitted); short = s .short }
+-- Restock: stock + quantity
+after s (Restock quantity) = record { stock = shelved (s .stock) quantity; failed = s .failed; fitted = s .fitted; short = s .short }
+-- the round's messages are no events
+after s Start = s
+after s Lvt = s
+after s Update = s
+
+-- a message that doing m sends: so many hours later, from this gateway, with m's lamp
+abbrev pub reply : Site → Message → ℕ → ℕ → Kind → Message
+reply site m hours to kind = record { hour = m .hour + hours; from = site .own; to = to; kind = kind; lamp = m .lamp }
+
+-- a message past the last hour is not sent
+abbrev pub notPast : ℕ → Message → List Message
+notPast last m = cond (leb (m .hour) last) (m ∷ []) []
+
+-- what doing m, of that kind, in that state sends: at most one message
+abbrev pub sentFor : Site → State → Message → Kind → List Message
+-- Failure: a Request to the supplier, origin this gateway
+sentFor site s m (Failure origin) = notPast (site .last) (reply site m requestHours (site .supplier) (Request (site .own)))
+-- Request: with stock, a Delivery to the origin; without, a Request to the supplier, same origin
+sentFor site s m (Request origin) =
+    cond (ltb 0 (s .stock))
+    (notPast (site .last) (reply site m deliveryHours origin (Delivery origin)))
+    (notPast (site .last) (reply site m requestHours (site .supplier) (Request origin)))
+-- Delivery: a Failure to itself
+sentFor site s m (Delivery origin) = notPast (site .last) (reply site m lifeHours (site .own) (Failure (site .own)))
+-- Restock sends nothing, and neither does what is no event
+sentFor site s m (Restock quantity) = []
+sentFor site s m Start = []
+sentFor site s m Lvt = []
+sentFor site s m Update = []
+
+-- what doing m in that state sends
+unfoldable pub sent : Site → State → Message → List Message
+sent site s m = sentFor site s m (m .kind)
+
+-- the message that an outcome sends, if it does
+abbrev pub sentBy : Outcome → List Message
+sentBy r = cond (r .sends) (r .sent ∷ []) []
+
+-- the outcome r gives that state and sends just those messages
+pub record Gives (next : State) (messages : List Message) (r : Outcome) : Type 0 where
+  pub state : r .state ≡ next
+  pub sends : sentBy r ≡ messages
