@@ -1,4 +1,5 @@
--- The definitions of the theory, in the order to read them.
+-- The definitions of the theory, in the order in which to read them.
+pub mod Lists
 pub mod Families
-pub mod Graph
+pub mod Arcs
 pub mod Round

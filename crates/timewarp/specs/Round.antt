@@ -3,8 +3,9 @@ use mathlib.Core.List.{List, [], _∷_, _++_, map}
 use mathlib.Core.Path.{_≡_}
 use Prim.Native.Nat.{ℕ, zero, suc, _+_, _≤_, _<_, min, max}
 use lib.ListN.{length}
+use Rattle.timewarp.specs.Lists.{Insert}
 use Rattle.timewarp.specs.Families.{set, put}
-use Rattle.timewarp.specs.Graph.{Graph, Arc, Child, children}
+use Rattle.timewarp.specs.Arcs.{Graph, Arc, Child, children}
 
 -- A gateway's status in the open round: it has not sent its Starts; it has, and each of its sends lowers its note;
 -- it has stopped, and its value is taken; it has sent its Lvts.
@@ -57,11 +58,6 @@ opening =
       written = λ t. 0;
       accepted = λ t j. 0;
     }
-
--- x and what is left of a list without one x
-pub data Taken {A : Type 0} (x : A) : List A → List A → Type 0 where
-  here : {l : List A} → Taken x (x ∷ l) l
-  there : {y : A} {l rest : List A} → Taken x l rest → Taken x (y ∷ l) (y ∷ rest)
 
 -- the family f with n added at i
 unfoldable pub raise : ℕ → ℕ → (ℕ → ℕ) → ℕ → ℕ
@@ -188,7 +184,7 @@ takeUpdate G j t h rest r =
 -- when gateway i stops: the last as it starts, any other when an Lvt has come to it
 pub data Stops (G : Graph) (i : ℕ) (r : Rounds) : Type 0 where
   as-it-starts : i ≡ G .last → Stops G i r
-  at-an-lvt : {j t h : ℕ} {rest : List RoundFrame} → Taken (lvt j i t h) (r .frames) rest → Stops G i r
+  at-an-lvt : {j t h : ℕ} {rest : List RoundFrame} → Insert (lvt j i t h) rest (r .frames) → Stops G i r
 
 -- The steps of a round. What a gateway reads of its queue enters by two relations: v is the least hour outstanding at
 -- i, and v is the least hour of the unprocessed messages and waiting cancels at i.
@@ -197,18 +193,18 @@ pub data RoundStep (G : Graph) (LeastOutstanding LeastWaiting : ℕ → ℕ → 
   begins : (i v : ℕ) → i ≤ G .last → r .status i ≡ idle → ((k : ℕ) → Arc G k i → r .arrived k i ≡ 1)
       → LeastOutstanding i v
       → RoundStep G LeastOutstanding LeastWaiting r (begin G i v r)
-  hears : (i j t : ℕ) {rest : List RoundFrame} → Taken (start i j t) (r .frames) rest
+  hears : (i j t : ℕ) {rest : List RoundFrame} → Insert (start i j t) rest (r .frames)
       → RoundStep G LeastOutstanding LeastWaiting r (hear i j rest r)
   stops : (i v : ℕ) → r .status i ≡ counting → Stops G i r → LeastWaiting i v
       → RoundStep G LeastOutstanding LeastWaiting r (stop i v r)
-  takes-lvt : (j i t h : ℕ) {rest : List RoundFrame} → r .status i ≡ stopped → Taken (lvt j i t h) (r .frames) rest
+  takes-lvt : (j i t h : ℕ) {rest : List RoundFrame} → r .status i ≡ stopped → Insert (lvt j i t h) rest (r .frames)
       → RoundStep G LeastOutstanding LeastWaiting r (takeLvt j i h rest r)
   -- all Lvts have come
   finishes : (j : ℕ) → 0 < j → r .status j ≡ stopped → ((k : ℕ) → Arc G j k → r .arrived j k ≡ 2)
       → RoundStep G LeastOutstanding LeastWaiting r (finish G j r)
   closes : r .status 0 ≡ stopped → ((k : ℕ) → Arc G 0 k → r .arrived 0 k ≡ 2)
       → RoundStep G LeastOutstanding LeastWaiting r (close G r)
-  takes-update : (i j t h : ℕ) {rest : List RoundFrame} → Taken (update i j t h) (r .frames) rest
+  takes-update : (i j t h : ℕ) {rest : List RoundFrame} → Insert (update i j t h) rest (r .frames)
       → RoundStep G LeastOutstanding LeastWaiting r (takeUpdate G j t h rest r)
 
 -- round t is completed: closed, and its Update accepted at each gateway

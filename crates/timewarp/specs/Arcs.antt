@@ -34,12 +34,12 @@ abbrev pub Arc : Graph → ℕ → ℕ → Type 0
 Arc G i j = 1 ≤ times j (G .to i)
 
 -- the number of arcs
-unfoldable pub arcs : Graph → ℕ
-arcs G = sum (G .last) (λ i. length (G .to i))
+unfoldable pub arcCount : Graph → ℕ
+arcCount G = sum (G .last) (λ i. length (G .to i))
 
 -- the messages of a whole round: a Start and an Lvt for each arc, an Update for each gateway but 0
 unfoldable pub roundMessages : Graph → ℕ
-roundMessages G = 2 * arcs G + G .last
+roundMessages G = 2 * arcCount G + G .last
 
 -- n as a list, if there is a gateway n
 unfoldable pub ifGateway : ℕ → ℕ → List ℕ
