@@ -3,3 +3,8 @@ pub mod FamilyLaws
 pub mod Tallies
 pub mod RoundFrames
 pub mod RoundArcs
+pub mod RoundReach
+pub mod RoundCarried
+pub mod RoundQueues
+pub mod RoundCut
+pub mod RoundFloor

@@ -51,9 +51,9 @@ module _ {A : Type 0} {p : A → Type 0} where
   all-rest here (cons h t) = t
   all-rest (there i) (cons h t) = cons h (all-rest i t)
 
-  pub all-map : {B : Type 0} (f : B → A) (l : List B) → ((b : B) → p (f b)) → All p (map f l)
-  all-map f [] h = nil
-  all-map f (b ∷ l) h = cons (h b) (all-map f l h)
+  pub all-map : {B : Type 0} {l : List B} (f : B → A) → All (λ b. p (f b)) l → All p (map f l)
+  all-map f nil = nil
+  all-map f (cons h t) = cons h (all-map f t)
 
   pub all-member : (l : List A) → ((a : A) (rest : List A) → Insert a rest l → p a) → All p l
   all-member [] h = nil
