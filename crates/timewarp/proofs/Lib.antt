@@ -8,3 +8,5 @@ pub mod RoundCarried
 pub mod RoundQueues
 pub mod RoundCut
 pub mod RoundFloor
+pub mod ArcLaws
+pub mod RoundCounts
