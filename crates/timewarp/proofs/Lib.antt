@@ -10,3 +10,4 @@ pub mod RoundCut
 pub mod RoundFloor
 pub mod ArcLaws
 pub mod RoundCounts
+pub mod RoundSound

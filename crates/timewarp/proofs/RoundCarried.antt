@@ -18,6 +18,16 @@ pub data Carried (G : Graph) (st mk : ℕ → ℕ) (tag : ℕ) : RoundFrame → 
   an-lvt : {i j t v : ℕ} → Arc G i j → st j ≡ finished → v ≡ mk j → t ≡ tag → Carried G st mk tag (lvt j i t v)
   an-update : {i j t v : ℕ} → Child (G .last) i j → t < tag → Carried G st mk tag (update i j t v)
 
+module _ {G : Graph} {st mk : ℕ → ℕ} {tag i j t : ℕ} where
+  pub of-start : Carried G st mk tag (start i j t) → (Arc G i j) × (t ≡ tag)
+  of-start (a-start c e) = (c, e)
+
+  pub of-lvt : {v : ℕ} → Carried G st mk tag (lvt j i t v) → (Arc G i j) × (st j ≡ finished) × (v ≡ mk j) × (t ≡ tag)
+  of-lvt (an-lvt c s e d) = (c, s, e, d)
+
+  pub of-update : {v : ℕ} → Carried G st mk tag (update i j t v) → (Child (G .last) i j) × (t < tag)
+  of-update (an-update c l) = (c, l)
+
 -- every element of a list stands in it
 pub all-times : (l : List ℕ) → All (λ j. 1 ≤ times j l) l
 unfolding times

@@ -37,6 +37,22 @@ pub record Counts (G : Graph) (st : ℕ → ℕ) (fr : List RoundFrame) (tag : �
   -- what a gateway accepted of a round's Update, each child was sent once
   pub sent-once : (t i j : ℕ) → Child (G .last) i j → tally (updateTo t j) fr + accepted t j ≡ accepted t i
 
+-- at the close every gateway has written its Starts and its Lvts, of which 0 has none
+pub all-spent : (G : Graph) (st : ℕ → ℕ) → st 0 ≡ stopped → ((j : ℕ) → 0 < j → j ≤ G .last → st j ≡ finished)
+    → sum (G .last) (spentBy G st) ≡ 2 * arcCount G
+unfolding arcCount spentBy spent
+all-spent G st p q =
+    omega (
+      arith,
+      sum-agree (G .last) (spentBy G st) (λ j. length (G .to j) + length (G .from j)) (λ j l. go j l (same? 0 j)),
+      sum-add (G .last) (λ j. length (G .to j)) (λ j. length (G .from j)),
+      arcs-at-receivers G,
+    )
+  where
+    go : (j : ℕ) → j ≤ G .last → Same 0 j → spentBy G st j ≡ length (G .to j) + length (G .from j)
+    go j l (same e d) = rw (← e, p) (omega (arith, none-to-0 G))
+    go j l (other n d) = rw (q j (omega arith) l)
+
 -- no Update is accepted twice
 module _ (G : Graph) (st : ℕ → ℕ) (fr : List RoundFrame) (tag : ℕ) (written : ℕ → ℕ) (accepted : ℕ → ℕ → ℕ)
     (h : Counts G st fr tag written accepted) where
