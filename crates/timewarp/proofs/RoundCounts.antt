@@ -68,6 +68,9 @@ module _ (G : Graph) (st : ℕ → ℕ) (fr : List RoundFrame) (tag : ℕ) (writ
           let (i, b, c) = parent (G .last) j (omega arith) l in
           omega (arith, h .sent-once t i j c, ih i (omega arith) (omega arith))
 
+  pub accepted-once : (t : ℕ) → t < tag → (j : ℕ) → j ≤ G .last → accepted t j ≤ 1
+  accepted-once t p j l = once-to t p (G .last) j l l
+
   -- a completed round wrote two messages an arc and one for each gateway but 0
   pub completed-count : (t : ℕ) → t < tag → ((j : ℕ) → 0 < j → j ≤ G .last → 1 ≤ accepted t j) → written t ≡ roundMessages G
   unfolding roundMessages relayedBy
@@ -81,7 +84,7 @@ module _ (G : Graph) (st : ℕ → ℕ) (fr : List RoundFrame) (tag : ℕ) (writ
     where
       one-each : (j : ℕ) → j ≤ G .last → Same 0 j → accepted t j ≡ 1
       one-each j l (same e d) = omega (arith, h .accepted-at-0 t p, ap (accepted t) e)
-      one-each j l (other n d) = omega (arith, q j (omega arith) l, once-to t p (G .last) j l l)
+      one-each j l (other n d) = omega (arith, q j (omega arith) l, accepted-once t p j l)
 
   -- gateway i comes to status s
   spent-set : (i s : ℕ) → i ≤ G .last

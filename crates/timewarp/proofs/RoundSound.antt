@@ -62,6 +62,7 @@ use Rattle.timewarp.proofs.RoundArcs.{
   arcs-update,
   arcs-close,
   arcs-lower,
+  noted-other,
 }
 use Rattle.timewarp.proofs.RoundReach.{all-begun, Done, all-done, Crest, crest-begin, crest-set}
 use Rattle.timewarp.proofs.RoundCarried.{
@@ -87,6 +88,7 @@ use Rattle.timewarp.proofs.RoundCounts.{
   spent,
   spentBy,
   all-spent,
+  accepted-once,
   completed-count,
   counts-begin,
   counts-hear,
@@ -419,3 +421,124 @@ module _ (G : Graph) (never : ℕ) (O W : ℕ → ℕ → Type 0) (down-O : Down
   sound-round (finishes j n l p q) = sound-finish j l p q
   sound-round (closes p q) = sound-close p q
   sound-round (takes-update i j t v {rest = rest} x) = sound-update i j t v rest x
+
+  -- no agreed time falls
+  pub agreed-rises : {r′ : Rounds} → RoundStep G L M r r′ → (k : ℕ) → agreed k ≤ r′ .agreed k
+  unfolding begin hear stop takeLvt finish close takeUpdate
+  agreed-rises (begins i v l p q x) k = omega arith
+  agreed-rises (hears i j t x) k = omega arith
+  agreed-rises (stops i v l p q x) k = omega arith
+  agreed-rises (takes-lvt j i t v p x) k = omega arith
+  agreed-rises (finishes j n l p q) k = omega arith
+  agreed-rises (closes p q) k = go (set? 0 (mark 0) agreed k)
+    where
+      go : Set 0 (mark 0) agreed k → agreed k ≤ set 0 (mark 0) agreed k
+      go (at e d) = omega (arith, s .floor 0 (omega arith) .marks 0 (omega arith) (omega arith), ap agreed e)
+      go (off n d) = omega arith
+  agreed-rises (takes-update i j t v x) k = go (set? j (max (agreed j) v) agreed k)
+    where
+      go : Set j (max (agreed j) v) agreed k → agreed k ≤ set j (max (agreed j) v) agreed k
+      go (at e d) = omega (arith, ap agreed e)
+      go (off n d) = omega arith
+
+module _ (G : Graph) (never : ℕ) (O W : ℕ → ℕ → Type 0) (r : Rounds) (s : RoundSound G never O W r) where
+  open Rounds r using (agreed, status, mark, arrived, frames, tag, written, accepted)
+
+  -- once one gateway has stopped all have begun
+  all-after-stop : (i : ℕ) → i ≤ G .last → stopped ≤ status i → (j : ℕ) → j ≤ G .last → counting ≤ status j
+  all-after-stop i l p = all-begun G status mark arrived frames (s .arcs) (omega (arith, s .crest i l p))
+
+  -- something comes to wait at a gateway, or things go
+  pub sound-arrives : (O′ W′ : ℕ → ℕ → Type 0) → Downward O → Downward W → (i : ℕ) → Arrives (G .last) i O W O′ W′
+      → RoundSound G never O′ W′ r
+  sound-arrives O′ W′ down-O down-W i a =
+      record {
+        arcs = s .arcs;
+        crest = s .crest;
+        carried = s .carried;
+        cut = cut-arrives (G .last) status mark O W down-O down-W (s .cut) all-after-stop O′ W′ i a;
+        marks-capped = s .marks-capped;
+        floor = λ k l. on (agreed k) (s .floor k l);
+        update-floor = all-change (update-hour on) (s .update-floor);
+        counts = s .counts;
+      }
+    where
+      on : (g : ℕ) → Floor never (G .last) status mark O W g → Floor never (G .last) status mark O′ W′ g
+      on g f = floor-arrives never (G .last) status mark O W O′ W′ g f i a
+
+  -- gateway i sends a message or a cancel of hour h
+  pub sound-sends : (O′ W′ : ℕ → ℕ → Type 0) → Downward O → Downward W → (i h : ℕ) → i ≤ G .last → Sends (G .last) i h O W O′ W′
+      → RoundSound G never O′ W′ (lower i h r)
+  unfolding lower
+  sound-sends O′ W′ down-O down-W i h l a =
+      record {
+        arcs = arcs-lower G status mark arrived frames (s .arcs) i h;
+        crest = s .crest;
+        carried = all-change (carried-on G status mark tag status (set i m mark) (λ k e. (e, stays k e (same? i k)))) (s .carried);
+        cut = cut-sends (G .last) status mark O W down-O down-W (s .cut) all-after-stop O′ W′ i h a;
+        marks-capped = marks-noted (λ n. n ≤ never) (G .last) status mark (s .marks-capped) i h (λ p q. omega arith);
+        floor = λ k p. on (agreed k) (s .floor k p);
+        update-floor = all-change (update-hour on) (s .update-floor);
+        counts = s .counts;
+      }
+    where
+      m : ℕ
+      m = noted (status i) (mark i) h
+
+      stays : (k : ℕ) → status k ≡ finished → Same i k → set i m mark k ≡ mark k
+      stays k e (same d f) =
+          omega (arith, set-at i m mark k d, noted-other (status i) (mark i) h (omega (arith, ap status d)), ap mark d)
+      stays k e (other n f) = set-off i m mark k n
+
+      on : (g : ℕ) → Floor never (G .last) status mark O W g → Floor never (G .last) status (set i m mark) O′ W′ g
+      on g f = floor-sends never (G .last) status mark O W O′ W′ g f i h l a
+
+  -- a completed round wrote two messages an arc and one for each gateway but 0
+  pub round-count : (t : ℕ) → Completed G r t → written t ≡ roundMessages G
+  round-count t c = completed-count G status frames tag written accepted (s .counts) t (c .is-closed) (c .all-accepted)
+
+  -- a frame under way is never out of turn
+  pub in-turn : (f : RoundFrame) (rest : List RoundFrame) → Insert f rest frames → InTurn G r f
+  unfolding startOn lvtOn updateTo
+  in-turn (start i j t) rest x =
+      let (c, e) = of-start (all-inserted x (s .carried)) in
+      go c e (s .arcs i j c)
+    where
+      under-way : 1 ≤ tally (startOn i j) frames
+      under-way = omega (arith, tally-insert (startOn i j) x, both-is i j i j refl refl)
+
+      go : Arc G i j → t ≡ tag → StateOf G status mark arrived frames i j → InTurn G r (start i j t)
+      go c e (fresh l) = start-in-turn c (omega arith) (omega arith) e
+      go c e (begun l) = absurd (omega (arith, under-way))
+      go c e (back l) = absurd (omega (arith, under-way))
+  in-turn (lvt j i t v) rest x =
+      let (c, f, e, d) = of-lvt (all-inserted x (s .carried)) in
+      go c f e d (s .arcs i j c)
+    where
+      under-way : 1 ≤ tally (lvtOn i j) frames
+      under-way = omega (arith, tally-insert (lvtOn i j) x, both-is j i j i refl refl)
+
+      go : Arc G i j → status j ≡ finished → v ≡ mark j → t ≡ tag → StateOf G status mark arrived frames i j → InTurn G r (lvt j i t v)
+      go c f e d (fresh l) = absurd (omega (arith, under-way))
+      go c f e d (begun l) =
+          let (a, b) = G .upward i j c in
+          lvt-in-turn {h = v} c (omega arith) (omega arith) (omega arith)
+          (omega (arith, s .floor i (omega arith) .marks j b (omega arith)))
+          d
+      go c f e d (back l) = absurd (omega (arith, under-way))
+  in-turn (update i j t v) rest x =
+      let (c, l) = of-update (all-inserted x (s .carried)) in
+      update-in-turn c l (omega (arith, once c l (child? (G .last) i j)))
+    where
+      under-way : 1 ≤ tally (updateTo t j) frames
+      under-way = omega (arith, tally-insert (updateTo t j) x, both-is t j t j refl refl)
+
+      once : Child (G .last) i j → t < tag → ChildOf (G .last) i j → accepted t j ≡ 0
+      once c l (no-child y) = absurd (omega arith)
+      once c l (child y) =
+          omega (
+            arith,
+            under-way,
+            s .counts .sent-once t i j c,
+            accepted-once G status frames tag written accepted (s .counts) t l i (omega arith),
+          )
