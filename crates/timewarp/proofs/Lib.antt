@@ -11,3 +11,5 @@ pub mod RoundFloor
 pub mod ArcLaws
 pub mod RoundCounts
 pub mod RoundSound
+pub mod SmallGraphs
+pub mod RoundExamples

@@ -332,6 +332,10 @@ module _ (G : Graph) (never : ℕ) (O W : ℕ → ℕ → Type 0) (down-O : Down
     done : (j : ℕ) → j ≤ G .last → Done G status mark arrived frames (s .arcs) j
     done = all-done G status mark arrived frames (s .arcs) p q
 
+    -- every other gateway has sent its Lvts
+    pub close-finished : (j : ℕ) → 0 < j → j ≤ G .last → status j ≡ finished
+    close-finished j n l = done j l .is-finished n
+
     has-stopped : (j : ℕ) → j ≤ G .last → Same 0 j → stopped ≤ status j
     has-stopped j l (same e d) = omega (arith, ap status e)
     has-stopped j l (other n d) = omega (arith, done j l .is-finished (omega arith))
@@ -365,7 +369,7 @@ module _ (G : Graph) (never : ℕ) (O W : ℕ → ℕ → Type 0) (down-O : Down
               (all-map (λ k. update 0 k tag (mark 0)) (all-of (children (G .last) 0) (λ k. close-floor)));
           counts =
               counts-close G status frames tag written accepted (s .counts) (mark 0)
-              (all-spent G status p (λ j n l. done j l .is-finished n));
+              (all-spent G status p close-finished);
         }
       where
         all-in : (a b : ℕ) → Arc G a b → arrived a b ≡ 2

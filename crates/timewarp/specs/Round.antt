@@ -27,6 +27,9 @@ pub data RoundFrame : Type 0 where
   lvt : (from to tag hour : ℕ) → RoundFrame
   update : (from to tag hour : ℕ) → RoundFrame
 
+-- The state of the rounds. A gateway's memory has its agreed time, its status (a finished one counts as idle), its mark
+-- and what arrived along its arcs. The rest is kept for the statements alone: that a gateway has finished, the tags,
+-- what each round wrote, and where its Update was accepted.
 pub record Rounds : Type 0 where
   -- each gateway's agreed time
   pub agreed : ℕ → ℕ
@@ -153,7 +156,8 @@ finish G j r =
       accepted = r .accepted;
     }
 
--- gateway 0 closes the round: its value is its agreed time, the Updates go out, and all are ready for the next round
+-- Gateway 0 closes the round: its value is its agreed time, and its Updates go out. All are ready for the next round:
+-- every other gateway has sent its Lvts by then, which is proved, so no status is lost.
 unfoldable pub close : Graph → Rounds → Rounds
 close G r =
     record {
