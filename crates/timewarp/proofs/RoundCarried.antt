@@ -1,15 +1,15 @@
 -- What every frame under way carries: it goes along an arc or to a child, with its round's tag and its sender's mark.
-use mathlib.Core.List.{List, [], _∷_, _++_, map}
+use mathlib.Core.List.{List, [], _∷_, map}
 use mathlib.Core.Path.{_≡_, refl, ap}
 use mathlib.Core.Logic.{_≢_}
-use Prim.Native.Nat.{ℕ, zero, suc, _+_, _≤_, _<_}
+use Prim.Native.Nat.{ℕ, suc, _≤_, _<_}
 use native.Mathlib.Omega.{arith}
 use Rattle.timewarp.specs.Lists.{All, nil, cons, Insert}
 use Rattle.timewarp.specs.Families.{set}
 use Rattle.timewarp.specs.Arcs.{Graph, Arc, Child, times, children}
-use Rattle.timewarp.specs.Round.{idle, counting, stopped, finished, RoundFrame, start, lvt, update}
+use Rattle.timewarp.specs.Round.{idle, finished, RoundFrame, start, lvt, update}
 use Rattle.timewarp.proofs.FamilyLaws.{Same, same, other, same?, set-off}
-use Rattle.timewarp.proofs.Tallies.{tally, tally-insert, all-append, all-inserted, all-map, all-change, all-member}
+use Rattle.timewarp.proofs.Tallies.{tally-insert, all-inserted, all-map, all-change, all-member}
 use Rattle.timewarp.proofs.RoundFrames.{one-is, one-not, startOn, lvtOn, both-is}
 use Rattle.timewarp.proofs.RoundArcs.{fresh, begun, back, StateOf, ArcStates}
 

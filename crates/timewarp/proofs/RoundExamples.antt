@@ -1,45 +1,12 @@
 -- Whole rounds by computation, of one gateway, of two and of four.
-use mathlib.Core.List.{List, [], _∷_}
-use mathlib.Core.Path.{_≡_, refl, ap}
-use Prim.Native.Nat.{ℕ, zero, suc, _+_, _≤_, _<_, min, max}
+
+use mathlib.Core.Path.{_≡_, refl}
+use Prim.Native.Nat.{ℕ, zero, suc, _≤_, _<_, min, max}
 use native.Mathlib.Omega.{arith}
-use lib.ListN.{length}
 use Rattle.timewarp.specs.Lists.{nil, cons, here, there}
-use Rattle.timewarp.specs.Families.{set, put, sum}
-use Rattle.timewarp.specs.Arcs.{Graph, Arc, one, times, ifGateway, children}
-use Rattle.timewarp.specs.Round.{
-  idle,
-  counting,
-  stopped,
-  finished,
-  RoundFrame,
-  start,
-  lvt,
-  update,
-  Rounds,
-  opening,
-  raise,
-  noted,
-  lower,
-  begin,
-  hear,
-  stop,
-  takeLvt,
-  finish,
-  close,
-  takeUpdate,
-  as-it-starts,
-  at-an-lvt,
-  RoundStep,
-  begins,
-  hears,
-  stops,
-  takes-lvt,
-  finishes,
-  closes,
-  takes-update,
-  Completed,
-}
+use Rattle.timewarp.specs.Families.{set, put}
+use Rattle.timewarp.specs.Arcs.{Graph, one, times, ifGateway, children}
+use Rattle.timewarp.specs.Round.{Rounds, opening, raise, noted, lower, begin, hear, stop, takeLvt, finish, close, takeUpdate, as-it-starts, at-an-lvt, RoundStep, begins, hears, stops, takes-lvt, finishes, closes, takes-update, Completed}
 use Rattle.timewarp.proofs.SmallGraphs.{single, two, toOfTwo, fromOfTwo, four, toOfFour, fromOfFour}
 use Rattle.timewarp.proofs.RoundCarried.{all-to, all-from}
 

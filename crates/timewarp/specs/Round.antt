@@ -1,5 +1,5 @@
 -- The rounds: what each gateway knows of the open round, the frames under way, and the steps of a round.
-use mathlib.Core.List.{List, [], _∷_, _++_, map}
+use mathlib.Core.List.{List, [], _++_, map}
 use mathlib.Core.Path.{_≡_}
 use Prim.Native.Nat.{ℕ, zero, suc, _+_, _≤_, _<_, min, max}
 use lib.ListN.{length}
