@@ -1,0 +1,7 @@
+-- The definitions of the theory, in the order in which to read them.
+pub mod Lists
+pub mod Families
+pub mod Events
+pub mod SingleQueue
+pub mod Gateways
+pub mod EventSteps
