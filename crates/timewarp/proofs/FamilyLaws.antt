@@ -1,0 +1,105 @@
+-- Laws of families: a changed place and the others, and sums.
+use mathlib.Core.Bool.{Bool, true, false}
+use mathlib.Core.Path.{_≡_, refl, ap, subst}
+use mathlib.Core.Logic.{_≢_}
+use Prim.Native.Nat.{ℕ, zero, suc, _+_, _*_, _≤_, _<_}
+use native.Mathlib.Omega.{arith}
+use lib.Dec.{T, eqb, eqb→eq, eqb-refl}
+use Rattle.timewarp.specs.Families.{pick, set, put, sum}
+
+-- two numbers are the same or not, with what the test says
+pub data Same (i k : ℕ) : Type 0 where
+  same : i ≡ k → eqb i k ≡ true → Same i k
+  other : i ≢ k → eqb i k ≡ false → Same i k
+
+pub same? : (i k : ℕ) → Same i k
+same? i k = go (eqb i k) refl
+  where
+    go : (b : Bool) → eqb i k ≡ b → Same i k
+    go true e = same (eqb→eq i k (rw e tt)) e
+    go false e = other (λ p. subst T e (subst (λ x. T (eqb i x)) p (eqb-refl i))) e
+
+-- the place that is set, or another
+pub data Set {A : Type 0} (i : ℕ) (v : A) (f : ℕ → A) (k : ℕ) : Type 0 where
+  at : i ≡ k → set i v f k ≡ v → Set i v f k
+  off : i ≢ k → set i v f k ≡ f k → Set i v f k
+
+pub set? : {A : Type 0} (i : ℕ) (v : A) (f : ℕ → A) (k : ℕ) → Set i v f k
+unfolding set
+set? i v f k = go (same? i k)
+  where
+    go : Same i k → Set i v f k
+    go (same p e) = at p (rw e)
+    go (other n e) = off n (rw e)
+
+pub set-at : {A : Type 0} (i : ℕ) (v : A) (f : ℕ → A) → set i v f i ≡ v
+set-at i v f = go (set? i v f i)
+  where
+    go : Set i v f i → set i v f i ≡ v
+    go (at p e) = e
+    go (off n e) = absurd (n refl)
+
+-- the pair of places that is put, or another
+pub data Put {A : Type 0} (i j : ℕ) (v : A) (f : ℕ → ℕ → A) (k l : ℕ) : Type 0 where
+  at : i ≡ k → j ≡ l → put i j v f k l ≡ v → Put i j v f k l
+  off : (i ≡ k → j ≢ l) → put i j v f k l ≡ f k l → Put i j v f k l
+
+pub put? : {A : Type 0} (i j : ℕ) (v : A) (f : ℕ → ℕ → A) (k l : ℕ) → Put i j v f k l
+unfolding put
+put? i j v f k l = go (set? i (set j v (f i)) f k) (set? j v (f i) l)
+  where
+    go : Set i (set j v (f i)) f k → Set j v (f i) l → Put i j v f k l
+    go (at p e) (at q d) = at p q (rw (e, d))
+    go (at p e) (off n d) = off (λ p'. n) (rw (e, d, p))
+    go (off n e) (at q d) = off (λ p. absurd (n p)) (rw e)
+    go (off n e) (off m d) = off (λ p. absurd (n p)) (rw e)
+
+-- sums of families that agree
+pub sum-agree : (n : ℕ) (f g : ℕ → ℕ) → ((k : ℕ) → k ≤ n → f k ≡ g k) → sum n f ≡ sum n g
+unfolding sum
+sum-agree zero f g e = e zero (omega arith)
+sum-agree (suc n) f g e =
+    omega (arith, sum-agree n f g (λ k h. e k (omega arith)), e (suc n) (omega arith))
+
+pub sum-at-most : (n : ℕ) (f g : ℕ → ℕ) → ((k : ℕ) → k ≤ n → f k ≤ g k) → sum n f ≤ sum n g
+unfolding sum
+sum-at-most zero f g e = e zero (omega arith)
+sum-at-most (suc n) f g e =
+    omega (arith, sum-at-most n f g (λ k h. e k (omega arith)), e (suc n) (omega arith))
+
+pub sum-add : (n : ℕ) (f g : ℕ → ℕ) → sum n (λ k. f k + g k) ≡ sum n f + sum n g
+unfolding sum
+sum-add zero f g = refl
+sum-add (suc n) f g = omega (arith, sum-add n f g)
+
+pub sum-constant : (n c : ℕ) → sum n (λ k. c) ≡ c * suc n
+unfolding sum
+sum-constant zero c = omega arith
+sum-constant (suc n) c = omega (arith, sum-constant n c)
+
+-- the order of two sums does not matter
+pub sum-swap : (m n : ℕ) (f : ℕ → ℕ → ℕ) → sum m (λ i. sum n (f i)) ≡ sum n (λ j. sum m (λ i. f i j))
+unfolding sum
+sum-swap zero n f = refl
+sum-swap (suc m) n f = omega (arith, sum-swap m n f, sum-add n (λ j. sum m (λ i. f i j)) (f (suc m)))
+
+-- a family set outside the sum
+sum-set-above : (n i v : ℕ) (f : ℕ → ℕ) → n < i → sum n (set i v f) ≡ sum n f
+sum-set-above n i v f h = sum-agree n (set i v f) f (λ k l. go k l (set? i v f k))
+  where
+    go : (k : ℕ) → k ≤ n → Set i v f k → set i v f k ≡ f k
+    go k l (at p e) = absurd (omega arith)
+    go k l (off m e) = e
+
+-- the sum after one place is set
+pub sum-set : (n i v : ℕ) (f : ℕ → ℕ) → i ≤ n → sum n (set i v f) + f i ≡ sum n f + v
+unfolding sum
+sum-set zero i v f h =
+    let p : 0 ≡ i = omega arith in
+    rw (← p) (omega (arith, set-at 0 v f))
+sum-set (suc n) i v f h = go (set? i v f (suc n)) (λ l. sum-set n i v f l)
+  where
+    go : Set i v f (suc n) → (i ≤ n → sum n (set i v f) + f i ≡ sum n f + v)
+        → sum n (set i v f) + set i v f (suc n) + f i ≡ sum n f + f (suc n) + v
+    go (at p e) ih = omega (arith, sum-set-above n i v f (omega arith), ap f p)
+    go (off m e) ih = omega (arith, ih (omega arith))
