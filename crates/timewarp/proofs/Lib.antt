@@ -2,4 +2,9 @@
 pub mod ListLaws
 pub mod FamilyLaws
 pub mod OrderLaws
+pub mod StepLaws
 pub mod Ordering
+pub mod Addressing
+pub mod Acknowledging
+pub mod EventCounts
+pub mod Conservation

@@ -154,7 +154,7 @@ module _ {A : Type 0} (eq : Discrete A) where
 
 module _ {A B : Type 0} (eq : Discrete A) (eq′ : Discrete B) where
   -- Images under an injection are counted as what they are images of.
-  one-image : (f : A → B) → ((a b : A) → f a ≡ f b → a ≡ b) → (a b : A) → one eq′ (f a) (f b) ≡ one eq a b
+  pub one-image : (f : A → B) → ((a b : A) → f a ≡ f b → a ≡ b) → (a b : A) → one eq′ (f a) (f b) ≡ one eq a b
   one-image f inj a b = go (eq a b)
     where
       go : Dec (a ≡ b) → one eq′ (f a) (f b) ≡ one eq a b

@@ -5,26 +5,11 @@ use Prim.Native.Nat.{ℕ, _≤_, _<_}
 use native.Mathlib.Omega.{arith}
 use Rattle.timewarp.specs.Lists.{All, nil, cons, Insert}
 use Rattle.timewarp.specs.Events.{Model, hour, NotLater}
-use Rattle.timewarp.specs.Gateways.{Gateway, Network, history}
-use Rattle.timewarp.specs.EventSteps.{EventStep, does, undoes, takesPlain, meetsCancel, takesCancel, keepsCancel, takesAcknowledgment, commits}
+use Rattle.timewarp.specs.Gateways.{Event, Gateway, Network, history}
+use Rattle.timewarp.specs.EventSteps.{EventStep, does, undoes, takes, takesAcknowledgment, commits, Taking, becomesPending, meetsCancel, strikesOut, waits}
 use Rattle.timewarp.proofs.ListLaws.{all-append, all-insert, all-taken, all-rest, all-map, all-both, all-tail}
 use Rattle.timewarp.proofs.OrderLaws.{Sorted, empty, newest, order-hour}
-
-module _ {Message : Type 0} where
-  -- The history before the latest event is undone, and before the oldest processed one is committed.
-  pub history-undone :
-      (g : Gateway Message) {m : Message} {older : List Message} →
-      g .processed ≡ m ∷ older →
-      history g ≡ m ∷ (older ++ g .committed)
-  unfolding history
-  history-undone g e = rw e
-
-  pub history-committed :
-      (g : Gateway Message) (m : Message) (newer : List Message) →
-      g .processed ≡ newer ++ (m ∷ []) →
-      history g ≡ newer ++ (m ∷ g .committed)
-  unfolding history
-  history-committed g m newer e = rw (e, append-assoc)
+use Rattle.timewarp.proofs.StepLaws.{history-undone, history-committed}
 
 module _ (M : Model) where
   open Model M using (Message)
@@ -45,6 +30,19 @@ module _ (M : Model) where
   ordered-later h o =
       record { sorted = o .sorted; up-to = o .up-to; below = all-map (λ m k. omega arith) (o .below) }
 
+  ordered-taking : {time : ℕ} {g g′ : Gateway Message} {e : Event Message} → Taking M time g e g′ → Ordered time g → Ordered time g′
+  unfolding history
+  ordered-taking (becomesPending m time after put) o =
+      record {
+        sorted = o .sorted;
+        up-to = all-insert put (all-append after (all-map (λ p k. order-hour M p m (omega arith)) (o .below))) (o .up-to);
+        below = o .below;
+      }
+  ordered-taking (meetsCancel m put) o = record { sorted = o .sorted; up-to = o .up-to; below = o .below }
+  ordered-taking (strikesOut m put) o =
+      record { sorted = o .sorted; up-to = all-rest put (o .up-to); below = o .below }
+  ordered-taking (waits m put) o = record { sorted = o .sorted; up-to = o .up-to; below = o .below }
+
   pub ordered-step :
       {i time : ℕ} {g g′ : Gateway Message} {n n′ : Network Message} {sent : List Message} →
       EventStep M i time g n sent g′ n′ →
@@ -57,29 +55,18 @@ module _ (M : Model) where
         up-to = all-both (λ q k a. cons k a) first (all-rest take (o .up-to));
         below = o .below;
       }
-  ordered-step {g} (undoes m e under here no-later last back out under′) o =
-      let s : Sorted M (m ∷ _) = subst (Sorted M) (history-undone g last) (o .sorted) in
+  ordered-step {g} (undoes m e under here no-later latest back out under′) o =
+      let s : Sorted M (m ∷ _) = subst (Sorted M) (history-undone g latest) (o .sorted) in
       record {
         sorted = sorted-tail s;
         up-to =
             all-insert
             back
             (sorted-head s)
-            (all-map (λ q a. all-tail (subst (All (λ p. NotLater M p q)) (history-undone g last) a)) (o .up-to));
+            (all-map (λ q a. all-tail (subst (All (λ p. NotLater M p q)) (history-undone g latest) a)) (o .up-to));
         below = o .below;
       }
-  ordered-step (takesPlain m under ack here time after put) o =
-      record {
-        sorted = o .sorted;
-        up-to = all-insert put (all-append after (all-map (λ p k. order-hour M p m (omega arith)) (o .below))) (o .up-to);
-        below = o .below;
-      }
-  ordered-step (meetsCancel m under ack here put) o =
-      record { sorted = o .sorted; up-to = o .up-to; below = o .below }
-  ordered-step (takesCancel m under ack here put) o =
-      record { sorted = o .sorted; up-to = all-rest put (o .up-to); below = o .below }
-  ordered-step (keepsCancel m under ack here put) o =
-      record { sorted = o .sorted; up-to = o .up-to; below = o .below }
+  ordered-step (takes e under ack here taking) o = ordered-taking taking o
   ordered-step (takesAcknowledgment e ack here out) o =
       record { sorted = o .sorted; up-to = o .up-to; below = o .below }
   ordered-step {g} (commits m {newer = newer} first due) o =

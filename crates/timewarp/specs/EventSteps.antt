@@ -9,6 +9,31 @@ use Rattle.timewarp.specs.Gateways.{Event, plain, cancel, message, Gatew
 module _ (M : Model) where
   open Model M using (Message, from, to)
 
+  -- `Taking time g e g′`: what becomes of the event e that a gateway takes, whose agreed time is `time`.
+  pub data Taking (time : ℕ) (g : Gateway Message) : Event Message → Gateway Message → Type 0 where
+    -- A message not below the agreed time and not earlier than anything processed becomes pending.
+    becomesPending :
+        (m : Message) {pending : List Message} →
+        time ≤ hour M m →
+        All (λ p. NotLater M p m) (g .processed) →
+        Insert m (g .pending) pending →
+        Taking time g (plain m) (gatewayOf (g .committed) (g .processed) pending (g .waiting) (g .outstanding))
+    -- A message whose cancel waits: both vanish.
+    meetsCancel :
+        (m : Message) {waiting : List Message} →
+        Insert m waiting (g .waiting) →
+        Taking time g (plain m) (gatewayOf (g .committed) (g .processed) (g .pending) waiting (g .outstanding))
+    -- A cancel whose message is pending: both vanish.
+    strikesOut :
+        (m : Message) {pending : List Message} →
+        Insert m pending (g .pending) →
+        Taking time g (cancel m) (gatewayOf (g .committed) (g .processed) pending (g .waiting) (g .outstanding))
+    -- A cancel that waits.
+    waits :
+        (m : Message) {waiting : List Message} →
+        Insert m (g .waiting) waiting →
+        Taking time g (cancel m) (gatewayOf (g .committed) (g .processed) (g .pending) waiting (g .outstanding))
+
   -- `EventStep i time g n sent g′ n′`: gateway i, whose agreed time is `time`, takes a step from g to g′ and the network
   -- from n to n′. Of each message in `sent` it sends the message or its cancel. Only what is processed or committed is in
   -- a fixed order; into the other lists a new element is put at any place.
@@ -47,68 +72,14 @@ module _ (M : Model) where
         (sentBy M i (older ++ g .committed) m)
         (gatewayOf (g .committed) older pending (g .waiting) out)
         (networkOf events (n .acknowledgments))
-    -- A message is taken that is not below the agreed time and not earlier than anything processed: it becomes pending.
-    takesPlain :
-        (m : Message) {pending : List Message} {events acks : List (Event Message)} →
-        Insert (plain m) events (n .events) →
-        Insert (plain m) (n .acknowledgments) acks →
-        to m ≡ i →
-        time ≤ hour M m →
-        All (λ p. NotLater M p m) (g .processed) →
-        Insert m (g .pending) pending →
-        EventStep
-        i
-        time
-        g
-        n
-        []
-        (gatewayOf (g .committed) (g .processed) pending (g .waiting) (g .outstanding))
-        (networkOf events acks)
-    -- A message is taken whose cancel waits: both vanish.
-    meetsCancel :
-        (m : Message) {waiting : List Message} {events acks : List (Event Message)} →
-        Insert (plain m) events (n .events) →
-        Insert (plain m) (n .acknowledgments) acks →
-        to m ≡ i →
-        Insert m waiting (g .waiting) →
-        EventStep
-        i
-        time
-        g
-        n
-        []
-        (gatewayOf (g .committed) (g .processed) (g .pending) waiting (g .outstanding))
-        (networkOf events acks)
-    -- A cancel is taken whose message is pending: both vanish.
-    takesCancel :
-        (m : Message) {pending : List Message} {events acks : List (Event Message)} →
-        Insert (cancel m) events (n .events) →
-        Insert (cancel m) (n .acknowledgments) acks →
-        to m ≡ i →
-        Insert m pending (g .pending) →
-        EventStep
-        i
-        time
-        g
-        n
-        []
-        (gatewayOf (g .committed) (g .processed) pending (g .waiting) (g .outstanding))
-        (networkOf events acks)
-    -- A cancel is taken and waits.
-    keepsCancel :
-        (m : Message) {waiting : List Message} {events acks : List (Event Message)} →
-        Insert (cancel m) events (n .events) →
-        Insert (cancel m) (n .acknowledgments) acks →
-        to m ≡ i →
-        Insert m (g .waiting) waiting →
-        EventStep
-        i
-        time
-        g
-        n
-        []
-        (gatewayOf (g .committed) (g .processed) (g .pending) waiting (g .outstanding))
-        (networkOf events acks)
+    -- An event under way to this gateway is taken and acknowledged.
+    takes :
+        (e : Event Message) {g′ : Gateway Message} {events acks : List (Event Message)} →
+        Insert e events (n .events) →
+        Insert e (n .acknowledgments) acks →
+        to (message e) ≡ i →
+        Taking time g e g′ →
+        EventStep i time g n [] g′ (networkOf events acks)
     -- An acknowledgment is taken: one equal outstanding event goes.
     takesAcknowledgment :
         (e : Event Message) {out acks : List (Event Message)} →
