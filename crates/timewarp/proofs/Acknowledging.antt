@@ -17,7 +17,7 @@ module _ (M : Model) where
   open Model M using (Message, from, to, last, never)
 
   -- How often an event or its acknowledgment is under way.
-  pub unsettled : Event Message → Network Message → ℕ
+  unfoldable pub unsettled : Event Message → Network Message → ℕ
   unsettled e n = count (event-eq M) e (n .events) + count (event-eq M) e (n .acknowledgments)
 
   -- At the gateway that takes the step, what becomes outstanding is what becomes unsettled.

@@ -17,7 +17,7 @@ module _ (M : Model) where
   open Model M using (Message, from, to, last, never)
 
   -- All that gateway i sent in a history.
-  pub sentIn : ℕ → List Message → List Message
+  unfoldable pub sentIn : ℕ → List Message → List Message
   sentIn i [] = []
   sentIn i (m ∷ h) = sentBy M i h m ++ sentIn i h
 
@@ -27,11 +27,11 @@ module _ (M : Model) where
 
   module _ (x : Message) where
     -- What gateway i sent of x, with the cancels of x under way.
-    pub made : ℕ → Gateway Message → Network Message → ℕ
+    unfoldable pub made : ℕ → Gateway Message → Network Message → ℕ
     made i g n = times M x (sentIn i (history g)) + events M (cancel x) (n .events)
 
     -- What a gateway has of x, without and with the waiting cancels of it.
-    pub held : Gateway Message → ℕ
+    unfoldable pub held : Gateway Message → ℕ
     held g = times M x (history g) + times M x (g .pending)
 
     -- What a gateway takes comes from under way.

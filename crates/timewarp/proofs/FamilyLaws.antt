@@ -32,12 +32,19 @@ set? i v f k = go (same? i k)
     go (same p e) = at p (rw e)
     go (other n e) = off n (rw e)
 
-pub set-at : {A : Type 0} (i : ℕ) (v : A) (f : ℕ → A) → set i v f i ≡ v
-set-at i v f = go (set? i v f i)
+pub set-at : {A : Type 0} (i : ℕ) (v : A) (f : ℕ → A) (k : ℕ) → i ≡ k → set i v f k ≡ v
+set-at i v f k p = go (set? i v f k)
   where
-    go : Set i v f i → set i v f i ≡ v
-    go (at p e) = e
-    go (off n e) = absurd (n refl)
+    go : Set i v f k → set i v f k ≡ v
+    go (at q e) = e
+    go (off n e) = absurd (n p)
+
+pub set-off : {A : Type 0} (i : ℕ) (v : A) (f : ℕ → A) (k : ℕ) → i ≢ k → set i v f k ≡ f k
+set-off i v f k m = go (set? i v f k)
+  where
+    go : Set i v f k → set i v f k ≡ f k
+    go (at q e) = absurd (m q)
+    go (off n e) = e
 
 -- the pair of places that is put, or another
 pub data Put {A : Type 0} (i j : ℕ) (v : A) (f : ℕ → ℕ → A) (k l : ℕ) : Type 0 where
@@ -96,7 +103,7 @@ pub sum-set : (n i v : ℕ) (f : ℕ → ℕ) → i ≤ n → sum n (set i v f) 
 unfolding sum
 sum-set zero i v f h =
     let p : 0 ≡ i = omega arith in
-    rw (← p) (omega (arith, set-at 0 v f))
+    rw (← p) (omega (arith, set-at 0 v f 0 refl))
 sum-set (suc n) i v f h = go (set? i v f (suc n)) (λ l. sum-set n i v f l)
   where
     go : Set i v f (suc n) → (i ≤ n → sum n (set i v f) + f i ≡ sum n f + v)

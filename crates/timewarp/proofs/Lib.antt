@@ -8,3 +8,4 @@ pub mod Addressing
 pub mod Acknowledging
 pub mod EventCounts
 pub mod Conservation
+pub mod Invariants
