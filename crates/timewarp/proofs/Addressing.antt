@@ -46,6 +46,10 @@ module _ (M : Model) where
   unfolding sentBy hour
   sent-due i h m = M .sends-due i _ m
 
+  pub sent-inside : (i : ℕ) (h : List Message) (m : Message) → All (λ y. to y ≤ last) (sentBy M i h m)
+  unfolding sentBy
+  sent-inside i h m = M .sends-inside i _ m
+
   -- The same of the events that carry or cancel it.
   pub sent-between :
       (c : Message → Event Message) →
@@ -53,13 +57,12 @@ module _ (M : Model) where
       (i : ℕ) (h : List Message) (m : Message) →
       i ≤ last →
       All Between (map c (sentBy M i h m))
-  unfolding sentBy
   sent-between c e i h m k =
       all-image
       c
       (all-both
       between
-      (M .sends-inside i _ m)
+      (sent-inside i h m)
       (all-both {r = λ y. (from y ≡ i) × (hour M y < never)} (λ y a b. (a, b)) (sent-from i h m) (sent-due i h m)))
     where
       between : (y : Message) → to y ≤ last → (from y ≡ i) × (hour M y < never) → Between (c y)

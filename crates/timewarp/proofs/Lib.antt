@@ -9,3 +9,5 @@ pub mod Acknowledging
 pub mod EventCounts
 pub mod Conservation
 pub mod Invariants
+pub mod Uniqueness
+pub mod QueueLaws
