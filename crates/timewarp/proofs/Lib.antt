@@ -11,3 +11,11 @@ pub mod Conservation
 pub mod Invariants
 pub mod Uniqueness
 pub mod QueueLaws
+pub mod Tallies
+pub mod RoundQueues
+pub mod RoundArcs
+pub mod RoundFrames
+pub mod RoundReach
+pub mod RoundCarried
+pub mod RoundCut
+pub mod RoundFloor

@@ -5,3 +5,5 @@ pub mod Events
 pub mod SingleQueue
 pub mod Gateways
 pub mod EventSteps
+pub mod Arcs
+pub mod Round

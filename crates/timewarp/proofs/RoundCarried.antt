@@ -1,0 +1,79 @@
+-- What every frame under way carries: it goes along an arc or to a child, with its round's tag and its sender's mark.
+use mathlib.Core.List.{List, [], _∷_, _++_, map}
+use mathlib.Core.Path.{_≡_, refl, ap}
+use mathlib.Core.Logic.{_≢_}
+use Prim.Native.Nat.{ℕ, zero, suc, _+_, _≤_, _<_}
+use native.Mathlib.Omega.{arith}
+use lib.Dec.{eqb}
+use Rattle.timewarp.specs.Lists.{All, nil, cons, Insert}
+use Rattle.timewarp.specs.Families.{pick, set}
+use Rattle.timewarp.specs.Arcs.{Graph, Arc, Child, times, children}
+use Rattle.timewarp.specs.Round.{idle, counting, stopped, finished, RoundFrame, start, lvt, update}
+use Rattle.timewarp.proofs.FamilyLaws.{Same, same, other, same?, set-off, set-at}
+use Rattle.timewarp.proofs.Tallies.{tally, tally-insert, all-append, all-inserted, all-map, all-change, all-member}
+use Rattle.timewarp.proofs.RoundFrames.{startOn, lvtOn, both-is}
+use Rattle.timewarp.proofs.RoundArcs.{fresh, begun, back, StateOf, ArcStates}
+
+pub data Carried (G : Graph) (st mk : ℕ → ℕ) (tag : ℕ) : RoundFrame → Type 0 where
+  a-start : {i j t : ℕ} → Arc G i j → t ≡ tag → Carried G st mk tag (start i j t)
+  an-lvt : {i j t v : ℕ} → Arc G i j → st j ≡ finished → v ≡ mk j → t ≡ tag → Carried G st mk tag (lvt j i t v)
+  an-update : {i j t v : ℕ} → Child (G .last) i j → t < tag → Carried G st mk tag (update i j t v)
+
+-- every element of a list stands in it
+pub all-times : (l : List ℕ) → All (λ j. 1 ≤ times j l) l
+unfolding times
+all-times [] = nil
+all-times (m ∷ l) = cons (first (same? m m)) (all-change (λ j h. omega arith) (all-times l))
+  where
+    first : Same m m → 1 ≤ pick (eqb m m) 1 0 + times m l
+    first (same p e) = rw e (omega arith)
+    first (other n e) = absurd (n refl)
+
+module _ (G : Graph) (st mk : ℕ → ℕ) (tag : ℕ) where
+  -- a change that leaves the finished gateways as they are
+  pub carried-on : (st′ mk′ : ℕ → ℕ) → ((j : ℕ) → st j ≡ finished → (st′ j ≡ finished) × (mk′ j ≡ mk j))
+      → (f : RoundFrame) → Carried G st mk tag f → Carried G st′ mk′ tag f
+  carried-on st′ mk′ k f (a-start c e) = a-start c e
+  carried-on st′ mk′ k f (an-lvt {j = j} {v = v} c s e d) = an-lvt {v = v} c (k j s .0) (omega (arith, k j s .1)) d
+  carried-on st′ mk′ k f (an-update c e) = an-update c e
+
+  -- such a change at one gateway that is not finished
+  pub set-unfinished : (i s v : ℕ) → st i ≢ finished → (j : ℕ) → st j ≡ finished
+      → (set i s st j ≡ finished) × (set i v mk j ≡ mk j)
+  set-unfinished i s v n j p =
+      let m : i ≢ j = λ e. n (omega (arith, ap st e)) in
+      omega (arith, set-off i s st j m, set-off i v mk j m)
+
+  pub starts-carried : (i : ℕ) → All (Carried G st mk tag) (map (λ j. start i j tag) (G .to i))
+  starts-carried i = all-map (λ j. start i j tag) (all-change (λ j c. a-start c refl) (all-times (G .to i)))
+
+  pub lvts-carried : (j : ℕ) → st j ≡ finished → All (Carried G st mk tag) (map (λ i. lvt j i tag (mk j)) (G .from j))
+  lvts-carried j p =
+      all-map (λ i. lvt j i tag (mk j))
+      (all-change (λ i c. an-lvt (omega (arith, G .matched i j)) p refl refl) (all-times (G .from j)))
+
+  pub updates-carried : (j t v : ℕ) → t < tag → All (Carried G st mk tag) (map (λ k. update j k t v) (children (G .last) j))
+  updates-carried j t v l =
+      all-map (λ k. update j k t v) (all-change (λ k c. an-update c l) (all-times (children (G .last) j)))
+
+  -- at the close no Start and no Lvt is under way
+  module _ (ar : ℕ → ℕ → ℕ) (fr : List RoundFrame) (h : ArcStates G st mk ar fr) (z : (a b : ℕ) → Arc G a b → ar a b ≡ 2) where
+    closed-on : (f : RoundFrame) (rest : List RoundFrame) → Insert f rest fr → Carried G st mk tag f
+        → Carried G (λ i. idle) mk (suc tag) f
+    unfolding startOn lvtOn
+    closed-on f rest x (a-start {i = i} {j = j} c e) = absurd (go (h i j c))
+      where
+        go : StateOf G st mk ar fr i j → ⊥
+        go (fresh l) = omega (arith, z i j c)
+        go (begun l) = omega (arith, z i j c)
+        go (back l) = omega (arith, tally-insert (startOn i j) x, both-is i j i j refl refl)
+    closed-on f rest x (an-lvt {i = i} {j = j} c s e d) = absurd (go (h i j c))
+      where
+        go : StateOf G st mk ar fr i j → ⊥
+        go (fresh l) = omega (arith, z i j c)
+        go (begun l) = omega (arith, z i j c)
+        go (back l) = omega (arith, tally-insert (lvtOn i j) x, both-is j i j i refl refl)
+    closed-on f rest x (an-update {t = t} c e) = an-update {t = t} c (omega arith)
+
+    pub carried-close : All (Carried G st mk tag) fr → All (Carried G (λ i. idle) mk (suc tag)) fr
+    carried-close a = all-member fr (λ f rest x. closed-on f rest x (all-inserted x a))

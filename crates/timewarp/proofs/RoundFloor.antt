@@ -1,0 +1,70 @@
+-- The floor: a number that bounds all hours outstanding and waiting and all marks from below goes on doing so.
+use mathlib.Core.Path.{_≡_, ap}
+use mathlib.Core.Logic.{_≢_}
+use Prim.Native.Nat.{ℕ, _≤_, min}
+use native.Mathlib.Omega.{arith}
+use Rattle.timewarp.specs.Families.{set}
+use Rattle.timewarp.specs.Round.{idle, counting, stopped, finished, noted}
+use Rattle.timewarp.proofs.FamilyLaws.{Same, same, other, same?, set-at, set-off}
+use Rattle.timewarp.proofs.RoundArcs.{noted-counting, noted-other}
+use Rattle.timewarp.proofs.RoundQueues.{Arrives, Sends}
+use Rattle.timewarp.proofs.RoundCut.{UnderMarks}
+
+pub record Floor (never last : ℕ) (st mk : ℕ → ℕ) (O W : ℕ → ℕ → Type 0) (g : ℕ) : Type 0 where
+  pub capped : g ≤ never
+  pub outstanding : (j : ℕ) → j ≤ last → O j g
+  pub waiting : (j : ℕ) → j ≤ last → W j g
+  pub marks : UnderMarks last st mk g
+
+module _ (last : ℕ) (st mk : ℕ → ℕ) (g : ℕ) (u : UnderMarks last st mk g) where
+  -- a mark is set to what is not below g, and no other gateway begins
+  pub marks-set : (st′ : ℕ → ℕ) (i m : ℕ) → (i ≤ last → counting ≤ st′ i → g ≤ m) → ((k : ℕ) → i ≢ k → counting ≤ st′ k → counting ≤ st k)
+      → UnderMarks last st′ (set i m mk) g
+  marks-set st′ i m p q k l r = go (same? i k)
+    where
+      go : Same i k → g ≤ set i m mk k
+      go (same e d) = omega (arith, set-at i m mk k e, p (omega arith) (omega (arith, ap st′ e)))
+      go (other n d) = omega (arith, set-off i m mk k n, u k l (q k n r))
+
+  -- a send at i lowers its note by an hour that is not below g
+  pub marks-noted : (i h : ℕ) → g ≤ h → UnderMarks last st (set i (noted (st i) (mk i) h) mk) g
+  marks-noted i h p = marks-set st i (noted (st i) (mk i) h) (λ l q. go (same? (st i) counting) (u i l q)) (λ k n q. q)
+    where
+      go : Same (st i) counting → g ≤ mk i → g ≤ noted (st i) (mk i) h
+      go (same e d) x = omega (arith, noted-counting (st i) (mk i) h e)
+      go (other n d) x = omega (arith, noted-other (st i) (mk i) h n)
+
+module _ (never last : ℕ) (st mk : ℕ → ℕ) (O W O′ W′ : ℕ → ℕ → Type 0) (g : ℕ) (f : Floor never last st mk O W g) where
+  -- a step of the round leaves the queues alone
+  pub floor-round : (st′ mk′ : ℕ → ℕ) → UnderMarks last st′ mk′ g → Floor never last st′ mk′ O W g
+  floor-round st′ mk′ u = record { capped = f .capped; outstanding = f .outstanding; waiting = f .waiting; marks = u }
+
+  pub floor-arrives : (i : ℕ) → Arrives last i O W O′ W′ → Floor never last st mk O′ W′ g
+  floor-arrives i a =
+      record {
+        capped = f .capped;
+        outstanding = λ j l. a .outstanding j g (f .outstanding j l);
+        waiting = λ j l. go j l (same? i j);
+        marks = f .marks;
+      }
+    where
+      go : (j : ℕ) → j ≤ last → Same i j → W′ j g
+      go j l (same e d) = rw e at (a .at-i g (rw (← e) at (f .waiting j l)) (f .outstanding))
+      go j l (other n d) = a .elsewhere j g n (f .waiting j l)
+
+  pub floor-sends : (i h : ℕ) → i ≤ last → Sends last i h O W O′ W′
+      → Floor never last st (set i (noted (st i) (mk i) h) mk) O′ W′ g
+  floor-sends i h p a =
+      record {
+        capped = f .capped;
+        outstanding = λ j l. go j l (same? i j);
+        waiting = λ j l. a .waiting j g (f .waiting j l);
+        marks = marks-noted last st mk g (f .marks) i h late;
+      }
+    where
+      late : g ≤ h
+      late = a .not-earlier g (f .waiting i p) (f .outstanding)
+
+      go : (j : ℕ) → j ≤ last → Same i j → O′ j g
+      go j l (same e d) = rw e at (a .at-i g (rw (← e) at (f .outstanding j l)) late)
+      go j l (other n d) = a .elsewhere j g n (f .outstanding j l)
