@@ -47,13 +47,13 @@ module _ (M : Model) where
   open Model M using (Message, from, to, last, never, opening)
 
   -- What all gateways sent of x.
-  pub sentOf : Message → (ℕ → Gateway Message) → ℕ
+  unfoldable pub sentOf : Message → (ℕ → Gateway Message) → ℕ
   sentOf x f = sum last (λ j. times M x (sentIn M j (history (f j))))
 
-  pub Settled : Data Message → Type 0
+  unfoldable pub Settled : Data Message → Type 0
   Settled d = (e : Event Message) → events M e (d .gateways (from (message e)) .outstanding) ≡ unsettled M e (d .network)
 
-  pub Conserved : Data Message → Type 0
+  unfoldable pub Conserved : Data Message → Type 0
   Conserved d =
       (x : Message) →
       to x ≤ last →

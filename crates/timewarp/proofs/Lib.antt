@@ -11,6 +11,7 @@ pub mod Conservation
 pub mod Invariants
 pub mod Uniqueness
 pub mod QueueLaws
+pub mod Histories
 pub mod Tallies
 pub mod RoundQueues
 pub mod RoundArcs

@@ -46,6 +46,7 @@ module _ (M : Model) where
   pub record Kept (q : Queue Message) : Type 0 where
     pub sorted : (i : ℕ) → Sorted M (q .done i)
     pub here : (i : ℕ) → All (λ m. to m ≡ i) (q .done i)
+    pub done-due : (i : ℕ) → All (λ m. hour M m < never) (q .done i)
     pub up-to : (i : ℕ) → All (λ y. All (λ p. NotLater M p y) (q .done i)) (q .list)
     pub inside : All (λ y. to y ≤ last) (q .list)
     pub due : All (λ y. hour M y < never) (q .list)
@@ -106,6 +107,14 @@ module _ (M : Model) where
         record {
           sorted = set-each (λ i d. Sorted M d) (to m) (m ∷ h (to m)) h (newest (up-to-m (to m)) (k .sorted (to m))) (k .sorted);
           here = set-each (λ i d. All (λ y. to y ≡ i) d) (to m) (m ∷ h (to m)) h (cons refl (k .here (to m))) (k .here);
+          done-due =
+              set-each
+              (λ i d. All (λ y. hour M y < never) d)
+              (to m)
+              (m ∷ h (to m))
+              h
+              (cons (all-taken taken (k .due)) (k .done-due (to m)))
+              (k .done-due);
           up-to =
               set-each
               (λ i d. All (λ y. All (λ p. NotLater M p y) d) (sent ++ rest))
@@ -236,6 +245,7 @@ module _ (M : Model) where
       record {
         sorted = λ i. empty;
         here = λ i. nil;
+        done-due = λ i. nil;
         up-to = λ i. all-every (λ y. nil) _;
         inside = together-all last opening (λ i e. all-map (λ y p. omega arith) (M .opening-here i));
         due = together-all last opening (λ i e. M .opening-due i);
@@ -273,3 +283,7 @@ module _ (M : Model) where
             λ x inside e. omega
             (arith, final-kept .balance x inside, ap (times M x) queue-ends, count-nil (message-eq M) x);
       }
+
+  pub queue-due : (i : ℕ) → All (λ m. hour M m < never) (singleHistory M i)
+  unfolding singleHistory final
+  queue-due = final-kept .done-due

@@ -7,3 +7,5 @@ pub mod Gateways
 pub mod EventSteps
 pub mod Arcs
 pub mod Round
+pub mod Worlds
+pub mod Claims
