@@ -45,21 +45,22 @@ module _ (M : Model) where
     acknowledgments-settle =
         count-all (event-eq M) _ (λ e h. found (event-eq M) e _ (outstanding-there e (omega arith)))
 
-    module _ {t : ℕ} (b : Bounds t d) where
-      -- So what is under way is bounded too.
-      pub bounds-events : All (λ e. t ≤ hour M (message e)) (d .network .events)
-      unfolding unsettled
-      bounds-events =
-          count-all
-          (event-eq M)
-          _
-          (λ e h.
-          all-count
-          (event-eq M)
-          e
-          (b .outstanding-from (from (message e)) (all-count (event-eq M) e (s .carried .events-between) h .from-one))
-          (outstanding-there e (omega arith)))
+    -- So what bounds all that is outstanding bounds what is under way.
+    pub bounds-events :
+        {t : ℕ} → ((j : ℕ) → j ≤ last → OutstandingFrom (d .gateways j) t) → All (λ e. t ≤ hour M (message e)) (d .network .events)
+    unfolding unsettled
+    bounds-events b =
+        count-all
+        (event-eq M)
+        _
+        (λ e h.
+        all-count
+        (event-eq M)
+        e
+        (b (from (message e)) (all-count (event-eq M) e (s .carried .events-between) h .from-one))
+        (outstanding-there e (omega arith)))
 
+    module _ {t : ℕ} (b : Bounds t d) where
       -- The histories account for every message below t.
       pub accounts : Accounts M t (λ i. history (d .gateways i))
       unfolding Conserved sentOf held message
@@ -75,8 +76,8 @@ module _ (M : Model) where
                   s .conserved x inside,
                   count-none (message-eq M) x (w .pending-from) (λ k. omega arith),
                   count-none (message-eq M) x (w .waiting-from) (λ k. omega arith),
-                  count-none (event-eq M) (plain x) bounds-events (λ k. omega arith),
-                  count-none (event-eq M) (cancel x) bounds-events (λ k. omega arith),
+                  count-none (event-eq M) (plain x) (bounds-events (b .outstanding-from)) (λ k. omega arith),
+                  count-none (event-eq M) (cancel x) (bounds-events (b .outstanding-from)) (λ k. omega arith),
                 );
           }
 

@@ -12,6 +12,7 @@ pub mod Invariants
 pub mod Uniqueness
 pub mod QueueLaws
 pub mod Histories
+pub mod Effects
 pub mod Tallies
 pub mod RoundQueues
 pub mod RoundArcs

@@ -41,6 +41,10 @@ module _ {A : Type 0} {p : A → Type 0} where
   all-inserts nothing h t = t
   all-inserts (more i r) (cons h s) t = all-inserts r s (all-insert i h t)
 
+  pub all-before : {s l m : List A} → Inserts s l m → All p m → All p l
+  all-before nothing t = t
+  all-before (more i r) t = all-rest i (all-before r t)
+
   pub all-map : {q : A → Type 0} → ((a : A) → p a → q a) → {l : List A} → All p l → All q l
   all-map f nil = nil
   all-map f (cons h t) = cons (f _ h) (all-map f t)
