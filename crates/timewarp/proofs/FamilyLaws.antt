@@ -61,6 +61,21 @@ put? i j v f k l = go (set? i (set j v (f i)) f k) (set? j v (f i) l)
     go (off n e) (at q d) = off (λ p. absurd (n p)) (rw e)
     go (off n e) (off m d) = off (λ p. absurd (n p)) (rw e)
 
+module _ {A : Type 0} (i j : ℕ) (v : A) (f : ℕ → ℕ → A) (k l : ℕ) where
+  pub put-at : i ≡ k → j ≡ l → put i j v f k l ≡ v
+  put-at p q = go (put? i j v f k l)
+    where
+      go : Put i j v f k l → put i j v f k l ≡ v
+      go (at p′ q′ e) = e
+      go (off n e) = absurd (n p q)
+
+  pub put-off : (i ≡ k → j ≢ l) → put i j v f k l ≡ f k l
+  put-off m = go (put? i j v f k l)
+    where
+      go : Put i j v f k l → put i j v f k l ≡ f k l
+      go (at p q e) = absurd (m p q)
+      go (off n e) = e
+
 -- sums of families that agree
 pub sum-agree : (n : ℕ) (f g : ℕ → ℕ) → ((k : ℕ) → k ≤ n → f k ≡ g k) → sum n f ≡ sum n g
 unfolding sum

@@ -21,3 +21,6 @@ pub mod RoundReach
 pub mod RoundCarried
 pub mod RoundCut
 pub mod RoundFloor
+pub mod ArcLaws
+pub mod RoundCounts
+pub mod RoundSound

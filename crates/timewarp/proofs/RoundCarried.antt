@@ -4,14 +4,13 @@ use mathlib.Core.Path.{_≡_, refl, ap}
 use mathlib.Core.Logic.{_≢_}
 use Prim.Native.Nat.{ℕ, zero, suc, _+_, _≤_, _<_}
 use native.Mathlib.Omega.{arith}
-use lib.Dec.{eqb}
 use Rattle.timewarp.specs.Lists.{All, nil, cons, Insert}
-use Rattle.timewarp.specs.Families.{pick, set}
+use Rattle.timewarp.specs.Families.{set}
 use Rattle.timewarp.specs.Arcs.{Graph, Arc, Child, times, children}
 use Rattle.timewarp.specs.Round.{idle, counting, stopped, finished, RoundFrame, start, lvt, update}
-use Rattle.timewarp.proofs.FamilyLaws.{Same, same, other, same?, set-off, set-at}
+use Rattle.timewarp.proofs.FamilyLaws.{set-off}
 use Rattle.timewarp.proofs.Tallies.{tally, tally-insert, all-append, all-inserted, all-map, all-change, all-member}
-use Rattle.timewarp.proofs.RoundFrames.{startOn, lvtOn, both-is}
+use Rattle.timewarp.proofs.RoundFrames.{one-is, startOn, lvtOn, both-is}
 use Rattle.timewarp.proofs.RoundArcs.{fresh, begun, back, StateOf, ArcStates}
 
 pub data Carried (G : Graph) (st mk : ℕ → ℕ) (tag : ℕ) : RoundFrame → Type 0 where
@@ -19,15 +18,21 @@ pub data Carried (G : Graph) (st mk : ℕ → ℕ) (tag : ℕ) : RoundFrame → 
   an-lvt : {i j t v : ℕ} → Arc G i j → st j ≡ finished → v ≡ mk j → t ≡ tag → Carried G st mk tag (lvt j i t v)
   an-update : {i j t v : ℕ} → Child (G .last) i j → t < tag → Carried G st mk tag (update i j t v)
 
+module _ {G : Graph} {st mk : ℕ → ℕ} {tag i j t : ℕ} where
+  pub of-start : Carried G st mk tag (start i j t) → (Arc G i j) × (t ≡ tag)
+  of-start (a-start c e) = (c, e)
+
+  pub of-lvt : {v : ℕ} → Carried G st mk tag (lvt j i t v) → (Arc G i j) × (st j ≡ finished) × (v ≡ mk j) × (t ≡ tag)
+  of-lvt (an-lvt c s e d) = (c, s, e, d)
+
+  pub of-update : {v : ℕ} → Carried G st mk tag (update i j t v) → (Child (G .last) i j) × (t < tag)
+  of-update (an-update c l) = (c, l)
+
 -- every element of a list stands in it
 pub all-times : (l : List ℕ) → All (λ j. 1 ≤ times j l) l
 unfolding times
 all-times [] = nil
-all-times (m ∷ l) = cons (first (same? m m)) (all-change (λ j h. omega arith) (all-times l))
-  where
-    first : Same m m → 1 ≤ pick (eqb m m) 1 0 + times m l
-    first (same p e) = rw e (omega arith)
-    first (other n e) = absurd (n refl)
+all-times (m ∷ l) = cons {a = m} (omega (arith, one-is m m refl)) (all-change (λ j h. omega arith) (all-times l))
 
 module _ (G : Graph) (st mk : ℕ → ℕ) (tag : ℕ) where
   -- a change that leaves the finished gateways as they are

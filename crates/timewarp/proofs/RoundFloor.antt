@@ -16,23 +16,28 @@ pub record Floor (never last : ℕ) (st mk : ℕ → ℕ) (O W : ℕ → ℕ →
   pub waiting : (j : ℕ) → j ≤ last → W j g
   pub marks : UnderMarks last st mk g
 
-module _ (last : ℕ) (st mk : ℕ → ℕ) (g : ℕ) (u : UnderMarks last st mk g) where
-  -- a mark is set to what is not below g, and no other gateway begins
-  pub marks-set : (st′ : ℕ → ℕ) (i m : ℕ) → (i ≤ last → counting ≤ st′ i → g ≤ m) → ((k : ℕ) → i ≢ k → counting ≤ st′ k → counting ≤ st k)
-      → UnderMarks last st′ (set i m mk) g
+-- every mark of a gateway that has begun has the property
+abbrev pub OnMarks : (ℕ → Type 0) → ℕ → (ℕ → ℕ) → (ℕ → ℕ) → Type 0
+OnMarks P last st mk = (j : ℕ) → j ≤ last → counting ≤ st j → P (mk j)
+
+module _ (P : ℕ → Type 0) (last : ℕ) (st mk : ℕ → ℕ) (u : OnMarks P last st mk) where
+  -- one mark is set, and no other gateway begins
+  pub marks-set : (st′ : ℕ → ℕ) (i m : ℕ) → (i ≤ last → counting ≤ st′ i → P m)
+      → ((k : ℕ) → i ≢ k → counting ≤ st′ k → counting ≤ st k)
+      → OnMarks P last st′ (set i m mk)
   marks-set st′ i m p q k l r = go (same? i k)
     where
-      go : Same i k → g ≤ set i m mk k
-      go (same e d) = omega (arith, set-at i m mk k e, p (omega arith) (omega (arith, ap st′ e)))
-      go (other n d) = omega (arith, set-off i m mk k n, u k l (q k n r))
+      go : Same i k → P (set i m mk k)
+      go (same e d) = rw (set-at i m mk k e) (p (omega arith) (omega (arith, ap st′ e)))
+      go (other n d) = rw (set-off i m mk k n) (u k l (q k n r))
 
-  -- a send at i lowers its note by an hour that is not below g
-  pub marks-noted : (i h : ℕ) → g ≤ h → UnderMarks last st (set i (noted (st i) (mk i) h) mk) g
-  marks-noted i h p = marks-set st i (noted (st i) (mk i) h) (λ l q. go (same? (st i) counting) (u i l q)) (λ k n q. q)
+  -- a send at i lowers its note
+  pub marks-noted : (i h : ℕ) → (i ≤ last → P (mk i) → P (min (mk i) h)) → OnMarks P last st (set i (noted (st i) (mk i) h) mk)
+  marks-noted i h p = marks-set st i (noted (st i) (mk i) h) (λ l q. go l q (same? (st i) counting)) (λ k n q. q)
     where
-      go : Same (st i) counting → g ≤ mk i → g ≤ noted (st i) (mk i) h
-      go (same e d) x = omega (arith, noted-counting (st i) (mk i) h e)
-      go (other n d) x = omega (arith, noted-other (st i) (mk i) h n)
+      go : i ≤ last → counting ≤ st i → Same (st i) counting → P (noted (st i) (mk i) h)
+      go l q (same e d) = rw (noted-counting (st i) (mk i) h e) (p l (u i l q))
+      go l q (other n d) = rw (noted-other (st i) (mk i) h n) (u i l q)
 
 module _ (never last : ℕ) (st mk : ℕ → ℕ) (O W O′ W′ : ℕ → ℕ → Type 0) (g : ℕ) (f : Floor never last st mk O W g) where
   -- a step of the round leaves the queues alone
@@ -59,7 +64,7 @@ module _ (never last : ℕ) (st mk : ℕ → ℕ) (O W O′ W′ : ℕ → ℕ �
         capped = f .capped;
         outstanding = λ j l. go j l (same? i j);
         waiting = λ j l. a .waiting j g (f .waiting j l);
-        marks = marks-noted last st mk g (f .marks) i h late;
+        marks = marks-noted (λ m. g ≤ m) last st mk (f .marks) i h (λ l q. omega (arith, late));
       }
     where
       late : g ≤ h

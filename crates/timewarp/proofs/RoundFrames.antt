@@ -7,14 +7,10 @@ use native.Mathlib.Omega.{arith}
 use lib.Dec.{eqb}
 use Rattle.timewarp.specs.Lists.{Insert}
 use Rattle.timewarp.specs.Families.{pick}
-use Rattle.timewarp.specs.Arcs.{times}
+use Rattle.timewarp.specs.Arcs.{one, times}
 use Rattle.timewarp.specs.Round.{RoundFrame, start, lvt, update}
 use Rattle.timewarp.proofs.FamilyLaws.{Same, same, other, same?}
 use Rattle.timewarp.proofs.Tallies.{tally, tally-append, tally-insert, tally-none, tally-map, tally-agree}
-
--- 1 if n is m, else 0
-unfoldable pub one : ℕ → ℕ → ℕ
-one n m = pick (eqb n m) 1 0
 
 -- 1 if both are equal, else 0
 unfoldable pub both : ℕ → ℕ → ℕ → ℕ → ℕ
@@ -38,7 +34,7 @@ updateTo s b (start i j t) = 0
 updateTo s b (lvt i j t h) = 0
 updateTo s b (update i j t h) = both s b t j
 
-one-is : (n m : ℕ) → n ≡ m → one n m ≡ 1
+pub one-is : (n m : ℕ) → n ≡ m → one n m ≡ 1
 unfolding one
 one-is n m p = go (same? n m)
   where
@@ -46,7 +42,7 @@ one-is n m p = go (same? n m)
     go (same q e) = rw e
     go (other k e) = absurd (k p)
 
-one-not : (n m : ℕ) → n ≢ m → one n m ≡ 0
+pub one-not : (n m : ℕ) → n ≢ m → one n m ≡ 0
 unfolding one
 one-not n m k = go (same? n m)
   where
@@ -81,7 +77,7 @@ both-not a b i j n = go (same? i a)
     go (other k e) = both-not-first a b i j k
 
 times-tally : (n : ℕ) (l : List ℕ) → times n l ≡ tally (one n) l
-unfolding times one tally
+unfolding times tally
 times-tally n [] = refl
 times-tally n (m ∷ l) = omega (arith, times-tally n l)
 

@@ -6,10 +6,14 @@ use lib.Dec.{eqb, leb}
 use lib.ListN.{length}
 use Rattle.timewarp.specs.Families.{pick, sum}
 
+-- 1 if n is m, else 0
+unfoldable pub one : ℕ → ℕ → ℕ
+one n m = pick (eqb n m) 1 0
+
 -- how often n stands in a list
 unfoldable pub times : ℕ → List ℕ → ℕ
 times n [] = 0
-times n (m ∷ l) = pick (eqb n m) 1 0 + times n l
+times n (m ∷ l) = one n m + times n l
 
 -- The gateways are 0 to last. A Start goes from i to each of `to i`, an Lvt from j to each of `from j`.
 pub record Graph : Type 0 where

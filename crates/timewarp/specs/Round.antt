@@ -195,12 +195,12 @@ pub data RoundStep (G : Graph) (LeastOutstanding LeastWaiting : ℕ → ℕ → 
       → RoundStep G LeastOutstanding LeastWaiting r (begin G i v r)
   hears : (i j t : ℕ) {rest : List RoundFrame} → Insert (start i j t) rest (r .frames)
       → RoundStep G LeastOutstanding LeastWaiting r (hear i j rest r)
-  stops : (i v : ℕ) → r .status i ≡ counting → Stops G i r → LeastWaiting i v
+  stops : (i v : ℕ) → i ≤ G .last → r .status i ≡ counting → Stops G i r → LeastWaiting i v
       → RoundStep G LeastOutstanding LeastWaiting r (stop i v r)
   takes-lvt : (j i t h : ℕ) {rest : List RoundFrame} → r .status i ≡ stopped → Insert (lvt j i t h) rest (r .frames)
       → RoundStep G LeastOutstanding LeastWaiting r (takeLvt j i h rest r)
   -- all Lvts have come
-  finishes : (j : ℕ) → 0 < j → r .status j ≡ stopped → ((k : ℕ) → Arc G j k → r .arrived j k ≡ 2)
+  finishes : (j : ℕ) → 0 < j → j ≤ G .last → r .status j ≡ stopped → ((k : ℕ) → Arc G j k → r .arrived j k ≡ 2)
       → RoundStep G LeastOutstanding LeastWaiting r (finish G j r)
   closes : r .status 0 ≡ stopped → ((k : ℕ) → Arc G 0 k → r .arrived 0 k ≡ 2)
       → RoundStep G LeastOutstanding LeastWaiting r (close G r)
