@@ -24,3 +24,5 @@ pub mod RoundFloor
 pub mod ArcLaws
 pub mod RoundCounts
 pub mod RoundSound
+pub mod Joined
+pub mod Theorem
