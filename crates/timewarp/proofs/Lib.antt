@@ -26,3 +26,4 @@ pub mod RoundCounts
 pub mod RoundSound
 pub mod Joined
 pub mod Theorem
+pub mod CallChains

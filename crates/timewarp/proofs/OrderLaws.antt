@@ -6,7 +6,7 @@ use mathlib.Core.Logic.{_≢_}
 use Prim.Native.Nat.{ℕ, zero, suc, _+_, _≤_, _<_}
 use native.Mathlib.Omega.{arith}
 use native.Mathlib.Decide.{ℕ-discrete, decLt}
-use lib.Dec.{T, ltb, eqb, ltb→lt, nltb→le, eqb→eq, eqb-refl}
+use lib.Dec.{T, ltb, eqb, ltb→lt, lt→ltb, nltb→le, eqb→eq, eqb-refl}
 use Rattle.timewarp.specs.Lists.{All, nil, cons}
 use Rattle.timewarp.specs.Families.{pick}
 use Rattle.timewarp.specs.Events.{first, KeyNotLater, ended, less, same, Model, hour, NotLater}
@@ -62,6 +62,23 @@ compared (a ∷ k) (b ∷ l) = go (ltb a b) refl (eqb a b) refl (compared k l)
     go false e false f c =
         let apart : a ≢ b = λ p. subst T f (subst (λ (x : ℕ). T (eqb a x)) p (eqb-refl a)) in
         later (less {a = b} {b = a} (omega (arith, nltb→le a b (rw e tt)))) (rw (e, f))
+
+holds : (b : Bool) → T b → b ≡ true
+holds true t = refl
+holds false t = absurd t
+
+pub not-later : {k l : List ℕ} → KeyNotLater k l → notLater k l ≡ true
+unfolding notLater
+not-later ended = refl
+not-later (less {a = a} {b = b} h) = rw (holds (ltb a b) (lt→ltb a b h))
+not-later (same {a = a} {b = b} {k = k} {l = l} e p) = go (ltb a b) refl (not-later p)
+  where
+    equal : eqb a b ≡ true
+    equal = holds (eqb a b) (subst (λ (c : ℕ). T (eqb a c)) e (eqb-refl a))
+
+    go : (x : Bool) → ltb a b ≡ x → notLater k l ≡ true → pick (ltb a b) true (pick (eqb a b) (notLater k l) false) ≡ true
+    go true f q = rw f
+    go false f q = rw (f, equal, q)
 
 module _ (M : Model) where
   open Model M using (Message, key, key-injective)

@@ -24,7 +24,7 @@ module _ (M : Model) where
   open Model M using (Message, key, to, last, never, opening)
 
   -- The first is one of them, and not later than the others.
-  first-taken : (m : Message) (l : List Message) → Insert (earliest M m l) (others M m l) (m ∷ l)
+  pub first-taken : (m : Message) (l : List Message) → Insert (earliest M m l) (others M m l) (m ∷ l)
   unfolding earliest others
   first-taken m [] = here
   first-taken m (n ∷ l) = go (compared (key m) (key (earliest M n l))) (first-taken n l)
@@ -33,7 +33,7 @@ module _ (M : Model) where
       go (sooner c e) i = rw e here
       go (later c e) i = rw e (there i)
 
-  first-least : (m : Message) (l : List Message) → All (NotLater M (earliest M m l)) (others M m l)
+  pub first-least : (m : Message) (l : List Message) → All (NotLater M (earliest M m l)) (others M m l)
   unfolding earliest others
   first-least m [] = nil
   first-least m (n ∷ l) = go (compared (key m) (key (earliest M n l))) (first-least n l)

@@ -38,7 +38,7 @@ module _ (S : Setting) where
 
   module _ {w : World S} (k : Good S w) where
     -- Each agreed time bounds everything outstanding, pending and waiting.
-    bounds : (i : ℕ) → i ≤ last → Bounds model (w .rounds .agreed i) (w .events)
+    pub bounds : (i : ℕ) → i ≤ last → Bounds model (w .rounds .agreed i) (w .events)
     bounds i l =
         let f = k .rounds-sound .floor i (omega (arith, same-gateways)) in
         record {

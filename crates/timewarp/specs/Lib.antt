@@ -9,3 +9,4 @@ pub mod Arcs
 pub mod Round
 pub mod Worlds
 pub mod Claims
+pub mod Calls
