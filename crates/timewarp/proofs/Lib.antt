@@ -1,11 +1,24 @@
 -- The laws and proofs of the theory.
+pub mod ListLaws
 pub mod FamilyLaws
+pub mod OrderLaws
+pub mod StepLaws
+pub mod Ordering
+pub mod Addressing
+pub mod Acknowledging
+pub mod EventCounts
+pub mod Conservation
+pub mod Invariants
+pub mod Uniqueness
+pub mod QueueLaws
+pub mod Histories
+pub mod Effects
 pub mod Tallies
-pub mod RoundFrames
+pub mod RoundQueues
 pub mod RoundArcs
+pub mod RoundFrames
 pub mod RoundReach
 pub mod RoundCarried
-pub mod RoundQueues
 pub mod RoundCut
 pub mod RoundFloor
 pub mod ArcLaws
@@ -13,3 +26,6 @@ pub mod RoundCounts
 pub mod RoundSound
 pub mod SmallGraphs
 pub mod RoundExamples
+pub mod Joined
+pub mod Theorem
+pub mod CallChains

@@ -1,1 +1,1 @@
-// The theory of the run: definitions in specs/, laws in proofs/, no code.
+// The theory of the optimistic run, in specs/ (definitions) and proofs/ (laws). There is no code.

@@ -1,0 +1,63 @@
+-- The single queue: a plain machine with one list of messages. It is fed the opening states and lists and nothing more.
+use mathlib.Core.List.{List, [], _∷_, _++_}
+use Prim.Native.Nat.{ℕ, zero, suc, _+_, _-_}
+use native.Mathlib.Decide.{decLt, ℕ-discrete}
+use lib.Dec.{ltb, eqb}
+use mathlib.Core.Bool.{Bool, true, false}
+use Rattle.timewarp.specs.Families.{pick, set}
+use Rattle.timewarp.specs.Events.{Model, hour, sentBy}
+
+-- The lists of gateways 0 to n, one behind the other.
+unfoldable pub together : {A : Type 0} → ℕ → (ℕ → List A) → List A
+together zero f = f zero
+together (suc n) f = together n f ++ f (suc n)
+
+-- Whether a key is not later than another: `KeyNotLater` as a test.
+unfoldable pub notLater : List ℕ → List ℕ → Bool
+notLater [] l = true
+notLater (a ∷ k) [] = false
+notLater (a ∷ k) (b ∷ l) = pick (ltb a b) true (pick (eqb a b) (notLater k l) false)
+
+-- Its list of messages, and for each gateway what was done there, the newest in front.
+pub record Queue (Message : Type 0) : Type 0 where
+  pub list : List Message
+  pub done : ℕ → List Message
+
+module _ (M : Model) where
+  open Model M using (Message, key, to, last, never, opening)
+
+  -- The first of m and l in event order.
+  unfoldable pub earliest : Message → List Message → Message
+  earliest m [] = m
+  earliest m (n ∷ l) = let e = earliest n l in pick (notLater (key m) (key e)) m e
+
+  -- m and l without the first of them.
+  unfoldable pub others : Message → List Message → List Message
+  others m [] = []
+  others m (n ∷ l) = let r = m ∷ others n l in pick (notLater (key m) (key (earliest n l))) (n ∷ l) r
+
+  -- At first all opening lists together, and nothing is done.
+  unfoldable pub openingQueue : Queue Message
+  openingQueue = record { list = together last opening; done = λ i. [] }
+
+  -- The gateway in its to does m. What is sent joins the list.
+  unfoldable pub doNext : Message → List Message → (ℕ → List Message) → Queue Message
+  doNext m rest h = record { list = sentBy M (to m) (h (to m)) m ++ rest; done = set (to m) (m ∷ h (to m)) h }
+
+  -- A step takes the first message in event order out of the list and does it. With the list empty it has ended.
+  unfoldable pub next : List Message → (ℕ → List Message) → Queue Message
+  next [] h = record { list = []; done = h }
+  next (m ∷ l) h = doNext (earliest m l) (others m l) h
+
+  unfoldable pub steps : ℕ → Queue Message → Queue Message
+  steps zero q = q
+  steps (suc n) q = steps n (next (q .list) (q .done))
+
+  -- How many steps are enough: a message leaves the list, and what it sends is later.
+  unfoldable pub measure : List Message → ℕ
+  measure [] = 0
+  measure (m ∷ l) = (never - hour M m) + measure l
+
+  -- What the single queue does at gateway i, the newest in front.
+  unfoldable pub singleHistory : ℕ → List Message
+  singleHistory i = steps (measure (openingQueue .list)) openingQueue .done i
