@@ -1,17 +1,15 @@
 -- Laws of the arcs and of the tree of Updates: arcs counted at both ends, one parent each, messages of a whole round.
-use mathlib.Core.Bool.{Bool, true, false, not}
+use mathlib.Core.Bool.{Bool, true, false}
 use mathlib.Core.List.{List, [], _∷_, _++_}
-use mathlib.Core.Path.{_≡_, refl, ap}
-use mathlib.Core.Logic.{_≢_}
+use mathlib.Core.Path.{_≡_, refl}
 use Prim.Native.Nat.{ℕ, zero, suc, _+_, _*_, _-_, _/_, _≤_, _<_, min}
 use native.Mathlib.Omega.{arith}
-use lib.Dec.{T, eqb, leb, leb→le, nleb→lt}
+use lib.Dec.{leb, leb→le, nleb→lt}
 use lib.ListN.{length, length-append}
 use Rattle.timewarp.specs.Lists.{All, cons}
 use Rattle.timewarp.specs.Families.{pick, set, sum}
-use Rattle.timewarp.specs.Arcs.{Graph, Arc, Child, one, times, arcCount, roundMessages, ifGateway, children}
+use Rattle.timewarp.specs.Arcs.{Graph, Child, one, times, arcCount, roundMessages, ifGateway, children}
 use Rattle.timewarp.proofs.FamilyLaws.{Same, same, other, same?, Set, at, off, set?, sum-agree, sum-add, sum-swap, sum-set, sum-at-most, sum-constant}
-use Rattle.timewarp.proofs.Tallies.{all-change}
 use Rattle.timewarp.proofs.RoundFrames.{one-is, one-not}
 use Rattle.timewarp.proofs.RoundCarried.{all-times}
 

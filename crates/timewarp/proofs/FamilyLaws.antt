@@ -5,7 +5,7 @@ use mathlib.Core.Logic.{_≢_}
 use Prim.Native.Nat.{ℕ, zero, suc, _+_, _*_, _≤_, _<_}
 use native.Mathlib.Omega.{arith}
 use lib.Dec.{T, eqb, eqb→eq, eqb-refl}
-use Rattle.timewarp.specs.Families.{pick, set, put, sum}
+use Rattle.timewarp.specs.Families.{set, put, sum}
 
 -- two numbers are the same or not, with what the test says
 pub data Same (i k : ℕ) : Type 0 where

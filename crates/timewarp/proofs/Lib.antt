@@ -27,3 +27,5 @@ pub mod RoundSound
 pub mod Joined
 pub mod Theorem
 pub mod CallChains
+pub mod SmallGraphs
+pub mod RoundExamples

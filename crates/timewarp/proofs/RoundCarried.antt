@@ -1,16 +1,16 @@
 -- What every frame under way carries: it goes along an arc or to a child, with its round's tag and its sender's mark.
-use mathlib.Core.List.{List, [], _∷_, _++_, map}
+use mathlib.Core.List.{List, [], _∷_, map}
 use mathlib.Core.Path.{_≡_, refl, ap}
 use mathlib.Core.Logic.{_≢_}
-use Prim.Native.Nat.{ℕ, zero, suc, _+_, _≤_, _<_}
+use Prim.Native.Nat.{ℕ, suc, _≤_, _<_}
 use native.Mathlib.Omega.{arith}
 use Rattle.timewarp.specs.Lists.{All, nil, cons, Insert}
 use Rattle.timewarp.specs.Families.{set}
 use Rattle.timewarp.specs.Arcs.{Graph, Arc, Child, times, children}
-use Rattle.timewarp.specs.Round.{idle, counting, stopped, finished, RoundFrame, start, lvt, update}
-use Rattle.timewarp.proofs.FamilyLaws.{set-off}
-use Rattle.timewarp.proofs.Tallies.{tally, tally-insert, all-append, all-inserted, all-map, all-change, all-member}
-use Rattle.timewarp.proofs.RoundFrames.{one-is, startOn, lvtOn, both-is}
+use Rattle.timewarp.specs.Round.{idle, finished, RoundFrame, start, lvt, update}
+use Rattle.timewarp.proofs.FamilyLaws.{Same, same, other, same?, set-off}
+use Rattle.timewarp.proofs.Tallies.{tally-insert, all-inserted, all-map, all-change, all-member}
+use Rattle.timewarp.proofs.RoundFrames.{one-is, one-not, startOn, lvtOn, both-is}
 use Rattle.timewarp.proofs.RoundArcs.{fresh, begun, back, StateOf, ArcStates}
 
 pub data Carried (G : Graph) (st mk : ℕ → ℕ) (tag : ℕ) : RoundFrame → Type 0 where
@@ -33,6 +33,23 @@ pub all-times : (l : List ℕ) → All (λ j. 1 ≤ times j l) l
 unfolding times
 all-times [] = nil
 all-times (m ∷ l) = cons {a = m} (omega (arith, one-is m m refl)) (all-change (λ j h. omega arith) (all-times l))
+
+-- what every element has, a number that stands in the list has
+pub all-at : {P : ℕ → Type 0} (l : List ℕ) → All P l → (k : ℕ) → 1 ≤ times k l → P k
+unfolding times
+all-at {P} [] nil k x = absurd (omega arith)
+all-at {P} (m ∷ l) (cons h t) k x = go (same? m k) (λ y. all-at l t k y)
+  where
+    go : Same m k → (1 ≤ times k l → P k) → P k
+    go (same e d) f = rw e at h
+    go (other n d) f = f (omega (arith, one-not k m (omega arith)))
+
+-- so what is checked of each of `to i`, or of `from j`, holds along each arc from i, or to j
+pub all-to : {P : ℕ → Type 0} (G : Graph) (i : ℕ) → All P (G .to i) → (k : ℕ) → Arc G i k → P k
+all-to G i h k c = all-at (G .to i) h k c
+
+pub all-from : {P : ℕ → Type 0} (G : Graph) (j : ℕ) → All P (G .from j) → (k : ℕ) → Arc G k j → P k
+all-from G j h k c = all-at (G .from j) h k (omega (arith, G .matched k j))
 
 module _ (G : Graph) (st mk : ℕ → ℕ) (tag : ℕ) where
   -- a change that leaves the finished gateways as they are

@@ -1,5 +1,5 @@
 -- The counts: what the open round and each closed round wrote, and no Update accepted twice.
-use mathlib.Core.List.{List, [], _∷_, _++_, map}
+use mathlib.Core.List.{List, _++_, map}
 use mathlib.Core.Path.{_≡_, refl, ap}
 use mathlib.Core.Logic.{_≢_}
 use Prim.Native.Nat.{ℕ, zero, suc, _+_, _*_, _≤_, _<_}
@@ -9,7 +9,7 @@ use Rattle.timewarp.specs.Lists.{Insert}
 use Rattle.timewarp.specs.Families.{set, put, sum}
 use Rattle.timewarp.specs.Arcs.{Graph, Child, times, arcCount, roundMessages, children}
 use Rattle.timewarp.specs.Round.{idle, counting, stopped, finished, RoundFrame, start, lvt, update, raise}
-use Rattle.timewarp.proofs.FamilyLaws.{Same, same, other, same?, Set, at, off, set?, set-at, set-off, put-at, put-off, sum-agree, sum-add, sum-set, sum-constant}
+use Rattle.timewarp.proofs.FamilyLaws.{Same, same, other, same?, set-at, set-off, put-at, put-off, sum-agree, sum-add, sum-set, sum-constant}
 use Rattle.timewarp.proofs.Tallies.{tally, tally-append, tally-insert}
 use Rattle.timewarp.proofs.RoundFrames.{both, both-is, both-not, updateTo, sent-first, sent-not-first, sent-none}
 use Rattle.timewarp.proofs.ArcLaws.{ChildOf, child, no-child, child?, parent, all-children, arcs-at-receivers, none-to-0}

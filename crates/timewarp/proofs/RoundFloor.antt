@@ -1,10 +1,10 @@
 -- The floor: a number that bounds all hours outstanding and waiting and all marks from below goes on doing so.
-use mathlib.Core.Path.{_≡_, ap}
+use mathlib.Core.Path.{ap}
 use mathlib.Core.Logic.{_≢_}
 use Prim.Native.Nat.{ℕ, _≤_, min}
 use native.Mathlib.Omega.{arith}
 use Rattle.timewarp.specs.Families.{set}
-use Rattle.timewarp.specs.Round.{idle, counting, stopped, finished, noted}
+use Rattle.timewarp.specs.Round.{counting, noted}
 use Rattle.timewarp.proofs.FamilyLaws.{Same, same, other, same?, set-at, set-off}
 use Rattle.timewarp.proofs.RoundArcs.{noted-counting, noted-other}
 use Rattle.timewarp.proofs.RoundQueues.{Arrives, Sends}

@@ -1,16 +1,15 @@
 -- How many Starts, Lvts and Updates of each kind are under way.
-use mathlib.Core.List.{List, [], _∷_, _++_, map}
+use mathlib.Core.List.{List, [], _∷_, map}
 use mathlib.Core.Path.{_≡_, refl}
 use mathlib.Core.Logic.{_≢_}
-use Prim.Native.Nat.{ℕ, _+_}
+use Prim.Native.Nat.{ℕ}
 use native.Mathlib.Omega.{arith}
 use lib.Dec.{eqb}
-use Rattle.timewarp.specs.Lists.{Insert}
 use Rattle.timewarp.specs.Families.{pick}
 use Rattle.timewarp.specs.Arcs.{one, times}
 use Rattle.timewarp.specs.Round.{RoundFrame, start, lvt, update}
 use Rattle.timewarp.proofs.FamilyLaws.{Same, same, other, same?}
-use Rattle.timewarp.proofs.Tallies.{tally, tally-append, tally-insert, tally-none, tally-map, tally-agree}
+use Rattle.timewarp.proofs.Tallies.{tally, tally-none, tally-map, tally-agree}
 
 -- 1 if both are equal, else 0
 unfoldable pub both : ℕ → ℕ → ℕ → ℕ → ℕ

@@ -1,5 +1,5 @@
 -- What the round needs to know of the queues: lower bounds of what is outstanding and of what waits at each gateway.
-use mathlib.Core.Path.{_≡_}
+
 use mathlib.Core.Logic.{_≢_}
 use Prim.Native.Nat.{ℕ, _≤_}
 

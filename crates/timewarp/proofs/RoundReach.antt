@@ -1,14 +1,14 @@
 -- How far a round has come: once one gateway has stopped all have begun, and at the close all have finished.
 use mathlib.Core.List.{List}
-use mathlib.Core.Path.{_≡_, refl, ap}
+use mathlib.Core.Path.{_≡_, ap}
 use mathlib.Core.Logic.{_≢_}
 use Prim.Native.Nat.{ℕ, zero, suc, _+_, _≤_, _<_}
 use native.Mathlib.Omega.{arith}
 use Rattle.timewarp.specs.Families.{set}
-use Rattle.timewarp.specs.Arcs.{Graph, Arc, times}
+use Rattle.timewarp.specs.Arcs.{Graph, Arc}
 use Rattle.timewarp.specs.Round.{idle, counting, stopped, finished, RoundFrame}
 use Rattle.timewarp.proofs.FamilyLaws.{Same, same, other, same?, Set, at, off, set?}
-use Rattle.timewarp.proofs.RoundArcs.{ArcState, fresh, begun, back, StateOf, ArcStates}
+use Rattle.timewarp.proofs.RoundArcs.{fresh, begun, back, StateOf, ArcStates}
 
 module _ (G : Graph) (st mk : ℕ → ℕ) (ar : ℕ → ℕ → ℕ) (fr : List RoundFrame) (h : ArcStates G st mk ar fr) where
   -- the sender of an arc has begun if its receiver has

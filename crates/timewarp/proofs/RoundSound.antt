@@ -1,13 +1,12 @@
 -- All that holds of a round in every reachable world, kept by every step of the round and of the queues.
-use mathlib.Core.List.{List, [], _∷_, _++_, map}
+use mathlib.Core.List.{List}
 use mathlib.Core.Path.{_≡_, refl, ap}
 use mathlib.Core.Logic.{_≢_}
-use Prim.Native.Nat.{ℕ, zero, suc, _+_, _*_, _≤_, _<_, min, max}
+use Prim.Native.Nat.{ℕ, suc, _≤_, _<_, min, max}
 use native.Mathlib.Omega.{arith}
-use lib.ListN.{length}
-use Rattle.timewarp.specs.Lists.{All, nil, cons, Insert}
-use Rattle.timewarp.specs.Families.{set, put, sum}
-use Rattle.timewarp.specs.Arcs.{Graph, Arc, Child, arcCount, roundMessages, children}
+use Rattle.timewarp.specs.Lists.{All, nil, Insert}
+use Rattle.timewarp.specs.Families.{set}
+use Rattle.timewarp.specs.Arcs.{Graph, Arc, Child, roundMessages, children}
 use Rattle.timewarp.specs.Round.{
   idle,
   counting,
@@ -45,7 +44,7 @@ use Rattle.timewarp.specs.Round.{
   lvt-in-turn,
   update-in-turn,
 }
-use Rattle.timewarp.proofs.FamilyLaws.{Same, same, other, same?, Set, at, off, set?, set-at, set-off, sum-constant, sum-agree, sum-add}
+use Rattle.timewarp.proofs.FamilyLaws.{Same, same, other, same?, Set, at, off, set?, set-at, set-off, sum-constant}
 use Rattle.timewarp.proofs.Tallies.{tally, tally-insert, all-append, all-inserted, all-rest, all-map, all-change, all-member}
 use Rattle.timewarp.proofs.RoundFrames.{startOn, lvtOn, updateTo, both-is}
 use Rattle.timewarp.proofs.RoundArcs.{
@@ -65,21 +64,7 @@ use Rattle.timewarp.proofs.RoundArcs.{
   noted-other,
 }
 use Rattle.timewarp.proofs.RoundReach.{all-begun, Done, all-done, Crest, crest-begin, crest-set}
-use Rattle.timewarp.proofs.RoundCarried.{
-  Carried,
-  a-start,
-  an-lvt,
-  an-update,
-  of-start,
-  of-lvt,
-  of-update,
-  carried-on,
-  set-unfinished,
-  starts-carried,
-  lvts-carried,
-  updates-carried,
-  carried-close,
-}
+use Rattle.timewarp.proofs.RoundCarried.{Carried, of-start, of-lvt, of-update, carried-on, set-unfinished, starts-carried, lvts-carried, updates-carried, carried-close}
 use Rattle.timewarp.proofs.RoundQueues.{Downward, Reading, Arrives, Sends}
 use Rattle.timewarp.proofs.RoundCut.{Cut, UnderMarks, cut-begin, cut-stop, cut-fall, cut-finish, cut-arrives, cut-sends}
 use Rattle.timewarp.proofs.RoundFloor.{Floor, OnMarks, marks-set, marks-noted, floor-round, floor-arrives, floor-sends}
@@ -98,7 +83,7 @@ use Rattle.timewarp.proofs.RoundCounts.{
   counts-close,
   counts-update,
 }
-use Rattle.timewarp.proofs.ArcLaws.{ChildOf, child, no-child, child?, arcs-at-receivers, none-to-0}
+use Rattle.timewarp.proofs.ArcLaws.{ChildOf, child, no-child, child?}
 
 -- the hour of an Update has the property
 abbrev pub UpdateHour : (ℕ → Type 0) → RoundFrame → Type 0
@@ -332,6 +317,10 @@ module _ (G : Graph) (never : ℕ) (O W : ℕ → ℕ → Type 0) (down-O : Down
     done : (j : ℕ) → j ≤ G .last → Done G status mark arrived frames (s .arcs) j
     done = all-done G status mark arrived frames (s .arcs) p q
 
+    -- every other gateway has sent its Lvts
+    pub close-finished : (j : ℕ) → 0 < j → j ≤ G .last → status j ≡ finished
+    close-finished j n l = done j l .is-finished n
+
     has-stopped : (j : ℕ) → j ≤ G .last → Same 0 j → stopped ≤ status j
     has-stopped j l (same e d) = omega (arith, ap status e)
     has-stopped j l (other n d) = omega (arith, done j l .is-finished (omega arith))
@@ -365,7 +354,7 @@ module _ (G : Graph) (never : ℕ) (O W : ℕ → ℕ → Type 0) (down-O : Down
               (all-map (λ k. update 0 k tag (mark 0)) (all-of (children (G .last) 0) (λ k. close-floor)));
           counts =
               counts-close G status frames tag written accepted (s .counts) (mark 0)
-              (all-spent G status p (λ j n l. done j l .is-finished n));
+              (all-spent G status p close-finished);
         }
       where
         all-in : (a b : ℕ) → Arc G a b → arrived a b ≡ 2

@@ -1,5 +1,5 @@
 -- The rounds: what each gateway knows of the open round, the frames under way, and the steps of a round.
-use mathlib.Core.List.{List, [], _∷_, _++_, map}
+use mathlib.Core.List.{List, [], _++_, map}
 use mathlib.Core.Path.{_≡_}
 use Prim.Native.Nat.{ℕ, zero, suc, _+_, _≤_, _<_, min, max}
 use lib.ListN.{length}
@@ -27,6 +27,9 @@ pub data RoundFrame : Type 0 where
   lvt : (from to tag hour : ℕ) → RoundFrame
   update : (from to tag hour : ℕ) → RoundFrame
 
+-- The state of the rounds. A gateway's memory has its agreed time, its status (a finished one counts as idle), its mark
+-- and what arrived along its arcs. The rest is kept for the statements alone: that a gateway has finished, the tags,
+-- what each round wrote, and where its Update was accepted.
 pub record Rounds : Type 0 where
   -- each gateway's agreed time
   pub agreed : ℕ → ℕ
@@ -153,7 +156,8 @@ finish G j r =
       accepted = r .accepted;
     }
 
--- gateway 0 closes the round: its value is its agreed time, the Updates go out, and all are ready for the next round
+-- Gateway 0 closes the round: its value is its agreed time, and its Updates go out. All are ready for the next round:
+-- every other gateway has sent its Lvts by then, which is proved, so no status is lost.
 unfoldable pub close : Graph → Rounds → Rounds
 close G r =
     record {
