@@ -11,6 +11,7 @@ use Rattle.timewarp.specs.Claims.{Beginning}
 use Rattle.timewarp.proofs.ListLaws.{all-map, all-both, all-count, count-all, count-none, found}
 use Rattle.timewarp.proofs.OrderLaws.{message-eq, event-eq}
 use Rattle.timewarp.proofs.EventCounts.{times, events}
+use Rattle.timewarp.proofs.Addressing.{Between}
 use Rattle.timewarp.proofs.Acknowledging.{unsettled}
 use Rattle.timewarp.proofs.Conservation.{held}
 use Rattle.timewarp.proofs.Invariants.{Sound, Settled, Conserved, sentOf}
@@ -46,19 +47,30 @@ module _ (M : Model) where
         count-all (event-eq M) _ (λ e h. found (event-eq M) e _ (outstanding-there e (omega arith)))
 
     -- So what bounds all that is outstanding bounds what is under way.
-    pub bounds-events :
-        {t : ℕ} → ((j : ℕ) → j ≤ last → OutstandingFrom (d .gateways j) t) → All (λ e. t ≤ hour M (message e)) (d .network .events)
-    unfolding unsettled
-    bounds-events b =
-        count-all
-        (event-eq M)
-        _
-        (λ e h.
-        all-count
-        (event-eq M)
-        e
-        (b (from (message e)) (all-count (event-eq M) e (s .carried .events-between) h .from-one))
-        (outstanding-there e (omega arith)))
+    module _ {t : ℕ} (b : (j : ℕ) → j ≤ last → OutstandingFrom (d .gateways j) t) where
+      bounds-unsettled :
+          (l : List (Event Message)) →
+          ((e : Event Message) → 1 ≤ events M e l → 1 ≤ unsettled M e (d .network)) →
+          All (Between M) l →
+          All (λ e. t ≤ hour M (message e)) l
+      bounds-unsettled l is a =
+          count-all
+          (event-eq M)
+          l
+          (λ e h.
+          all-count
+          (event-eq M)
+          e
+          (b (from (message e)) (all-count (event-eq M) e a h .from-one))
+          (outstanding-there e (is e h)))
+
+      pub bounds-events : All (λ e. t ≤ hour M (message e)) (d .network .events)
+      unfolding unsettled
+      bounds-events = bounds-unsettled (d .network .events) (λ e h. omega arith) (s .carried .events-between)
+
+      pub bounds-acknowledgments : All (λ e. t ≤ hour M (message e)) (d .network .acknowledgments)
+      unfolding unsettled
+      bounds-acknowledgments = bounds-unsettled (d .network .acknowledgments) (λ e h. omega arith) (s .carried .acknowledgments-between)
 
     module _ {t : ℕ} (b : Bounds t d) where
       -- The histories account for every message below t.

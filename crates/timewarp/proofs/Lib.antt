@@ -24,8 +24,8 @@ pub mod RoundFloor
 pub mod ArcLaws
 pub mod RoundCounts
 pub mod RoundSound
-pub mod SmallGraphs
-pub mod RoundExamples
 pub mod Joined
 pub mod Theorem
 pub mod CallChains
+pub mod SmallGraphs
+pub mod RoundExamples

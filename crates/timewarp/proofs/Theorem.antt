@@ -9,14 +9,14 @@ use Rattle.timewarp.specs.Gateways.{Gateway, Data, history}
 use Rattle.timewarp.specs.Arcs.{Graph, roundMessages}
 use Rattle.timewarp.specs.Round.{RoundFrame, InTurn, Completed}
 use Rattle.timewarp.specs.SingleQueue.{singleHistory}
-use Rattle.timewarp.specs.Worlds.{Setting, World, Step, Reachable}
+use Rattle.timewarp.specs.Worlds.{Setting, World, Step, Steps, none, then, Reachable}
 use Rattle.timewarp.specs.Claims.{Claim, NothingToCommit}
 use Rattle.timewarp.proofs.ListLaws.{all-left, all-right, all-head, all-member}
 use Rattle.timewarp.proofs.Addressing.{Here}
 use Rattle.timewarp.proofs.ArcLaws.{round-below}
-use Rattle.timewarp.proofs.Histories.{Bounds, bounds-events, committed-beginning, history-whole, acknowledgments-settle}
+use Rattle.timewarp.proofs.Histories.{Bounds, bounds-events, bounds-acknowledgments, committed-beginning, history-whole, acknowledgments-settle}
 use Rattle.timewarp.proofs.RoundSound.{RoundSound, round-count, in-turn}
-use Rattle.timewarp.proofs.Joined.{Good, good, agreed-never-falls}
+use Rattle.timewarp.proofs.Joined.{Good, good, good-steps, agreed-never-falls}
 
 -- A list is empty or has a last element.
 data Ends {A : Type 0} : List A → Type 0 where
@@ -52,7 +52,7 @@ module _ (S : Setting) where
         NothingToCommit S (w .rounds .agreed i) (w .events .gateways i) →
         w .events .gateways i .committed ≡ singleHistory model i
     unfolding history
-    whole i l above none =
+    whole i l above nothing-left =
         go (w .events .gateways i .processed) refl (ends (w .events .gateways i .processed))
         ∙ history-whole model (k .events-sound) (w .rounds .agreed i) above (bounds i l) i l
       where
@@ -62,7 +62,7 @@ module _ (S : Setting) where
             let a = all-left (w .events .gateways i .processed) (w .events .gateways i .committed) (k .events-sound .addressed i .done) in
             absurd
             (omega
-            (arith, none m newer e, all-head (all-right newer (m ∷ []) (subst (All (Here model i)) e a)) .due))
+            (arith, nothing-left m newer e, all-head (all-right newer (m ∷ []) (subst (All (Here model i)) e a)) .due))
 
     claimed : Claim S w
     claimed =
@@ -73,6 +73,8 @@ module _ (S : Setting) where
           bound-pending = λ i j l h. bounds i l .waiting-from j h .pending-from;
           bound-waiting = λ i j l h. bounds i l .waiting-from j h .waiting-from;
           bound-events = λ i l. bounds-events model (k .events-sound) (bounds i l .outstanding-from);
+          bound-acknowledgments =
+              λ i l. bounds-acknowledgments model (k .events-sound) (bounds i l .outstanding-from);
           rounds = round-count graph never _ _ (w .rounds) (k .rounds-sound);
           rounds-few =
               λ t c. omega (arith, round-count graph never _ _ (w .rounds) (k .rounds-sound) t c, round-below graph, same-gateways);
@@ -83,3 +85,21 @@ module _ (S : Setting) where
   -- The claim holds of every reachable world.
   pub theorem : {w : World S} → Reachable S w → Claim S w
   theorem s = claimed (good S s)
+
+  -- No agreed time falls in any number of steps.
+  pub never-falls : {w v : World S} → Good S w → Steps S w v → (i : ℕ) → w .rounds .agreed i ≤ v .rounds .agreed i
+  never-falls k none i = omega arith
+  never-falls k (then s t) i = omega (arith, never-falls k s i, agreed-never-falls S (good-steps S k s) t i)
+
+  -- Two reachable worlds that are whole at a gateway have the same record there.
+  pub same-record :
+      {w v : World S} (i : ℕ) →
+      i ≤ last →
+      Reachable S w →
+      never ≤ w .rounds .agreed i →
+      NothingToCommit S (w .rounds .agreed i) (w .events .gateways i) →
+      Reachable S v →
+      never ≤ v .rounds .agreed i →
+      NothingToCommit S (v .rounds .agreed i) (v .events .gateways i) →
+      w .events .gateways i .committed ≡ v .events .gateways i .committed
+  same-record i l s a p t b q = theorem s .whole i l a p ∙ sym (theorem t .whole i l b q)

@@ -38,6 +38,8 @@ module _ (S : Setting) where
     pub bound-pending : (i j : ℕ) → i ≤ last → j ≤ last → All (λ m. w .rounds .agreed i ≤ hour model m) (w .events .gateways j .pending)
     pub bound-waiting : (i j : ℕ) → i ≤ last → j ≤ last → All (λ m. w .rounds .agreed i ≤ hour model m) (w .events .gateways j .waiting)
     pub bound-events : (i : ℕ) → i ≤ last → All (λ e. w .rounds .agreed i ≤ hour model (message e)) (w .events .network .events)
+    pub bound-acknowledgments :
+        (i : ℕ) → i ≤ last → All (λ e. w .rounds .agreed i ≤ hour model (message e)) (w .events .network .acknowledgments)
     -- A completed round took two messages an arc and one for each gateway but 0, fewer than four for each gateway.
     pub rounds : (t : ℕ) → Completed graph (w .rounds) t → w .rounds .written t ≡ roundMessages graph
     pub rounds-few : (t : ℕ) → Completed graph (w .rounds) t → w .rounds .written t < 4 * suc last
