@@ -1,5 +1,5 @@
 -- Laws of the arcs and of the tree of Updates: arcs counted at both ends, one parent each, messages of a whole round.
-use mathlib.Core.Bool.{Bool, true, false}
+use mathlib.Core.Bool.{Bool, true, false, cond}
 use mathlib.Core.List.{List, [], _∷_, _++_}
 use mathlib.Core.Path.{_≡_, refl}
 use Prim.Native.Nat.{ℕ, zero, suc, _+_, _*_, _-_, _/_, _≤_, _<_, min}
@@ -7,9 +7,9 @@ use native.Mathlib.Omega.{arith}
 use lib.Dec.{leb, leb→le, nleb→lt}
 use lib.ListN.{length, length-append}
 use Rattle.timewarp.specs.Lists.{All, cons}
-use Rattle.timewarp.specs.Families.{pick, set, sum}
+use Rattle.timewarp.specs.Families.{change, sum}
 use Rattle.timewarp.specs.Arcs.{Graph, Child, one, times, arcCount, roundMessages, ifGateway, children}
-use Rattle.timewarp.proofs.FamilyLaws.{Same, same, other, same?, Set, at, off, set?, sum-agree, sum-add, sum-swap, sum-set, sum-at-most, sum-constant}
+use Rattle.timewarp.proofs.FamilyLaws.{Same, same, other, same?, Changed, at, off, change?, sum-agree, sum-add, sum-swap, sum-set, sum-at-most, sum-constant}
 use Rattle.timewarp.proofs.RoundFrames.{one-is, one-not}
 use Rattle.timewarp.proofs.RoundCarried.{all-times}
 
@@ -44,7 +44,7 @@ length-ifGateway : (last n : ℕ) → length (ifGateway last n) ≡ min 1 (suc l
 unfolding ifGateway
 length-ifGateway last n = go (leb n last) refl
   where
-    go : (b : Bool) → leb n last ≡ b → length (pick (leb n last) (n ∷ []) []) ≡ min 1 (suc last - n)
+    go : (b : Bool) → leb n last ≡ b → length (cond (leb n last) (n ∷ []) []) ≡ min 1 (suc last - n)
     go true e = rw e (omega (arith, leb→le n last (rw e tt)))
     go false e = rw e (omega (arith, nleb→lt n last (rw e tt)))
 
@@ -110,7 +110,7 @@ length-times n [] h = omega (arith, sum-constant n 0)
 length-times n (m ∷ l) h =
     omega (arith, sum-add n (λ k. one k m) (λ k. times k l), length-times n l (λ k p. h k (omega arith)), once-m)
   where
-    agrees : (k : ℕ) → Set {A = ℕ} m 1 (λ j. 0) k → one k m ≡ set m 1 (λ j. 0) k
+    agrees : (k : ℕ) → Changed {A = ℕ} m 1 (λ j. 0) k → one k m ≡ change m 1 (λ j. 0) k
     agrees k (at p e) = omega (arith, one-is k m (omega arith))
     agrees k (off p e) = omega (arith, one-not k m (omega arith))
 
@@ -118,7 +118,7 @@ length-times n (m ∷ l) h =
     once-m =
         omega (
           arith,
-          sum-agree n (λ k. one k m) (set m 1 (λ j. 0)) (λ k q. agrees k (set? m 1 (λ j. 0) k)),
+          sum-agree n (λ k. one k m) (change m 1 (λ j. 0)) (λ k q. agrees k (change? m 1 (λ j. 0) k)),
           sum-set n m 1 (λ j. 0) (h m (omega (arith, one-is m m refl))),
           sum-constant n 0,
         )

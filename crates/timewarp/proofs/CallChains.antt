@@ -1,5 +1,5 @@
 -- The calls are chains of elementary steps.
-use mathlib.Core.Bool.{Bool, true, false, cond}
+use mathlib.Core.Bool.{Bool, true, false, cond, cond}
 use mathlib.Core.List.{List, [], _∷_, _++_, map}
 use mathlib.Core.Path.{_≡_, refl, sym, ap, subst, _∙_}
 use Prim.Native.Nat.{ℕ, zero, suc, _≤_, _<_}
@@ -12,7 +12,7 @@ use Rattle.timewarp.specs.EventSteps.{EventStep, does, undoes, takes, Ta
 use Rattle.timewarp.specs.Worlds.{Setting, World, Step, event, Steps, none, then, lowerAll}
 use Rattle.timewarp.specs.Calls.{has, without, same, sameEvent, enqueue, becomes, doMessage, doEarliest, work, undoMessage, undoLater, undoBackTo, accept, acceptMet, acceptPending, acceptStriking, acceptWaiting, takePlain, takeCancel}
 use Rattle.timewarp.proofs.ListLaws.{insert-last, inserts-back, all-taken, all-map, all-left}
-use Rattle.timewarp.proofs.FamilyLaws.{set-at}
+use Rattle.timewarp.proofs.FamilyLaws.{change-at}
 use Rattle.timewarp.proofs.OrderLaws.{Compared, sooner, later, compared, Sorted, empty, newest, order-refl, order-trans, order-antisym, not-later}
 use Rattle.timewarp.proofs.QueueLaws.{first-taken, first-least}
 use Rattle.timewarp.proofs.Histories.{bounds-events}
@@ -146,11 +146,11 @@ module _ (S : Setting) where
 
       undone-processed : (m : Message) (older : List Message) (w : World S) → queue (undoMessage S i (queue w) m older w) .processed ≡ older
       unfolding undoMessage becomes after
-      undone-processed m older w = ap (λ g. g .processed) (set-at i _ (w .events .gateways) i refl)
+      undone-processed m older w = ap (λ g. g .processed) (change-at i _ (w .events .gateways) i refl)
 
       undone-pending : (m : Message) (older : List Message) (w : World S) → queue (undoMessage S i (queue w) m older w) .pending ≡ m ∷ queue w .pending
       unfolding undoMessage becomes after
-      undone-pending m older w = ap (λ g. g .pending) (set-at i _ (w .events .gateways) i refl)
+      undone-pending m older w = ap (λ g. g .pending) (change-at i _ (w .events .gateways) i refl)
 
       both : {w v u : World S} → Undone w v → Undone v u → Undone w u
       both a b = record { chain = steps-join (a .chain) (b .chain); rest = b .rest; under-way = b .under-way }

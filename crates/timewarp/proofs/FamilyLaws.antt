@@ -5,7 +5,7 @@ use mathlib.Core.Logic.{_≢_}
 use Prim.Native.Nat.{ℕ, zero, suc, _+_, _*_, _≤_, _<_}
 use native.Mathlib.Omega.{arith}
 use lib.Dec.{T, eqb, eqb→eq, eqb-refl}
-use Rattle.timewarp.specs.Families.{set, put, sum}
+use Rattle.timewarp.specs.Families.{change, put, sum}
 
 -- two numbers are the same or not, with what the test says
 pub data Same (i k : ℕ) : Type 0 where
@@ -20,29 +20,29 @@ same? i k = go (eqb i k) refl
     go false e = other (λ p. subst T e (subst (λ x. T (eqb i x)) p (eqb-refl i))) e
 
 -- the place that is set, or another
-pub data Set {A : Type 0} (i : ℕ) (v : A) (f : ℕ → A) (k : ℕ) : Type 0 where
-  at : i ≡ k → set i v f k ≡ v → Set i v f k
-  off : i ≢ k → set i v f k ≡ f k → Set i v f k
+pub data Changed {A : Type 0} (i : ℕ) (v : A) (f : ℕ → A) (k : ℕ) : Type 0 where
+  at : i ≡ k → change i v f k ≡ v → Changed i v f k
+  off : i ≢ k → change i v f k ≡ f k → Changed i v f k
 
-pub set? : {A : Type 0} (i : ℕ) (v : A) (f : ℕ → A) (k : ℕ) → Set i v f k
-unfolding set
-set? i v f k = go (same? i k)
+pub change? : {A : Type 0} (i : ℕ) (v : A) (f : ℕ → A) (k : ℕ) → Changed i v f k
+unfolding change
+change? i v f k = go (same? i k)
   where
-    go : Same i k → Set i v f k
+    go : Same i k → Changed i v f k
     go (same p e) = at p (rw e)
     go (other n e) = off n (rw e)
 
-pub set-at : {A : Type 0} (i : ℕ) (v : A) (f : ℕ → A) (k : ℕ) → i ≡ k → set i v f k ≡ v
-set-at i v f k p = go (set? i v f k)
+pub change-at : {A : Type 0} (i : ℕ) (v : A) (f : ℕ → A) (k : ℕ) → i ≡ k → change i v f k ≡ v
+change-at i v f k p = go (change? i v f k)
   where
-    go : Set i v f k → set i v f k ≡ v
+    go : Changed i v f k → change i v f k ≡ v
     go (at q e) = e
     go (off n e) = absurd (n p)
 
-pub set-off : {A : Type 0} (i : ℕ) (v : A) (f : ℕ → A) (k : ℕ) → i ≢ k → set i v f k ≡ f k
-set-off i v f k m = go (set? i v f k)
+pub change-off : {A : Type 0} (i : ℕ) (v : A) (f : ℕ → A) (k : ℕ) → i ≢ k → change i v f k ≡ f k
+change-off i v f k m = go (change? i v f k)
   where
-    go : Set i v f k → set i v f k ≡ f k
+    go : Changed i v f k → change i v f k ≡ f k
     go (at q e) = absurd (m q)
     go (off n e) = e
 
@@ -53,9 +53,9 @@ pub data Put {A : Type 0} (i j : ℕ) (v : A) (f : ℕ → ℕ → A) (k l : ℕ
 
 pub put? : {A : Type 0} (i j : ℕ) (v : A) (f : ℕ → ℕ → A) (k l : ℕ) → Put i j v f k l
 unfolding put
-put? i j v f k l = go (set? i (set j v (f i)) f k) (set? j v (f i) l)
+put? i j v f k l = go (change? i (change j v (f i)) f k) (change? j v (f i) l)
   where
-    go : Set i (set j v (f i)) f k → Set j v (f i) l → Put i j v f k l
+    go : Changed i (change j v (f i)) f k → Changed j v (f i) l → Put i j v f k l
     go (at p e) (at q d) = at p q (rw (e, d))
     go (at p e) (off n d) = off (λ p'. n) (rw (e, d, p))
     go (off n e) (at q d) = off (λ p. absurd (n p)) (rw e)
@@ -106,22 +106,22 @@ sum-swap zero n f = refl
 sum-swap (suc m) n f = omega (arith, sum-swap m n f, sum-add n (λ j. sum m (λ i. f i j)) (f (suc m)))
 
 -- a family set outside the sum
-sum-set-above : (n i v : ℕ) (f : ℕ → ℕ) → n < i → sum n (set i v f) ≡ sum n f
-sum-set-above n i v f h = sum-agree n (set i v f) f (λ k l. go k l (set? i v f k))
+sum-set-above : (n i v : ℕ) (f : ℕ → ℕ) → n < i → sum n (change i v f) ≡ sum n f
+sum-set-above n i v f h = sum-agree n (change i v f) f (λ k l. go k l (change? i v f k))
   where
-    go : (k : ℕ) → k ≤ n → Set i v f k → set i v f k ≡ f k
+    go : (k : ℕ) → k ≤ n → Changed i v f k → change i v f k ≡ f k
     go k l (at p e) = absurd (omega arith)
     go k l (off m e) = e
 
 -- the sum after one place is set
-pub sum-set : (n i v : ℕ) (f : ℕ → ℕ) → i ≤ n → sum n (set i v f) + f i ≡ sum n f + v
+pub sum-set : (n i v : ℕ) (f : ℕ → ℕ) → i ≤ n → sum n (change i v f) + f i ≡ sum n f + v
 unfolding sum
 sum-set zero i v f h =
     let p : 0 ≡ i = omega arith in
-    rw (← p) (omega (arith, set-at 0 v f 0 refl))
-sum-set (suc n) i v f h = go (set? i v f (suc n)) (λ l. sum-set n i v f l)
+    rw (← p) (omega (arith, change-at 0 v f 0 refl))
+sum-set (suc n) i v f h = go (change? i v f (suc n)) (λ l. sum-set n i v f l)
   where
-    go : Set i v f (suc n) → (i ≤ n → sum n (set i v f) + f i ≡ sum n f + v)
-        → sum n (set i v f) + set i v f (suc n) + f i ≡ sum n f + f (suc n) + v
+    go : Changed i v f (suc n) → (i ≤ n → sum n (change i v f) + f i ≡ sum n f + v)
+        → sum n (change i v f) + change i v f (suc n) + f i ≡ sum n f + f (suc n) + v
     go (at p e) ih = omega (arith, sum-set-above n i v f (omega arith), ap f p)
     go (off m e) ih = omega (arith, ih (omega arith))

@@ -5,12 +5,12 @@ use mathlib.Core.Logic.{_≢_}
 use Prim.Native.Nat.{ℕ, _+_, _≤_, _<_}
 use native.Mathlib.Omega.{arith}
 use Rattle.timewarp.specs.Lists.{All, nil, cons}
-use Rattle.timewarp.specs.Families.{set, sum}
+use Rattle.timewarp.specs.Families.{change, sum}
 use Rattle.timewarp.specs.Events.{Model, hour}
 use Rattle.timewarp.specs.Gateways.{Event, plain, cancel, message, Gateway, Network, Data, history, after, openingData}
 use Rattle.timewarp.specs.EventSteps.{EventStep}
 use Rattle.timewarp.proofs.ListLaws.{all-every, all-both, count-nil}
-use Rattle.timewarp.proofs.FamilyLaws.{Set, at, off, set?, set-at, set-off, sum-agree, sum-constant, sum-set}
+use Rattle.timewarp.proofs.FamilyLaws.{Changed, at, off, change?, change-at, change-off, sum-agree, sum-constant, sum-set}
 use Rattle.timewarp.proofs.OrderLaws.{Sorted, empty, message-eq, event-eq}
 use Rattle.timewarp.proofs.EventCounts.{times, events}
 use Rattle.timewarp.proofs.Ordering.{Ordered, ordered-later, ordered-step}
@@ -19,29 +19,29 @@ use Rattle.timewarp.proofs.Acknowledging.{unsettled, settled-here, sett
 use Rattle.timewarp.proofs.Conservation.{sentIn, made, held, conserved-here, conserved-elsewhere}
 
 -- A property of each place holds after one is set.
-pub set-each : {A : Type 0} (p : ℕ → A → Type 0) (i : ℕ) (v : A) (f : ℕ → A) → p i v → ((k : ℕ) → p k (f k)) → (k : ℕ) → p k (set i v f k)
-set-each p i v f h t k = go (set? i v f k)
+pub change-each : {A : Type 0} (p : ℕ → A → Type 0) (i : ℕ) (v : A) (f : ℕ → A) → p i v → ((k : ℕ) → p k (f k)) → (k : ℕ) → p k (change i v f k)
+change-each p i v f h t k = go (change? i v f k)
   where
-    go : Set i v f k → p k (set i v f k)
+    go : Changed i v f k → p k (change i v f k)
     go (at e q) = rw q (subst (λ (j : ℕ). p j v) e h)
     go (off e q) = rw q (t k)
 
 -- A sum of what a function makes of each place, after one is set.
-pub sum-changed : {A : Type 0} (n i : ℕ) (v : A) (f : ℕ → A) (w : ℕ → A → ℕ) → i ≤ n → sum n (λ k. w k (set i v f k)) + w i (f i) ≡ sum n (λ k. w k (f k)) + w i v
+pub sum-changed : {A : Type 0} (n i : ℕ) (v : A) (f : ℕ → A) (w : ℕ → A → ℕ) → i ≤ n → sum n (λ k. w k (change i v f k)) + w i (f i) ≡ sum n (λ k. w k (f k)) + w i v
 sum-changed n i v f w h =
     omega (
       arith,
       sum-set n i (w i v) (λ k. w k (f k)) h,
       sum-agree
           n
-          (λ k. w k (set i v f k))
-          (set i (w i v) (λ k. w k (f k)))
-          (λ k l. go k (set? i v f k)),
+          (λ k. w k (change i v f k))
+          (change i (w i v) (λ k. w k (f k)))
+          (λ k l. go k (change? i v f k)),
     )
   where
-    go : (k : ℕ) → Set i v f k → w k (set i v f k) ≡ set i (w i v) (λ k. w k (f k)) k
-    go k (at e q) = rw (q, set-at i (w i v) (λ k. w k (f k)) k e, e)
-    go k (off e q) = rw (q, set-off i (w i v) (λ k. w k (f k)) k e)
+    go : (k : ℕ) → Changed i v f k → w k (change i v f k) ≡ change i (w i v) (λ k. w k (f k)) k
+    go k (at e q) = rw (q, change-at i (w i v) (λ k. w k (f k)) k e, e)
+    go k (off e q) = rw (q, change-off i (w i v) (λ k. w k (f k)) k e)
 
 module _ (M : Model) where
   open Model M using (Message, from, to, last, never, opening)
@@ -102,9 +102,9 @@ module _ (M : Model) where
   module _ (agreed : ℕ → ℕ) (d : Data Message) (i : ℕ) {sent : List Message} {g : Gateway Message} {n : Network Message} (inside : i ≤ last) (step : EventStep M i (agreed i) (d .gateways i) (d .network) sent g n) where
     settled-step : Settled d → Settled (after i g n d)
     unfolding Settled after
-    settled-step s e = go (set? i g (d .gateways) (from (message e)))
+    settled-step s e = go (change? i g (d .gateways) (from (message e)))
       where
-        go : Set i g (d .gateways) (from (message e)) → events M e (set i g (d .gateways) (from (message e)) .outstanding) ≡ unsettled M e n
+        go : Changed i g (d .gateways) (from (message e)) → events M e (change i g (d .gateways) (from (message e)) .outstanding) ≡ unsettled M e n
         go (at p q) =
             omega (
               arith,
@@ -119,15 +119,15 @@ module _ (M : Model) where
 
     conserved-step : Conserved d → Conserved (after i g n d)
     unfolding Conserved after sentOf made
-    conserved-step s x h = go (set? i g (d .gateways) (to x))
+    conserved-step s x h = go (change? i g (d .gateways) (to x))
       where
-        total : sum last (λ j. times M x (sentIn M j (history (set i g (d .gateways) j)))) + times M x (sentIn M i (history (d .gateways i))) ≡ sum last (λ j. times M x (sentIn M j (history (d .gateways j)))) + times M x (sentIn M i (history g))
+        total : sum last (λ j. times M x (sentIn M j (history (change i g (d .gateways) j)))) + times M x (sentIn M i (history (d .gateways i))) ≡ sum last (λ j. times M x (sentIn M j (history (d .gateways j)))) + times M x (sentIn M i (history g))
         total = sum-changed last i g (d .gateways) (λ j f. times M x (sentIn M j (history f))) inside
 
         go :
-            Set i g (d .gateways) (to x) →
-            times M x (opening (to x)) + sum last (λ j. times M x (sentIn M j (history (set i g (d .gateways) j)))) + events M (cancel x) (n .events) + times M x (set i g (d .gateways) (to x) .waiting)
-            ≡ held M x (set i g (d .gateways) (to x)) + events M (plain x) (n .events)
+            Changed i g (d .gateways) (to x) →
+            times M x (opening (to x)) + sum last (λ j. times M x (sentIn M j (history (change i g (d .gateways) j)))) + events M (cancel x) (n .events) + times M x (change i g (d .gateways) (to x) .waiting)
+            ≡ held M x (change i g (d .gateways) (to x)) + events M (plain x) (n .events)
         go (at p q) =
             omega (
               arith,
@@ -153,8 +153,8 @@ module _ (M : Model) where
     unfolding after
     sound-step o =
         record {
-          ordered = set-each (λ k f. Ordered M (agreed k) f) i g (d .gateways) (ordered-step M step (o .ordered i)) (o .ordered);
-          addressed = set-each (λ k f. Addressed M k f) i g (d .gateways) (addressed-step M step (o .carried) (o .addressed i)) (o .addressed);
+          ordered = change-each (λ k f. Ordered M (agreed k) f) i g (d .gateways) (ordered-step M step (o .ordered i)) (o .ordered);
+          addressed = change-each (λ k f. Addressed M k f) i g (d .gateways) (addressed-step M step (o .carried) (o .addressed i)) (o .addressed);
           carried = carried-step M step inside (o .carried);
           settled = settled-step (o .settled);
           conserved = conserved-step (o .conserved);

@@ -6,7 +6,7 @@ use Prim.Native.Nat.{ℕ, _≤_, _<_, min}
 use native.Mathlib.Omega.{arith}
 use native.Mathlib.Decide.{ℕ-discrete}
 use Rattle.timewarp.specs.Lists.{All, nil, cons, Insert, Inserts, nothing, more, least}
-use Rattle.timewarp.specs.Families.{set}
+use Rattle.timewarp.specs.Families.{change}
 use Rattle.timewarp.specs.Events.{Model, hour}
 use Rattle.timewarp.specs.Gateways.{Event, message, Gateway, Network, Data, after, openingData}
 use Rattle.timewarp.specs.EventSteps.{EventStep}
@@ -14,8 +14,8 @@ use Rattle.timewarp.specs.Arcs.{Graph}
 use Rattle.timewarp.specs.Round.{Rounds, opening, lower}
 use Rattle.timewarp.specs.Worlds.{Setting, World, openingWorld, leastOutstanding, leastWaiting, lowerAll, Step, event, round, Steps, none, then, Reachable}
 use Rattle.timewarp.proofs.ListLaws.{all-map, all-every, all-insert, all-rest, all-before, all-head, all-tail, least-never, least-bounds, bounds-least}
-use Rattle.timewarp.proofs.FamilyLaws.{set-at, set-off}
-use Rattle.timewarp.proofs.Invariants.{Sound, sound-step, sound-later, set-each}
+use Rattle.timewarp.proofs.FamilyLaws.{change-at, change-off}
+use Rattle.timewarp.proofs.Invariants.{Sound, sound-step, sound-later, change-each}
 use Rattle.timewarp.proofs.Invariants as Invariants
 use Rattle.timewarp.proofs.Histories.{OutstandingFrom, WaitingFrom}
 use Rattle.timewarp.proofs.Effects.{Under, Effect, effect}
@@ -168,12 +168,12 @@ module _ (S : Setting) where
       (down-W d)
       i
       (record {
-        outstanding = λ j t a. set-each (λ k x. With d i (f .out) k t → OutstandingFrom model x t) i g (d .gateways) (λ b. f .then-go t (b .here refl)) (λ k b. before d i (f .put-in) k t b) j a;
-        elsewhere = λ j t p w. subst (λ x. WaitingFrom model x t) (sym (set-off i g (d .gateways) j p)) w;
+        outstanding = λ j t a. change-each (λ k x. With d i (f .out) k t → OutstandingFrom model x t) i g (d .gateways) (λ b. f .then-go t (b .here refl)) (λ k b. before d i (f .put-in) k t b) j a;
+        elsewhere = λ j t p w. subst (λ x. WaitingFrom model x t) (sym (change-off i g (d .gateways) j p)) w;
         at-i =
             λ t w o. subst
             (λ x. WaitingFrom model x t)
-            (sym (set-at i g (d .gateways) i refl))
+            (sym (change-at i g (d .gateways) i refl))
             (f .comes t (record { waiting = w; outstanding = λ j k. before d i (f .put-in) j t (o j (omega (arith, same-gateways))) }));
       })
     where

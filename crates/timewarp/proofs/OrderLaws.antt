@@ -1,5 +1,5 @@
 -- Laws of event order, of sorted histories, and of equality of messages and events.
-use mathlib.Core.Bool.{Bool, true, false}
+use mathlib.Core.Bool.{Bool, true, false, cond}
 use mathlib.Core.List.{List, [], _∷_, _++_, map, List-discrete}
 use mathlib.Core.Path.{_≡_, refl, sym, ap, ap₂, subst, _∙_}
 use mathlib.Core.Logic.{_≢_}
@@ -8,7 +8,6 @@ use native.Mathlib.Omega.{arith}
 use native.Mathlib.Decide.{ℕ-discrete, decLt}
 use lib.Dec.{T, ltb, eqb, ltb→lt, lt→ltb, nltb→le, eqb→eq, eqb-refl}
 use Rattle.timewarp.specs.Lists.{All, nil, cons}
-use Rattle.timewarp.specs.Families.{pick}
 use Rattle.timewarp.specs.Events.{first, KeyNotLater, ended, less, same, Model, hour, NotLater}
 use Rattle.timewarp.specs.SingleQueue.{notLater}
 use Rattle.timewarp.specs.Gateways.{Event, plain, cancel, message}
@@ -76,7 +75,7 @@ not-later (same {a = a} {b = b} {k = k} {l = l} e p) = go (ltb a b) refl (not-la
     equal : eqb a b ≡ true
     equal = holds (eqb a b) (subst (λ (c : ℕ). T (eqb a c)) e (eqb-refl a))
 
-    go : (x : Bool) → ltb a b ≡ x → notLater k l ≡ true → pick (ltb a b) true (pick (eqb a b) (notLater k l) false) ≡ true
+    go : (x : Bool) → ltb a b ≡ x → notLater k l ≡ true → cond (ltb a b) true (cond (eqb a b) (notLater k l) false) ≡ true
     go true f q = rw f
     go false f q = rw (f, equal, q)
 

@@ -1,5 +1,5 @@
 -- The single queue accounts for every message, and ends.
-use mathlib.Core.Bool.{Bool, true, false}
+use mathlib.Core.Bool.{Bool, true, false, cond}
 use mathlib.Core.List.{List, [], _∷_, _++_}
 use mathlib.Core.Path.{_≡_, refl, sym, ap, subst, _∙_}
 use mathlib.Core.Logic.{_≢_}
@@ -8,16 +8,16 @@ use native.Mathlib.Omega.{arith}
 use native.Mathlib.Decide.{ℕ-discrete}
 use lib.ListN.{length}
 use Rattle.timewarp.specs.Lists.{All, nil, cons, Insert, here, there}
-use Rattle.timewarp.specs.Families.{pick, set, sum}
+use Rattle.timewarp.specs.Families.{change, sum}
 use Rattle.timewarp.specs.Events.{Model, hour, NotLater, sentBy}
 use Rattle.timewarp.specs.SingleQueue.{together, notLater, Queue, earliest, others, openingQueue, doNext, next, steps, measure, singleHistory}
 use Rattle.timewarp.proofs.ListLaws.{all-append, all-insert, all-taken, all-rest, all-map, all-both, all-every, count-nil, count-none, count-append, one-other}
-use Rattle.timewarp.proofs.FamilyLaws.{Set, at, off, set?, sum-agree, sum-constant}
+use Rattle.timewarp.proofs.FamilyLaws.{Changed, at, off, change?, sum-agree, sum-constant}
 use Rattle.timewarp.proofs.OrderLaws.{Compared, sooner, later, compared, Sorted, empty, newest, order-refl, order-trans, order-hour, message-eq}
 use Rattle.timewarp.proofs.EventCounts.{times, times-cons, times-insert}
 use Rattle.timewarp.proofs.Addressing.{sent-later, sent-inside, sent-due}
 use Rattle.timewarp.proofs.Conservation.{sentIn, sent-cons}
-use Rattle.timewarp.proofs.Invariants.{set-each, sum-changed}
+use Rattle.timewarp.proofs.Invariants.{change-each, sum-changed}
 use Rattle.timewarp.proofs.Uniqueness.{Accounts}
 
 module _ (M : Model) where
@@ -29,7 +29,7 @@ module _ (M : Model) where
   first-taken m [] = here
   first-taken m (n ∷ l) = go (compared (key m) (key (earliest M n l))) (first-taken n l)
     where
-      go : Compared (key m) (key (earliest M n l)) → Insert (earliest M n l) (others M n l) (n ∷ l) → Insert (pick (notLater (key m) (key (earliest M n l))) m (earliest M n l)) (pick (notLater (key m) (key (earliest M n l))) (n ∷ l) (m ∷ others M n l)) (m ∷ (n ∷ l))
+      go : Compared (key m) (key (earliest M n l)) → Insert (earliest M n l) (others M n l) (n ∷ l) → Insert (cond (notLater (key m) (key (earliest M n l))) m (earliest M n l)) (cond (notLater (key m) (key (earliest M n l))) (n ∷ l) (m ∷ others M n l)) (m ∷ (n ∷ l))
       go (sooner c e) i = rw e here
       go (later c e) i = rw e (there i)
 
@@ -38,7 +38,7 @@ module _ (M : Model) where
   first-least m [] = nil
   first-least m (n ∷ l) = go (compared (key m) (key (earliest M n l))) (first-least n l)
     where
-      go : Compared (key m) (key (earliest M n l)) → All (NotLater M (earliest M n l)) (others M n l) → All (NotLater M (pick (notLater (key m) (key (earliest M n l))) m (earliest M n l))) (pick (notLater (key m) (key (earliest M n l))) (n ∷ l) (m ∷ others M n l))
+      go : Compared (key m) (key (earliest M n l)) → All (NotLater M (earliest M n l)) (others M n l) → All (NotLater M (cond (notLater (key m) (key (earliest M n l))) m (earliest M n l))) (cond (notLater (key m) (key (earliest M n l))) (n ∷ l) (m ∷ others M n l))
       go (sooner c e) a = rw e (all-insert (first-taken n l) c (all-map (λ y b. order-trans M m (earliest M n l) y c b) a))
       go (later c e) a = rw e (cons c a)
 
@@ -69,14 +69,14 @@ module _ (M : Model) where
         (all-map (λ y l. all-map (λ p c. order-trans M p m y c (order-hour M m y l)) a) (sent-later M (to m) (h (to m)) m))
         b
 
-    balance-next : (x : Message) → to x ≤ last → times M x (opening (to x)) + sum last (λ j. times M x (sentIn M j (set (to m) (m ∷ h (to m)) h j))) ≡ times M x (set (to m) (m ∷ h (to m)) h (to x)) + times M x (sent ++ rest)
+    balance-next : (x : Message) → to x ≤ last → times M x (opening (to x)) + sum last (λ j. times M x (sentIn M j (change (to m) (m ∷ h (to m)) h j))) ≡ times M x (change (to m) (m ∷ h (to m)) h (to x)) + times M x (sent ++ rest)
     unfolding sent
-    balance-next x inside = go (set? (to m) (m ∷ h (to m)) h (to x))
+    balance-next x inside = go (change? (to m) (m ∷ h (to m)) h (to x))
       where
-        total : sum last (λ j. times M x (sentIn M j (set (to m) (m ∷ h (to m)) h j))) + times M x (sentIn M (to m) (h (to m))) ≡ sum last (λ j. times M x (sentIn M j (h j))) + times M x (sentIn M (to m) (m ∷ h (to m)))
+        total : sum last (λ j. times M x (sentIn M j (change (to m) (m ∷ h (to m)) h j))) + times M x (sentIn M (to m) (h (to m))) ≡ sum last (λ j. times M x (sentIn M j (h j))) + times M x (sentIn M (to m) (m ∷ h (to m)))
         total = sum-changed last (to m) (m ∷ h (to m)) h (λ j d. times M x (sentIn M j d)) (all-taken taken (k .inside))
 
-        go : Set (to m) (m ∷ h (to m)) h (to x) → times M x (opening (to x)) + sum last (λ j. times M x (sentIn M j (set (to m) (m ∷ h (to m)) h j))) ≡ times M x (set (to m) (m ∷ h (to m)) h (to x)) + times M x (sentBy M (to m) (h (to m)) m ++ rest)
+        go : Changed (to m) (m ∷ h (to m)) h (to x) → times M x (opening (to x)) + sum last (λ j. times M x (sentIn M j (change (to m) (m ∷ h (to m)) h j))) ≡ times M x (change (to m) (m ∷ h (to m)) h (to x)) + times M x (sentBy M (to m) (h (to m)) m ++ rest)
         go (at p q) =
             omega (
               arith,
@@ -105,10 +105,10 @@ module _ (M : Model) where
     unfolding doNext sent
     kept-do =
         record {
-          sorted = set-each (λ i d. Sorted M d) (to m) (m ∷ h (to m)) h (newest (up-to-m (to m)) (k .sorted (to m))) (k .sorted);
-          here = set-each (λ i d. All (λ y. to y ≡ i) d) (to m) (m ∷ h (to m)) h (cons refl (k .here (to m))) (k .here);
+          sorted = change-each (λ i d. Sorted M d) (to m) (m ∷ h (to m)) h (newest (up-to-m (to m)) (k .sorted (to m))) (k .sorted);
+          here = change-each (λ i d. All (λ y. to y ≡ i) d) (to m) (m ∷ h (to m)) h (cons refl (k .here (to m))) (k .here);
           done-due =
-              set-each
+              change-each
               (λ i d. All (λ y. hour M y < never) d)
               (to m)
               (m ∷ h (to m))
@@ -116,7 +116,7 @@ module _ (M : Model) where
               (cons (all-taken taken (k .due)) (k .done-due (to m)))
               (k .done-due);
           up-to =
-              set-each
+              change-each
               (λ i d. All (λ y. All (λ p. NotLater M p y) d) (sent ++ rest))
               (to m)
               (m ∷ h (to m))

@@ -5,10 +5,10 @@ use mathlib.Core.Logic.{_≢_}
 use Prim.Native.Nat.{ℕ, zero, suc, _+_, _*_, _≤_, _<_, min}
 use native.Mathlib.Omega.{arith}
 use Rattle.timewarp.specs.Lists.{Insert}
-use Rattle.timewarp.specs.Families.{set, put}
+use Rattle.timewarp.specs.Families.{change, put}
 use Rattle.timewarp.specs.Arcs.{Graph, Arc, times}
 use Rattle.timewarp.specs.Round.{idle, counting, stopped, finished, RoundFrame, start, lvt, update, noted}
-use Rattle.timewarp.proofs.FamilyLaws.{Same, same, other, same?, Put, at, off, put?, set-at, set-off}
+use Rattle.timewarp.proofs.FamilyLaws.{Same, same, other, same?, Put, at, off, put?, change-at, change-off}
 use Rattle.timewarp.proofs.Tallies.{tally, tally-append, tally-insert}
 use Rattle.timewarp.proofs.RoundFrames.{both, both-is, both-not, startOn, lvtOn, sent-first, sent-not-first, sent-none}
 
@@ -77,7 +77,7 @@ module _ (G : Graph) (st mk : ℕ → ℕ) (ar : ℕ → ℕ → ℕ) (fr : List
     sent-starts : List RoundFrame
     sent-starts = map (λ j. start i j t) (G .to i)
 
-    pub arcs-begin : ArcStates G (set i counting st) (set i v mk) ar (fr ++ map (λ j. start i j t) (G .to i))
+    pub arcs-begin : ArcStates G (change i counting st) (change i v mk) ar (fr ++ map (λ j. start i j t) (G .to i))
     unfolding startOn lvtOn sent-starts
     arcs-begin a b c = go (place? i a b (G .upward a b c .0)) (h a b c)
       where
@@ -99,14 +99,14 @@ module _ (G : Graph) (st mk : ℕ → ℕ) (ar : ℕ → ℕ → ℕ) (fr : List
         by-other : i ≢ a → tally (startOn a b) sent-starts ≡ 0
         by-other n = sent-not-first startOn (λ j. start i j t) i (λ x y j. refl) a b (G .to i) n
 
-        go : Place i a b → StateOf G st mk ar fr a b → StateOf G (set i counting st) (set i v mk) ar (fr ++ sent-starts) a b
+        go : Place i a b → StateOf G st mk ar fr a b → StateOf G (change i counting st) (change i v mk) ar (fr ++ sent-starts) a b
         go (tail e n) (fresh l) =
-            fresh (omega (arith, starts, lvts, by-i e, ap st e, set-at i counting st a e, set-off i counting st b n))
+            fresh (omega (arith, starts, lvts, by-i e, ap st e, change-at i counting st a e, change-off i counting st b n))
         go (tail e n) (begun l) = absurd (omega (arith, ap st e))
         go (tail e n) (back l) = absurd (omega (arith, ap st e))
         go (head m e) (fresh l) = absurd (omega (arith, ap (ar a) e, q a (rw e c)))
         go (head m e) (begun l) =
-            begun (omega (arith, starts, lvts, by-other m, ap st e, set-at i counting st b e, set-off i counting st a m))
+            begun (omega (arith, starts, lvts, by-other m, ap st e, change-at i counting st b e, change-off i counting st a m))
         go (head m e) (back l) = absurd (omega (arith, ap (ar a) e, q a (rw e c)))
         go (apart m n) l =
             keep l
@@ -115,10 +115,10 @@ module _ (G : Graph) (st mk : ℕ → ℕ) (ar : ℕ → ℕ → ℕ) (fr : List
               starts,
               lvts,
               by-other m,
-              set-off i counting st a m,
-              set-off i counting st b n,
-              set-off i v mk a m,
-              set-off i v mk b n,
+              change-off i counting st a m,
+              change-off i counting st b n,
+              change-off i v mk a m,
+              change-off i v mk b n,
             ))
 
   -- gateway j hears the Start from i
@@ -139,34 +139,34 @@ module _ (G : Graph) (st mk : ℕ → ℕ) (ar : ℕ → ℕ → ℕ) (fr : List
       go (off n e) l = keep l (omega (arith, starts, lvts, both-not a b i j n))
 
   -- gateway i stops
-  pub arcs-stop : (i v : ℕ) → st i ≡ counting → ArcStates G (set i stopped st) (set i (min (mk i) v) mk) ar fr
+  pub arcs-stop : (i v : ℕ) → st i ≡ counting → ArcStates G (change i stopped st) (change i (min (mk i) v) mk) ar fr
   arcs-stop i v p a b c = go (place? i a b (G .upward a b c .0)) (h a b c)
     where
-      go : Place i a b → StateOf G st mk ar fr a b → StateOf G (set i stopped st) (set i (min (mk i) v) mk) ar fr a b
-      go (tail e n) (fresh l) = fresh (omega (arith, ap st e, set-at i stopped st a e, set-off i stopped st b n))
-      go (tail e n) (begun l) = begun (omega (arith, ap st e, set-at i stopped st a e, set-off i stopped st b n))
+      go : Place i a b → StateOf G st mk ar fr a b → StateOf G (change i stopped st) (change i (min (mk i) v) mk) ar fr a b
+      go (tail e n) (fresh l) = fresh (omega (arith, ap st e, change-at i stopped st a e, change-off i stopped st b n))
+      go (tail e n) (begun l) = begun (omega (arith, ap st e, change-at i stopped st a e, change-off i stopped st b n))
       go (tail e n) (back l) = absurd (omega (arith, ap st e))
       go (head m e) (fresh l) = absurd (omega (arith, ap st e))
-      go (head m e) (begun l) = begun (omega (arith, ap st e, set-at i stopped st b e, set-off i stopped st a m))
+      go (head m e) (begun l) = begun (omega (arith, ap st e, change-at i stopped st b e, change-off i stopped st a m))
       go (head m e) (back l) = absurd (omega (arith, ap st e))
       go (apart m n) l =
           keep l
           (omega (
             arith,
-            set-off i stopped st a m,
-            set-off i stopped st b n,
-            set-off i (min (mk i) v) mk a m,
-            set-off i (min (mk i) v) mk b n,
+            change-off i stopped st a m,
+            change-off i stopped st b n,
+            change-off i (min (mk i) v) mk a m,
+            change-off i (min (mk i) v) mk b n,
           ))
 
   -- gateway i takes the Lvt from j, which carries the mark of j
   pub arcs-lvt : (j i t v : ℕ) (rest : List RoundFrame) → Insert (lvt j i t v) rest fr → st i ≡ stopped → v ≡ mk j
-      → ArcStates G st (set i (min (mk i) v) mk) (put i j 2 ar) rest
+      → ArcStates G st (change i (min (mk i) v) mk) (put i j 2 ar) rest
   unfolding startOn lvtOn
   arcs-lvt j i t v rest x p q a b c = go (put? i j 2 ar a b) (place? i a b (G .upward a b c .0)) (h a b c)
     where
       mk′ : ℕ → ℕ
-      mk′ = set i (min (mk i) v) mk
+      mk′ = change i (min (mk i) v) mk
 
       starts : tally (startOn a b) fr ≡ 0 + tally (startOn a b) rest
       starts = tally-insert (startOn a b) x
@@ -176,7 +176,7 @@ module _ (G : Graph) (st mk : ℕ → ℕ) (ar : ℕ → ℕ → ℕ) (fr : List
 
       go : Put i j 2 ar a b → Place i a b → StateOf G st mk ar fr a b → StateOf G st mk′ (put i j 2 ar) rest a b
       go (at e d f) (tail e′ n) (begun l) =
-          back (omega (arith, starts, lvts, both-is b a j i d e, ap st e, ap mk d, set-at i (min (mk i) v) mk a e, set-off i (min (mk i) v) mk b n))
+          back (omega (arith, starts, lvts, both-is b a j i d e, ap st e, ap mk d, change-at i (min (mk i) v) mk a e, change-off i (min (mk i) v) mk b n))
       go (at e d f) (tail e′ n) (fresh l) = absurd (omega (arith, lvts, both-is b a j i d e))
       go (at e d f) (tail e′ n) (back l) = absurd (omega (arith, lvts, both-is b a j i d e))
       go (at e d f) (head m e′) l = absurd (m e)
@@ -189,8 +189,8 @@ module _ (G : Graph) (st mk : ℕ → ℕ) (ar : ℕ → ℕ → ℕ) (fr : List
             lvts,
             both-not b a j i (λ d e′. k e′ d),
             ap mk e,
-            set-at i (min (mk i) v) mk a e,
-            set-off i (min (mk i) v) mk b n,
+            change-at i (min (mk i) v) mk a e,
+            change-off i (min (mk i) v) mk b n,
           ))
       go (off k f) (head m e) (fresh l) = absurd (omega (arith, ap st e))
       go (off k f) (head m e) (begun l) = begun (omega (arith, starts, lvts, both-not b a j i (λ d e′. k e′ d)))
@@ -202,8 +202,8 @@ module _ (G : Graph) (st mk : ℕ → ℕ) (ar : ℕ → ℕ → ℕ) (fr : List
             starts,
             lvts,
             both-not b a j i (λ d e′. k e′ d),
-            set-off i (min (mk i) v) mk a m,
-            set-off i (min (mk i) v) mk b n,
+            change-off i (min (mk i) v) mk a m,
+            change-off i (min (mk i) v) mk b n,
           ))
 
   -- gateway j finishes
@@ -211,7 +211,7 @@ module _ (G : Graph) (st mk : ℕ → ℕ) (ar : ℕ → ℕ → ℕ) (fr : List
     sent-lvts : List RoundFrame
     sent-lvts = map (λ i. lvt j i t v) (G .from j)
 
-    pub arcs-finish : ArcStates G (set j finished st) mk ar (fr ++ map (λ i. lvt j i t v) (G .from j))
+    pub arcs-finish : ArcStates G (change j finished st) mk ar (fr ++ map (λ i. lvt j i t v) (G .from j))
     unfolding startOn lvtOn sent-lvts
     arcs-finish a b c = go (place? j a b (G .upward a b c .0)) (h a b c)
       where
@@ -234,17 +234,17 @@ module _ (G : Graph) (st mk : ℕ → ℕ) (ar : ℕ → ℕ → ℕ) (fr : List
         by-other : j ≢ b → tally (lvtOn a b) sent-lvts ≡ 0
         by-other n = sent-not-first (λ y x. lvtOn x y) (λ i. lvt j i t v) j (λ x y i. refl) b a (G .from j) n
 
-        go : Place j a b → StateOf G st mk ar fr a b → StateOf G (set j finished st) mk ar (fr ++ sent-lvts) a b
+        go : Place j a b → StateOf G st mk ar fr a b → StateOf G (change j finished st) mk ar (fr ++ sent-lvts) a b
         go (tail e n) (fresh l) = absurd (omega (arith, ap (λ k. ar k b) e, q b (rw e c)))
         go (tail e n) (begun l) = absurd (omega (arith, ap (λ k. ar k b) e, q b (rw e c)))
         go (tail e n) (back l) =
-            back (omega (arith, starts, lvts, by-other n, set-at j finished st a e, set-off j finished st b n))
+            back (omega (arith, starts, lvts, by-other n, change-at j finished st a e, change-off j finished st b n))
         go (head m e) (fresh l) = absurd (omega (arith, ap st e))
         go (head m e) (begun l) =
-            begun (omega (arith, starts, lvts, by-j e, ap st e, set-at j finished st b e, set-off j finished st a m))
+            begun (omega (arith, starts, lvts, by-j e, ap st e, change-at j finished st b e, change-off j finished st a m))
         go (head m e) (back l) = absurd (omega (arith, ap st e))
         go (apart m n) l =
-            keep l (omega (arith, starts, lvts, by-other n, set-off j finished st a m, set-off j finished st b n))
+            keep l (omega (arith, starts, lvts, by-other n, change-off j finished st a m, change-off j finished st b n))
 
   -- frames that are Updates neither come nor go as Starts or Lvts
   module _ (w : RoundFrame → ℕ) (rest : List RoundFrame) (u : ℕ → RoundFrame) (l : List ℕ) where
@@ -281,14 +281,14 @@ module _ (G : Graph) (st mk : ℕ → ℕ) (ar : ℕ → ℕ → ℕ) (fr : List
       go (back d) = fresh (omega (arith, starts, lvts))
 
   -- gateway i sends a message or a cancel of hour v
-  pub arcs-lower : (i v : ℕ) → ArcStates G st (set i (noted (st i) (mk i) v) mk) ar fr
+  pub arcs-lower : (i v : ℕ) → ArcStates G st (change i (noted (st i) (mk i) v) mk) ar fr
   arcs-lower i v a b c = go (place? i a b (G .upward a b c .0)) (h a b c)
     where
       m′ : ℕ
       m′ = noted (st i) (mk i) v
 
-      go : Place i a b → StateOf G st mk ar fr a b → StateOf G st (set i m′ mk) ar fr a b
-      go (tail e n) l = keep l (omega (arith, noted-falls (st i) (mk i) v, ap mk e, set-at i m′ mk a e, set-off i m′ mk b n))
+      go : Place i a b → StateOf G st mk ar fr a b → StateOf G st (change i m′ mk) ar fr a b
+      go (tail e n) l = keep l (omega (arith, noted-falls (st i) (mk i) v, ap mk e, change-at i m′ mk a e, change-off i m′ mk b n))
       go (head m e) (fresh l) = fresh (omega arith)
       go (head m e) (begun l) = begun (omega arith)
       go (head m e) (back l) =
@@ -297,7 +297,7 @@ module _ (G : Graph) (st mk : ℕ → ℕ) (ar : ℕ → ℕ → ℕ) (fr : List
             arith,
             noted-other (st i) (mk i) v (omega (arith, ap st e)),
             ap mk e,
-            set-at i m′ mk b e,
-            set-off i m′ mk a m,
+            change-at i m′ mk b e,
+            change-off i m′ mk a m,
           ))
-      go (apart m n) l = keep l (omega (arith, set-off i m′ mk a m, set-off i m′ mk b n))
+      go (apart m n) l = keep l (omega (arith, change-off i m′ mk a m, change-off i m′ mk b n))

@@ -5,10 +5,10 @@ use mathlib.Core.Logic.{_≢_}
 use Prim.Native.Nat.{ℕ, suc, _≤_, _<_}
 use native.Mathlib.Omega.{arith}
 use Rattle.timewarp.specs.Lists.{All, nil, cons, Insert}
-use Rattle.timewarp.specs.Families.{set}
+use Rattle.timewarp.specs.Families.{change}
 use Rattle.timewarp.specs.Arcs.{Graph, Arc, Child, times, children}
 use Rattle.timewarp.specs.Round.{idle, finished, RoundFrame, start, lvt, update}
-use Rattle.timewarp.proofs.FamilyLaws.{Same, same, other, same?, set-off}
+use Rattle.timewarp.proofs.FamilyLaws.{Same, same, other, same?, change-off}
 use Rattle.timewarp.proofs.ListLaws.{all-member, all-taken, all-image, all-map}
 use Rattle.timewarp.proofs.Tallies.{tally-insert}
 use Rattle.timewarp.proofs.RoundFrames.{one-is, one-not, startOn, lvtOn, both-is}
@@ -61,11 +61,11 @@ module _ (G : Graph) (st mk : ℕ → ℕ) (tag : ℕ) where
   carried-on st′ mk′ k f (an-update c e) = an-update c e
 
   -- such a change at one gateway that is not finished
-  pub set-unfinished : (i s v : ℕ) → st i ≢ finished → (j : ℕ) → st j ≡ finished
-      → (set i s st j ≡ finished) × (set i v mk j ≡ mk j)
-  set-unfinished i s v n j p =
+  pub change-unfinished : (i s v : ℕ) → st i ≢ finished → (j : ℕ) → st j ≡ finished
+      → (change i s st j ≡ finished) × (change i v mk j ≡ mk j)
+  change-unfinished i s v n j p =
       let m : i ≢ j = λ e. n (omega (arith, ap st e)) in
-      omega (arith, set-off i s st j m, set-off i v mk j m)
+      omega (arith, change-off i s st j m, change-off i v mk j m)
 
   pub starts-carried : (i : ℕ) → All (Carried G st mk tag) (map (λ j. start i j tag) (G .to i))
   starts-carried i = all-image (λ j. start i j tag) (all-map (λ j c. a-start c refl) (all-times (G .to i)))

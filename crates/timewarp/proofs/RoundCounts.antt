@@ -6,10 +6,10 @@ use Prim.Native.Nat.{ℕ, zero, suc, _+_, _*_, _≤_, _<_}
 use native.Mathlib.Omega.{arith}
 use lib.ListN.{length}
 use Rattle.timewarp.specs.Lists.{Insert}
-use Rattle.timewarp.specs.Families.{set, put, sum}
+use Rattle.timewarp.specs.Families.{change, put, sum}
 use Rattle.timewarp.specs.Arcs.{Graph, Child, times, arcCount, roundMessages, children}
 use Rattle.timewarp.specs.Round.{idle, counting, stopped, finished, RoundFrame, start, lvt, update, raise}
-use Rattle.timewarp.proofs.FamilyLaws.{Same, same, other, same?, set-at, set-off, put-at, put-off, sum-agree, sum-add, sum-set, sum-constant}
+use Rattle.timewarp.proofs.FamilyLaws.{Same, same, other, same?, change-at, change-off, put-at, put-off, sum-agree, sum-add, sum-set, sum-constant}
 use Rattle.timewarp.proofs.Tallies.{tally, tally-append, tally-insert}
 use Rattle.timewarp.proofs.RoundFrames.{both, both-is, both-not, updateTo, sent-first, sent-not-first, sent-none}
 use Rattle.timewarp.proofs.ArcLaws.{ChildOf, child, no-child, child?, parent, all-children, arcs-at-receivers, none-to-0}
@@ -87,21 +87,21 @@ module _ (G : Graph) (st : ℕ → ℕ) (fr : List RoundFrame) (tag : ℕ) (writ
       one-each j l (other n d) = omega (arith, q j (omega arith) l, accepted-once t p j l)
 
   -- gateway i comes to status s
-  spent-set : (i s : ℕ) → i ≤ G .last
-      → sum (G .last) (spentBy G (set i s st)) + spentBy G st i
+  spent-change : (i s : ℕ) → i ≤ G .last
+      → sum (G .last) (spentBy G (change i s st)) + spentBy G st i
       ≡ sum (G .last) (spentBy G st) + spent s (length (G .to i)) (length (G .from i))
   unfolding spentBy
-  spent-set i s l =
+  spent-change i s l =
       omega (
         arith,
         sum-set (G .last) i (spent s (length (G .to i)) (length (G .from i))) (spentBy G st) l,
-        sum-agree (G .last) (spentBy G (set i s st)) (set i (spent s (length (G .to i)) (length (G .from i))) (spentBy G st))
+        sum-agree (G .last) (spentBy G (change i s st)) (change i (spent s (length (G .to i)) (length (G .from i))) (spentBy G st))
             (λ k m. go k (same? i k)),
       )
     where
-      go : (k : ℕ) → Same i k → spentBy G (set i s st) k ≡ set i (spent s (length (G .to i)) (length (G .from i))) (spentBy G st) k
-      go k (same e d) = rw (set-at i s st k e, set-at i (spent s (length (G .to i)) (length (G .from i))) (spentBy G st) k e, e)
-      go k (other n d) = rw (set-off i s st k n, set-off i (spent s (length (G .to i)) (length (G .from i))) (spentBy G st) k n)
+      go : (k : ℕ) → Same i k → spentBy G (change i s st) k ≡ change i (spent s (length (G .to i)) (length (G .from i))) (spentBy G st) k
+      go k (same e d) = rw (change-at i s st k e, change-at i (spent s (length (G .to i)) (length (G .from i))) (spentBy G st) k e, e)
+      go k (other n d) = rw (change-off i s st k n, change-off i (spent s (length (G .to i)) (length (G .from i))) (spentBy G st) k n)
 
   -- a step that writes nothing and takes no Update: the frames left are as many Updates, the sum is the same
   counts-quiet : (st′ : ℕ → ℕ) (fr′ : List RoundFrame) → sum (G .last) (spentBy G st′) ≡ sum (G .last) (spentBy G st)
@@ -125,9 +125,9 @@ module _ (G : Graph) (st : ℕ → ℕ) (fr : List RoundFrame) (tag : ℕ) (writ
   unfolding updateTo
   counts-lvt j i t v rest x = counts-quiet st rest refl (λ s k. omega (arith, tally-insert (updateTo s k) x))
 
-  pub counts-stop : (i : ℕ) → i ≤ G .last → st i ≡ counting → Counts G (set i stopped st) fr tag written accepted
+  pub counts-stop : (i : ℕ) → i ≤ G .last → st i ≡ counting → Counts G (change i stopped st) fr tag written accepted
   unfolding spent spentBy
-  counts-stop i l p = counts-quiet (set i stopped st) fr (omega (arith, spent-set i stopped l, before)) (λ t j. refl)
+  counts-stop i l p = counts-quiet (change i stopped st) fr (omega (arith, spent-change i stopped l, before)) (λ t j. refl)
     where
       before : spentBy G st i ≡ spent stopped (length (G .to i)) (length (G .from i))
       before = rw p
@@ -136,13 +136,13 @@ module _ (G : Graph) (st : ℕ → ℕ) (fr : List RoundFrame) (tag : ℕ) (writ
   counts-write : (i s n : ℕ) (f : ℕ → RoundFrame) (l : List ℕ) → i ≤ G .last
       → spentBy G st i + n ≡ spent s (length (G .to i)) (length (G .from i))
       → ((t j k : ℕ) → updateTo t j (f k) ≡ 0)
-      → Counts G (set i s st) (fr ++ map f l) tag (raise tag n written) accepted
+      → Counts G (change i s st) (fr ++ map f l) tag (raise tag n written) accepted
   unfolding raise
   counts-write i s n f l p e z =
       record {
-        open-round = omega (arith, h .open-round, spent-set i s p, set-at tag (written tag + n) written tag refl);
-        closed-rounds = λ t q. omega (arith, h .closed-rounds t q, set-off tag (written tag + n) written t (omega arith));
-        later-rounds = λ t q. omega (arith, h .later-rounds t q, set-off tag (written tag + n) written t (omega arith));
+        open-round = omega (arith, h .open-round, spent-change i s p, change-at tag (written tag + n) written tag refl);
+        closed-rounds = λ t q. omega (arith, h .closed-rounds t q, change-off tag (written tag + n) written t (omega arith));
+        later-rounds = λ t q. omega (arith, h .later-rounds t q, change-off tag (written tag + n) written t (omega arith));
         none-accepted = h .none-accepted;
         accepted-at-0 = h .accepted-at-0;
         sent-once =
@@ -156,12 +156,12 @@ module _ (G : Graph) (st : ℕ → ℕ) (fr : List RoundFrame) (tag : ℕ) (writ
       }
 
   pub counts-begin : (i t : ℕ) → i ≤ G .last → st i ≡ idle
-      → Counts G (set i counting st) (fr ++ map (λ j. start i j t) (G .to i)) tag (raise tag (length (G .to i)) written) accepted
+      → Counts G (change i counting st) (fr ++ map (λ j. start i j t) (G .to i)) tag (raise tag (length (G .to i)) written) accepted
   unfolding updateTo spent spentBy
   counts-begin i t l p = counts-write i counting (length (G .to i)) (λ j. start i j t) (G .to i) l (rw p (omega arith)) (λ s k j. refl)
 
   pub counts-finish : (j t v : ℕ) → j ≤ G .last → st j ≡ stopped
-      → Counts G (set j finished st) (fr ++ map (λ i. lvt j i t v) (G .from j)) tag (raise tag (length (G .from j)) written) accepted
+      → Counts G (change j finished st) (fr ++ map (λ i. lvt j i t v) (G .from j)) tag (raise tag (length (G .from j)) written) accepted
   unfolding updateTo spent spentBy
   counts-finish j t v l p = counts-write j finished (length (G .from j)) (λ i. lvt j i t v) (G .from j) l (rw p (omega arith)) (λ s k i. refl)
 
@@ -240,21 +240,21 @@ module _ (G : Graph) (st : ℕ → ℕ) (fr : List RoundFrame) (tag : ℕ) (writ
           arith,
           all,
           h .open-round,
-          set-at tag (written tag + length (children (G .last) 0)) written t e,
-          sum-agree (G .last) (relayedBy G (put tag 0 1 accepted t)) (set 0 (length (children (G .last) 0)) (λ j. 0)) (λ j l. go j (same? 0 j)),
+          change-at tag (written tag + length (children (G .last) 0)) written t e,
+          sum-agree (G .last) (relayedBy G (put tag 0 1 accepted t)) (change 0 (length (children (G .last) 0)) (λ j. 0)) (λ j l. go j (same? 0 j)),
           sum-set (G .last) 0 (length (children (G .last) 0)) (λ j. 0) (omega arith),
           sum-constant (G .last) 0,
         )
       where
-        go : (j : ℕ) → Same 0 j → relayedBy G (put tag 0 1 accepted t) j ≡ set 0 (length (children (G .last) 0)) (λ j. 0) j
-        go j (same f b) = rw (put-at tag 0 1 accepted t j e f, set-at 0 (length (children (G .last) 0)) (λ j. 0) j f, ← f) (omega arith)
+        go : (j : ℕ) → Same 0 j → relayedBy G (put tag 0 1 accepted t) j ≡ change 0 (length (children (G .last) 0)) (λ j. 0) j
+        go j (same f b) = rw (put-at tag 0 1 accepted t j e f, change-at 0 (length (children (G .last) 0)) (λ j. 0) j f, ← f) (omega arith)
         go j (other n b) =
-            rw (put-off tag 0 1 accepted t j (λ p. n), set-off 0 (length (children (G .last) 0)) (λ j. 0) j n, h .none-accepted t j (omega arith)) (omega arith)
+            rw (put-off tag 0 1 accepted t j (λ p. n), change-off 0 (length (children (G .last) 0)) (λ j. 0) j n, h .none-accepted t j (omega arith)) (omega arith)
     closed-relays t q (other n d) =
         omega (
           arith,
           h .closed-rounds t (omega arith),
-          set-off tag (written tag + length (children (G .last) 0)) written t n,
+          change-off tag (written tag + length (children (G .last) 0)) written t n,
           sum-agree (G .last) (relayedBy G (put tag 0 1 accepted t)) (relayedBy G (accepted t))
               (λ j l. rw (put-off tag 0 1 accepted t j (λ p. absurd (n p)))),
         )
@@ -268,7 +268,7 @@ module _ (G : Graph) (st : ℕ → ℕ) (fr : List RoundFrame) (tag : ℕ) (writ
               omega (
                 arith,
                 h .later-rounds (suc tag) (omega arith),
-                set-off tag (written tag + length (children (G .last) 0)) written (suc tag) (omega arith),
+                change-off tag (written tag + length (children (G .last) 0)) written (suc tag) (omega arith),
                 sum-constant (G .last) 0,
               );
           closed-rounds = λ t q. closed-relays t q (same? tag t);
@@ -277,7 +277,7 @@ module _ (G : Graph) (st : ℕ → ℕ) (fr : List RoundFrame) (tag : ℕ) (writ
               omega (
                 arith,
                 h .later-rounds t (omega arith),
-                set-off tag (written tag + length (children (G .last) 0)) written t (omega arith),
+                change-off tag (written tag + length (children (G .last) 0)) written t (omega arith),
               );
           none-accepted =
               λ t j q. omega (arith, h .none-accepted t j (omega arith), put-off tag 0 1 accepted t j (λ p. absurd (omega arith)));
@@ -380,8 +380,8 @@ module _ (G : Graph) (st : ℕ → ℕ) (fr : List RoundFrame) (tag : ℕ) (writ
           arith,
           h .closed-rounds t p,
           ap written e,
-          set-at s (written s + length (children (G .last) j)) written t e,
-          sum-agree (G .last) (relayedBy G (accepted′ t)) (set j (suc (accepted t j) * length (children (G .last) j)) (relayedBy G (accepted t)))
+          change-at s (written s + length (children (G .last) j)) written t e,
+          sum-agree (G .last) (relayedBy G (accepted′ t)) (change j (suc (accepted t j) * length (children (G .last) j)) (relayedBy G (accepted t)))
               (λ k l. go k (same? j k)),
           sum-set (G .last) j (suc (accepted t j) * length (children (G .last) j)) (relayedBy G (accepted t)) (bounds (child? (G .last) i j) .1),
         )
@@ -389,14 +389,14 @@ module _ (G : Graph) (st : ℕ → ℕ) (fr : List RoundFrame) (tag : ℕ) (writ
         new : ℕ
         new = suc (accepted t j) * length (children (G .last) j)
 
-        go : (k : ℕ) → Same j k → relayedBy G (accepted′ t) k ≡ set j new (relayedBy G (accepted t)) k
-        go k (same f b) = rw (put-at s j (suc (accepted s j)) accepted t k e f, set-at j new (relayedBy G (accepted t)) k f, e, f)
-        go k (other n b) = rw (put-off s j (suc (accepted s j)) accepted t k (λ p. n), set-off j new (relayedBy G (accepted t)) k n)
+        go : (k : ℕ) → Same j k → relayedBy G (accepted′ t) k ≡ change j new (relayedBy G (accepted t)) k
+        go k (same f b) = rw (put-at s j (suc (accepted s j)) accepted t k e f, change-at j new (relayedBy G (accepted t)) k f, e, f)
+        go k (other n b) = rw (put-off s j (suc (accepted s j)) accepted t k (λ p. n), change-off j new (relayedBy G (accepted t)) k n)
     update-relays t p (other n d) =
         omega (
           arith,
           h .closed-rounds t p,
-          set-off s (written s + length (children (G .last) j)) written t n,
+          change-off s (written s + length (children (G .last) j)) written t n,
           sum-agree (G .last) (relayedBy G (accepted′ t)) (relayedBy G (accepted t))
               (λ k l. rw (put-off s j (suc (accepted s j)) accepted t k (λ p. absurd (n p)))),
         )
@@ -406,10 +406,10 @@ module _ (G : Graph) (st : ℕ → ℕ) (fr : List RoundFrame) (tag : ℕ) (writ
     unfolding raise relayed accepted′
     counts-update =
         record {
-          open-round = omega (arith, h .open-round, set-off s (written s + length (children (G .last) j)) written tag (omega arith));
+          open-round = omega (arith, h .open-round, change-off s (written s + length (children (G .last) j)) written tag (omega arith));
           closed-rounds = λ t p. update-relays t p (same? s t);
           later-rounds =
-              λ t p. omega (arith, h .later-rounds t p, set-off s (written s + length (children (G .last) j)) written t (omega arith));
+              λ t p. omega (arith, h .later-rounds t p, change-off s (written s + length (children (G .last) j)) written t (omega arith));
           none-accepted =
               λ t k p.
               omega (arith, h .none-accepted t k p, put-off s j (suc (accepted s j)) accepted t k (λ e. absurd (omega arith)));

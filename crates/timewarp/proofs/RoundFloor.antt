@@ -3,9 +3,9 @@ use mathlib.Core.Path.{ap}
 use mathlib.Core.Logic.{_≢_}
 use Prim.Native.Nat.{ℕ, _≤_, min}
 use native.Mathlib.Omega.{arith}
-use Rattle.timewarp.specs.Families.{set}
+use Rattle.timewarp.specs.Families.{change}
 use Rattle.timewarp.specs.Round.{counting, noted}
-use Rattle.timewarp.proofs.FamilyLaws.{Same, same, other, same?, set-at, set-off}
+use Rattle.timewarp.proofs.FamilyLaws.{Same, same, other, same?, change-at, change-off}
 use Rattle.timewarp.proofs.RoundArcs.{noted-counting, noted-other}
 use Rattle.timewarp.proofs.RoundQueues.{Arrives, Sends}
 use Rattle.timewarp.proofs.RoundCut.{UnderMarks}
@@ -22,18 +22,18 @@ OnMarks P last st mk = (j : ℕ) → j ≤ last → counting ≤ st j → P (mk 
 
 module _ (P : ℕ → Type 0) (last : ℕ) (st mk : ℕ → ℕ) (u : OnMarks P last st mk) where
   -- one mark is set, and no other gateway begins
-  pub marks-set : (st′ : ℕ → ℕ) (i m : ℕ) → (i ≤ last → counting ≤ st′ i → P m)
+  pub marks-change : (st′ : ℕ → ℕ) (i m : ℕ) → (i ≤ last → counting ≤ st′ i → P m)
       → ((k : ℕ) → i ≢ k → counting ≤ st′ k → counting ≤ st k)
-      → OnMarks P last st′ (set i m mk)
-  marks-set st′ i m p q k l r = go (same? i k)
+      → OnMarks P last st′ (change i m mk)
+  marks-change st′ i m p q k l r = go (same? i k)
     where
-      go : Same i k → P (set i m mk k)
-      go (same e d) = rw (set-at i m mk k e) (p (omega arith) (omega (arith, ap st′ e)))
-      go (other n d) = rw (set-off i m mk k n) (u k l (q k n r))
+      go : Same i k → P (change i m mk k)
+      go (same e d) = rw (change-at i m mk k e) (p (omega arith) (omega (arith, ap st′ e)))
+      go (other n d) = rw (change-off i m mk k n) (u k l (q k n r))
 
   -- a send at i lowers its note
-  pub marks-noted : (i h : ℕ) → (i ≤ last → P (mk i) → P (min (mk i) h)) → OnMarks P last st (set i (noted (st i) (mk i) h) mk)
-  marks-noted i h p = marks-set st i (noted (st i) (mk i) h) (λ l q. go l q (same? (st i) counting)) (λ k n q. q)
+  pub marks-noted : (i h : ℕ) → (i ≤ last → P (mk i) → P (min (mk i) h)) → OnMarks P last st (change i (noted (st i) (mk i) h) mk)
+  marks-noted i h p = marks-change st i (noted (st i) (mk i) h) (λ l q. go l q (same? (st i) counting)) (λ k n q. q)
     where
       go : i ≤ last → counting ≤ st i → Same (st i) counting → P (noted (st i) (mk i) h)
       go l q (same e d) = rw (noted-counting (st i) (mk i) h e) (p l (u i l q))
@@ -58,7 +58,7 @@ module _ (never last : ℕ) (st mk : ℕ → ℕ) (O W O′ W′ : ℕ → ℕ �
       go j l (other n d) = a .elsewhere j g n (f .waiting j l)
 
   pub floor-sends : (i h : ℕ) → i ≤ last → Sends last i h O W O′ W′
-      → Floor never last st (set i (noted (st i) (mk i) h) mk) O′ W′ g
+      → Floor never last st (change i (noted (st i) (mk i) h) mk) O′ W′ g
   floor-sends i h p a =
       record {
         capped = f .capped;

@@ -1,11 +1,11 @@
 -- How many Starts, Lvts and Updates of each kind are under way.
+use mathlib.Core.Bool.{cond}
 use mathlib.Core.List.{List, [], _∷_, map}
 use mathlib.Core.Path.{_≡_, refl}
 use mathlib.Core.Logic.{_≢_}
 use Prim.Native.Nat.{ℕ}
 use native.Mathlib.Omega.{arith}
 use lib.Dec.{eqb}
-use Rattle.timewarp.specs.Families.{pick}
 use Rattle.timewarp.specs.Arcs.{one, times}
 use Rattle.timewarp.specs.Round.{RoundFrame, start, lvt, update}
 use Rattle.timewarp.proofs.FamilyLaws.{Same, same, other, same?}
@@ -13,7 +13,7 @@ use Rattle.timewarp.proofs.Tallies.{tally, tally-none, tally-map, tally
 
 -- 1 if both are equal, else 0
 unfoldable pub both : ℕ → ℕ → ℕ → ℕ → ℕ
-both a b i j = pick (eqb i a) (one b j) 0
+both a b i j = cond (eqb i a) (one b j) 0
 
 -- 1 for a Start from a to b
 unfoldable pub startOn : ℕ → ℕ → RoundFrame → ℕ

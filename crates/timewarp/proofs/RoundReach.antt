@@ -4,10 +4,10 @@ use mathlib.Core.Path.{_≡_, ap}
 use mathlib.Core.Logic.{_≢_}
 use Prim.Native.Nat.{ℕ, zero, suc, _+_, _≤_, _<_}
 use native.Mathlib.Omega.{arith}
-use Rattle.timewarp.specs.Families.{set}
+use Rattle.timewarp.specs.Families.{change}
 use Rattle.timewarp.specs.Arcs.{Graph, Arc}
 use Rattle.timewarp.specs.Round.{idle, counting, stopped, finished, RoundFrame}
-use Rattle.timewarp.proofs.FamilyLaws.{Same, same, other, same?, Set, at, off, set?}
+use Rattle.timewarp.proofs.FamilyLaws.{Same, same, other, same?, Changed, at, off, change?}
 use Rattle.timewarp.proofs.RoundArcs.{fresh, begun, back, StateOf, ArcStates}
 
 module _ (G : Graph) (st mk : ℕ → ℕ) (ar : ℕ → ℕ → ℕ) (fr : List RoundFrame) (h : ArcStates G st mk ar fr) where
@@ -87,18 +87,18 @@ abbrev pub Crest : ℕ → (ℕ → ℕ) → Type 0
 Crest last st = (i : ℕ) → i ≤ last → stopped ≤ st i → stopped ≤ st last
 
 module _ (last : ℕ) (st : ℕ → ℕ) (h : Crest last st) where
-  pub crest-begin : (i : ℕ) → st i ≡ idle → Crest last (set i counting st)
-  crest-begin i p k l q = go (set? i counting st k) (set? i counting st last)
+  pub crest-begin : (i : ℕ) → st i ≡ idle → Crest last (change i counting st)
+  crest-begin i p k l q = go (change? i counting st k) (change? i counting st last)
     where
-      go : Set i counting st k → Set i counting st last → stopped ≤ set i counting st last
+      go : Changed i counting st k → Changed i counting st last → stopped ≤ change i counting st last
       go (at e f) s = absurd (omega arith)
       go (off n f) (at e g) = absurd (omega (arith, ap st e, h k l (omega arith)))
       go (off n f) (off m g) = omega (arith, h k l (omega arith))
 
   -- any later status keeps it, where the last has stopped or is the one
-  pub crest-set : (i s : ℕ) → stopped ≤ s → (i ≢ last → stopped ≤ st last) → Crest last (set i s st)
-  crest-set i s p q k l r = go (set? i s st last)
+  pub crest-change : (i s : ℕ) → stopped ≤ s → (i ≢ last → stopped ≤ st last) → Crest last (change i s st)
+  crest-change i s p q k l r = go (change? i s st last)
     where
-      go : Set i s st last → stopped ≤ set i s st last
+      go : Changed i s st last → stopped ≤ change i s st last
       go (at e f) = omega arith
       go (off n f) = omega (arith, q n)

@@ -5,7 +5,7 @@ use mathlib.Core.Logic.{_≢_}
 use Prim.Native.Nat.{ℕ, suc, _≤_, _<_, min, max}
 use native.Mathlib.Omega.{arith}
 use Rattle.timewarp.specs.Lists.{All, nil, Insert}
-use Rattle.timewarp.specs.Families.{set}
+use Rattle.timewarp.specs.Families.{change}
 use Rattle.timewarp.specs.Arcs.{Graph, Arc, Child, roundMessages, children}
 use Rattle.timewarp.specs.Round.{
   idle,
@@ -44,7 +44,7 @@ use Rattle.timewarp.specs.Round.{
   lvt-in-turn,
   update-in-turn,
 }
-use Rattle.timewarp.proofs.FamilyLaws.{Same, same, other, same?, Set, at, off, set?, set-at, set-off, sum-constant}
+use Rattle.timewarp.proofs.FamilyLaws.{Same, same, other, same?, Changed, at, off, change?, change-at, change-off, sum-constant}
 use Rattle.timewarp.proofs.ListLaws.{all-append, all-taken, all-rest, all-image, all-map, all-every}
 use Rattle.timewarp.proofs.Tallies.{tally, tally-insert}
 use Rattle.timewarp.proofs.RoundFrames.{startOn, lvtOn, updateTo, both-is}
@@ -64,11 +64,11 @@ use Rattle.timewarp.proofs.RoundArcs.{
   arcs-lower,
   noted-other,
 }
-use Rattle.timewarp.proofs.RoundReach.{all-begun, Done, all-done, Crest, crest-begin, crest-set}
-use Rattle.timewarp.proofs.RoundCarried.{Carried, of-start, of-lvt, of-update, carried-on, set-unfinished, starts-carried, lvts-carried, updates-carried, carried-close}
+use Rattle.timewarp.proofs.RoundReach.{all-begun, Done, all-done, Crest, crest-begin, crest-change}
+use Rattle.timewarp.proofs.RoundCarried.{Carried, of-start, of-lvt, of-update, carried-on, change-unfinished, starts-carried, lvts-carried, updates-carried, carried-close}
 use Rattle.timewarp.proofs.RoundQueues.{Downward, Reading, Arrives, Sends}
 use Rattle.timewarp.proofs.RoundCut.{Cut, UnderMarks, cut-begin, cut-stop, cut-fall, cut-finish, cut-arrives, cut-sends}
-use Rattle.timewarp.proofs.RoundFloor.{Floor, OnMarks, marks-set, marks-noted, floor-round, floor-arrives, floor-sends}
+use Rattle.timewarp.proofs.RoundFloor.{Floor, OnMarks, marks-change, marks-noted, floor-round, floor-arrives, floor-sends}
 use Rattle.timewarp.proofs.RoundCounts.{
   Counts,
   spent,
@@ -159,28 +159,28 @@ module _ (G : Graph) (never : ℕ) (O W : ℕ → ℕ → Type 0) (down-O : Down
         crest = crest-begin (G .last) status (s .crest) i p;
         carried =
             all-append
-            (all-map (carried-on G status mark tag st′ mk′ (set-unfinished G status mark tag i counting v (omega arith))) (s .carried))
+            (all-map (carried-on G status mark tag st′ mk′ (change-unfinished G status mark tag i counting v (omega arith))) (s .carried))
             (starts-carried G st′ mk′ tag i);
         cut = cut-begin (G .last) status mark O W down-O down-W (s .cut) i v p (read-O .bound i v x);
-        marks-capped = marks-set (λ m. m ≤ never) (G .last) status mark (s .marks-capped) st′ i v (λ m n. read-O .capped i v x) others;
+        marks-capped = marks-change (λ m. m ≤ never) (G .last) status mark (s .marks-capped) st′ i v (λ m n. read-O .capped i v x) others;
         floor = λ k m. on (agreed k) (s .floor k m);
         update-floor = all-append (all-map (update-hour on) (s .update-floor)) (all-image (λ j. start i j tag) (all-every (λ j. tt) (G .to i)));
         counts = counts-begin G status frames tag written accepted (s .counts) i tag l p;
       }
     where
       st′ : ℕ → ℕ
-      st′ = set i counting status
+      st′ = change i counting status
 
       mk′ : ℕ → ℕ
-      mk′ = set i v mark
+      mk′ = change i v mark
 
       others : (k : ℕ) → i ≢ k → counting ≤ st′ k → counting ≤ status k
-      others k n m = omega (arith, set-off i counting status k n)
+      others k n m = omega (arith, change-off i counting status k n)
 
       on : (g : ℕ) → Floor never (G .last) status mark O W g → Floor never (G .last) st′ mk′ O W g
       on g f =
           floor-round never (G .last) status mark O W O W g f st′ mk′
-          (marks-set (λ m. g ≤ m) (G .last) status mark (f .marks) st′ i v
+          (marks-change (λ m. g ≤ m) (G .last) status mark (f .marks) st′ i v
           (λ m n. read-O .greatest i v g x (f .capped) (f .outstanding i l)) others)
 
   pub sound-hear : (i j t : ℕ) (rest : List RoundFrame) → Insert (start i j t) rest frames → RoundSound G never O W (hear i j rest r)
@@ -202,12 +202,12 @@ module _ (G : Graph) (never : ℕ) (O W : ℕ → ℕ → Type 0) (down-O : Down
   sound-stop i v l p q x =
       record {
         arcs = arcs-stop G status mark arrived frames (s .arcs) i v p;
-        crest = crest-set (G .last) status (s .crest) i stopped (omega arith) (last-stopped q);
+        crest = crest-change (G .last) status (s .crest) i stopped (omega arith) (last-stopped q);
         carried =
-            all-map (carried-on G status mark tag st′ mk′ (set-unfinished G status mark tag i stopped m (omega arith))) (s .carried);
+            all-map (carried-on G status mark tag st′ mk′ (change-unfinished G status mark tag i stopped m (omega arith))) (s .carried);
         cut = cut-stop (G .last) status mark O W down-O down-W (s .cut) i v p (read-W .bound i v x);
         marks-capped =
-            marks-set (λ n. n ≤ never) (G .last) status mark (s .marks-capped) st′ i m
+            marks-change (λ n. n ≤ never) (G .last) status mark (s .marks-capped) st′ i m
             (λ k n. omega (arith, s .marks-capped i l (omega arith))) others;
         floor = λ k n. on (agreed k) (s .floor k n);
         update-floor = all-map (update-hour on) (s .update-floor);
@@ -218,10 +218,10 @@ module _ (G : Graph) (never : ℕ) (O W : ℕ → ℕ → Type 0) (down-O : Down
       m = min (mark i) v
 
       st′ : ℕ → ℕ
-      st′ = set i stopped status
+      st′ = change i stopped status
 
       mk′ : ℕ → ℕ
-      mk′ = set i m mark
+      mk′ = change i m mark
 
       last-stopped : Stops G i r → i ≢ G .last → stopped ≤ status (G .last)
       last-stopped (as-it-starts e) n = absurd (n e)
@@ -230,12 +230,12 @@ module _ (G : Graph) (never : ℕ) (O W : ℕ → ℕ → Type 0) (down-O : Down
           s .crest j (G .upward i j c .1) (omega arith)
 
       others : (k : ℕ) → i ≢ k → counting ≤ st′ k → counting ≤ status k
-      others k n a = omega (arith, set-off i stopped status k n)
+      others k n a = omega (arith, change-off i stopped status k n)
 
       on : (g : ℕ) → Floor never (G .last) status mark O W g → Floor never (G .last) st′ mk′ O W g
       on g f =
           floor-round never (G .last) status mark O W O W g f st′ mk′
-          (marks-set (λ n. g ≤ n) (G .last) status mark (f .marks) st′ i m
+          (marks-change (λ n. g ≤ n) (G .last) status mark (f .marks) st′ i m
           (λ k n. omega (arith, f .marks i l (omega arith), read-W .greatest i v g x (f .capped) (f .waiting i l))) others)
 
   pub sound-lvt : (j i t v : ℕ) (rest : List RoundFrame) → status i ≡ stopped → Insert (lvt j i t v) rest frames
@@ -249,12 +249,12 @@ module _ (G : Graph) (never : ℕ) (O W : ℕ → ℕ → Type 0) (down-O : Down
       m = min (mark i) v
 
       mk′ : ℕ → ℕ
-      mk′ = set i m mark
+      mk′ = change i m mark
 
       on : Arc G i j → status j ≡ finished → v ≡ mark j → (g : ℕ) → Floor never (G .last) status mark O W g → Floor never (G .last) status mk′ O W g
       on c y e g f =
           floor-round never (G .last) status mark O W O W g f status mk′
-          (marks-set (λ n. g ≤ n) (G .last) status mark (f .marks) status i m
+          (marks-change (λ n. g ≤ n) (G .last) status mark (f .marks) status i m
           (λ k n. omega (arith, f .marks i k n, f .marks j (G .upward i j c .1) (omega arith))) (λ k n a. a))
 
       go : Arc G i j → status j ≡ finished → v ≡ mark j → RoundSound G never O W (takeLvt j i v rest r)
@@ -266,11 +266,11 @@ module _ (G : Graph) (never : ℕ) (O W : ℕ → ℕ → Type 0) (down-O : Down
                 all-rest x
                 (all-map
                 (carried-on G status mark tag status mk′
-                (λ k q. (q, set-unfinished G status mark tag i stopped m (omega arith) k q .1)))
+                (λ k q. (q, change-unfinished G status mark tag i stopped m (omega arith) k q .1)))
                 (s .carried));
             cut = cut-fall (G .last) status mark O W down-O down-W (s .cut) i m (omega arith);
             marks-capped =
-                marks-set (λ n. n ≤ never) (G .last) status mark (s .marks-capped) status i m
+                marks-change (λ n. n ≤ never) (G .last) status mark (s .marks-capped) status i m
                 (λ k n. omega (arith, s .marks-capped i k n)) (λ k n a. a);
             floor = λ k n. on c y e (agreed k) (s .floor k n);
             update-floor = all-rest x (all-map (update-hour (on c y e)) (s .update-floor));
@@ -283,10 +283,10 @@ module _ (G : Graph) (never : ℕ) (O W : ℕ → ℕ → Type 0) (down-O : Down
   sound-finish j l p q =
       record {
         arcs = arcs-finish G status mark arrived frames (s .arcs) j tag (mark j) p q;
-        crest = crest-set (G .last) status (s .crest) j finished (omega arith) (λ n. s .crest j l (omega arith));
+        crest = crest-change (G .last) status (s .crest) j finished (omega arith) (λ n. s .crest j l (omega arith));
         carried =
             all-append (all-map (carried-on G status mark tag st′ mark (λ k e. (stays k e (same? j k), refl))) (s .carried))
-            (lvts-carried G st′ mark tag j (set-at j finished status j refl));
+            (lvts-carried G st′ mark tag j (change-at j finished status j refl));
         cut = cut-finish (G .last) status mark O W down-O down-W (s .cut) j p;
         marks-capped = λ k m n. s .marks-capped k m (begun-before k n (same? j k));
         floor = λ k m. on (agreed k) (s .floor k m);
@@ -296,15 +296,15 @@ module _ (G : Graph) (never : ℕ) (O W : ℕ → ℕ → Type 0) (down-O : Down
       }
     where
       st′ : ℕ → ℕ
-      st′ = set j finished status
+      st′ = change j finished status
 
       stays : (k : ℕ) → status k ≡ finished → Same j k → st′ k ≡ finished
-      stays k e (same d f) = set-at j finished status k d
-      stays k e (other n f) = omega (arith, set-off j finished status k n)
+      stays k e (same d f) = change-at j finished status k d
+      stays k e (other n f) = omega (arith, change-off j finished status k n)
 
       begun-before : (k : ℕ) → counting ≤ st′ k → Same j k → counting ≤ status k
       begun-before k n (same d f) = omega (arith, ap status d)
-      begun-before k n (other m f) = omega (arith, set-off j finished status k m)
+      begun-before k n (other m f) = omega (arith, change-off j finished status k m)
 
       on : (g : ℕ) → Floor never (G .last) status mark O W g → Floor never (G .last) st′ mark O W g
       on g f =
@@ -346,7 +346,7 @@ module _ (G : Graph) (never : ℕ) (O W : ℕ → ℕ → Type 0) (down-O : Down
               (updates-carried G (λ i. idle) mark (suc tag) 0 tag (mark 0) (omega arith));
           cut = λ g u j l. record { outstanding = λ n. absurd (omega arith); waiting = λ n. absurd (omega arith) };
           marks-capped = λ j l n. absurd (omega arith);
-          floor = λ k l. kept k l (set? 0 (mark 0) agreed k);
+          floor = λ k l. kept k l (change? 0 (mark 0) agreed k);
           update-floor =
               all-append (all-map (update-hour on) (s .update-floor))
               (all-image (λ k. update 0 k tag (mark 0)) (all-every (λ k. close-floor) (children (G .last) 0)));
@@ -363,8 +363,8 @@ module _ (G : Graph) (never : ℕ) (O W : ℕ → ℕ → Type 0) (down-O : Down
         on : (g : ℕ) → Floor never (G .last) status mark O W g → Floor never (G .last) (λ i. idle) mark O W g
         on g f = floor-round never (G .last) status mark O W O W g f (λ i. idle) mark (λ k l n. absurd (omega arith))
 
-        kept : (k : ℕ) → k ≤ G .last → Set 0 (mark 0) agreed k
-            → Floor never (G .last) (λ i. idle) mark O W (set 0 (mark 0) agreed k)
+        kept : (k : ℕ) → k ≤ G .last → Changed 0 (mark 0) agreed k
+            → Floor never (G .last) (λ i. idle) mark O W (change 0 (mark 0) agreed k)
         kept k l (at e d) = rw d close-floor
         kept k l (off n d) = rw d (on (agreed k) (s .floor k l))
 
@@ -378,8 +378,8 @@ module _ (G : Graph) (never : ℕ) (O W : ℕ → ℕ → Type 0) (down-O : Down
       new : Floor never (G .last) status mark O W v
       new = all-taken x (s .update-floor)
 
-      kept : j ≤ G .last → (k : ℕ) → k ≤ G .last → Set j (max (agreed j) v) agreed k
-          → Floor never (G .last) status mark O W (set j (max (agreed j) v) agreed k)
+      kept : j ≤ G .last → (k : ℕ) → k ≤ G .last → Changed j (max (agreed j) v) agreed k
+          → Floor never (G .last) status mark O W (change j (max (agreed j) v) agreed k)
       kept b k l (at e d) = rw d (max-either (Floor never (G .last) status mark O W) (agreed j) v (s .floor j b) new)
       kept b k l (off n d) = rw d (s .floor k l)
 
@@ -392,7 +392,7 @@ module _ (G : Graph) (never : ℕ) (O W : ℕ → ℕ → Type 0) (down-O : Down
             carried = all-append (all-rest x (s .carried)) (updates-carried G status mark tag j t v l);
             cut = s .cut;
             marks-capped = s .marks-capped;
-            floor = λ k m. kept (y .2) k m (set? j (max (agreed j) v) agreed k);
+            floor = λ k m. kept (y .2) k m (change? j (max (agreed j) v) agreed k);
             update-floor =
                 all-append (all-rest x (s .update-floor))
                 (all-image (λ k. update j k t v) (all-every (λ k. new) (children (G .last) j)));
@@ -417,14 +417,14 @@ module _ (G : Graph) (never : ℕ) (O W : ℕ → ℕ → Type 0) (down-O : Down
   agreed-rises (stops i v l p q x) k = omega arith
   agreed-rises (takes-lvt j i t v p x) k = omega arith
   agreed-rises (finishes j n l p q) k = omega arith
-  agreed-rises (closes p q) k = go (set? 0 (mark 0) agreed k)
+  agreed-rises (closes p q) k = go (change? 0 (mark 0) agreed k)
     where
-      go : Set 0 (mark 0) agreed k → agreed k ≤ set 0 (mark 0) agreed k
+      go : Changed 0 (mark 0) agreed k → agreed k ≤ change 0 (mark 0) agreed k
       go (at e d) = omega (arith, s .floor 0 (omega arith) .marks 0 (omega arith) (omega arith), ap agreed e)
       go (off n d) = omega arith
-  agreed-rises (takes-update i j t v x) k = go (set? j (max (agreed j) v) agreed k)
+  agreed-rises (takes-update i j t v x) k = go (change? j (max (agreed j) v) agreed k)
     where
-      go : Set j (max (agreed j) v) agreed k → agreed k ≤ set j (max (agreed j) v) agreed k
+      go : Changed j (max (agreed j) v) agreed k → agreed k ≤ change j (max (agreed j) v) agreed k
       go (at e d) = omega (arith, ap agreed e)
       go (off n d) = omega arith
 
@@ -461,7 +461,7 @@ module _ (G : Graph) (never : ℕ) (O W : ℕ → ℕ → Type 0) (r : Rounds) (
       record {
         arcs = arcs-lower G status mark arrived frames (s .arcs) i h;
         crest = s .crest;
-        carried = all-map (carried-on G status mark tag status (set i m mark) (λ k e. (e, stays k e (same? i k)))) (s .carried);
+        carried = all-map (carried-on G status mark tag status (change i m mark) (λ k e. (e, stays k e (same? i k)))) (s .carried);
         cut = cut-sends (G .last) status mark O W down-O down-W (s .cut) all-after-stop O′ W′ i h a;
         marks-capped = marks-noted (λ n. n ≤ never) (G .last) status mark (s .marks-capped) i h (λ p q. omega arith);
         floor = λ k p. on (agreed k) (s .floor k p);
@@ -472,12 +472,12 @@ module _ (G : Graph) (never : ℕ) (O W : ℕ → ℕ → Type 0) (r : Rounds) (
       m : ℕ
       m = noted (status i) (mark i) h
 
-      stays : (k : ℕ) → status k ≡ finished → Same i k → set i m mark k ≡ mark k
+      stays : (k : ℕ) → status k ≡ finished → Same i k → change i m mark k ≡ mark k
       stays k e (same d f) =
-          omega (arith, set-at i m mark k d, noted-other (status i) (mark i) h (omega (arith, ap status d)), ap mark d)
-      stays k e (other n f) = set-off i m mark k n
+          omega (arith, change-at i m mark k d, noted-other (status i) (mark i) h (omega (arith, ap status d)), ap mark d)
+      stays k e (other n f) = change-off i m mark k n
 
-      on : (g : ℕ) → Floor never (G .last) status mark O W g → Floor never (G .last) status (set i m mark) O′ W′ g
+      on : (g : ℕ) → Floor never (G .last) status mark O W g → Floor never (G .last) status (change i m mark) O′ W′ g
       on g f = floor-sends never (G .last) status mark O W O′ W′ g f i h l a
 
   -- a completed round wrote two messages an arc and one for each gateway but 0

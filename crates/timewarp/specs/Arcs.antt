@@ -1,14 +1,15 @@
 -- The arcs that a round goes along, known by their laws alone, and the tree that its result goes down.
+use mathlib.Core.Bool.{cond}
 use mathlib.Core.List.{List, [], _∷_, _++_}
 use mathlib.Core.Path.{_≡_}
 use Prim.Native.Nat.{ℕ, _+_, _*_, _≤_, _<_}
 use lib.Dec.{eqb, leb}
 use lib.ListN.{length}
-use Rattle.timewarp.specs.Families.{pick, sum}
+use Rattle.timewarp.specs.Families.{sum}
 
 -- 1 if n is m, else 0
 unfoldable pub one : ℕ → ℕ → ℕ
-one n m = pick (eqb n m) 1 0
+one n m = cond (eqb n m) 1 0
 
 -- how often n stands in a list
 unfoldable pub times : ℕ → List ℕ → ℕ
@@ -47,7 +48,7 @@ roundMessages G = 2 * arcCount G + G .last
 
 -- n as a list, if there is a gateway n
 unfoldable pub ifGateway : ℕ → ℕ → List ℕ
-ifGateway last n = pick (leb n last) (n ∷ []) []
+ifGateway last n = cond (leb n last) (n ∷ []) []
 
 -- where i sends an Update on to: 2 i + 1 and 2 i + 2, if there are such gateways
 unfoldable pub children : ℕ → ℕ → List ℕ

@@ -1,5 +1,5 @@
 -- What a gateway's calls make of the world where they refuse nothing: work, taking a message, taking a cancel.
-use mathlib.Core.Bool.{Bool, true, false, cond}
+use mathlib.Core.Bool.{Bool, true, false, cond, cond}
 use mathlib.Core.List.{List, [], _∷_, _++_, map}
 use Prim.Native.Nat.{ℕ, zero, suc}
 use Rattle.timewarp.specs.Events.{Model, sentBy}

@@ -1,7 +1,7 @@
 -- The gateways' queues and outstanding lists, and the events under way between them.
 use mathlib.Core.List.{List, [], _∷_, _++_}
 use Prim.Native.Nat.{ℕ}
-use Rattle.timewarp.specs.Families.{set}
+use Rattle.timewarp.specs.Families.{change}
 use Rattle.timewarp.specs.Events.{Model}
 
 -- What is sent as an event: a message, or the cancel of one.
@@ -48,7 +48,7 @@ module _ {Message : Type 0} where
 
   -- The data after gateway i has become g and the network n.
   unfoldable pub after : ℕ → Gateway Message → Network Message → Data Message → Data Message
-  after i g n d = record { gateways = set i g (d .gateways); network = n }
+  after i g n d = record { gateways = change i g (d .gateways); network = n }
 
 -- Before the first step every gateway has its opening list pending.
 unfoldable pub openingData : (M : Model) → Data (M .Message)

@@ -4,7 +4,7 @@ use mathlib.Core.Path.{_≡_}
 use Prim.Native.Nat.{ℕ, zero, suc, _+_, _≤_, _<_, min, max}
 use lib.ListN.{length}
 use Rattle.timewarp.specs.Lists.{Insert}
-use Rattle.timewarp.specs.Families.{set, put}
+use Rattle.timewarp.specs.Families.{change, put}
 use Rattle.timewarp.specs.Arcs.{Graph, Arc, Child, children}
 
 -- A gateway's status in the open round: it has not sent its Starts; it has, and each of its sends lowers its note;
@@ -64,7 +64,7 @@ opening =
 
 -- the family f with n added at i
 unfoldable pub raise : ℕ → ℕ → (ℕ → ℕ) → ℕ → ℕ
-raise i n f = set i (f i + n) f
+raise i n f = change i (f i + n) f
 
 -- What a gateway's note or value becomes when it sends a message or cancel of hour h: only a note is lowered.
 unfoldable pub noted : ℕ → ℕ → ℕ → ℕ
@@ -78,7 +78,7 @@ lower i h r =
     record {
       agreed = r .agreed;
       status = r .status;
-      mark = set i (noted (r .status i) (r .mark i) h) (r .mark);
+      mark = change i (noted (r .status i) (r .mark i) h) (r .mark);
       arrived = r .arrived;
       frames = r .frames;
       tag = r .tag;
@@ -91,8 +91,8 @@ unfoldable pub begin : Graph → ℕ → ℕ → Rounds → Rounds
 begin G i v r =
     record {
       agreed = r .agreed;
-      status = set i counting (r .status);
-      mark = set i v (r .mark);
+      status = change i counting (r .status);
+      mark = change i v (r .mark);
       arrived = r .arrived;
       frames = r .frames ++ map (λ j. start i j (r .tag)) (G .to i);
       tag = r .tag;
@@ -119,8 +119,8 @@ unfoldable pub stop : ℕ → ℕ → Rounds → Rounds
 stop i v r =
     record {
       agreed = r .agreed;
-      status = set i stopped (r .status);
-      mark = set i (min (r .mark i) v) (r .mark);
+      status = change i stopped (r .status);
+      mark = change i (min (r .mark i) v) (r .mark);
       arrived = r .arrived;
       frames = r .frames;
       tag = r .tag;
@@ -134,7 +134,7 @@ takeLvt j i h rest r =
     record {
       agreed = r .agreed;
       status = r .status;
-      mark = set i (min (r .mark i) h) (r .mark);
+      mark = change i (min (r .mark i) h) (r .mark);
       arrived = put i j 2 (r .arrived);
       frames = rest;
       tag = r .tag;
@@ -147,7 +147,7 @@ unfoldable pub finish : Graph → ℕ → Rounds → Rounds
 finish G j r =
     record {
       agreed = r .agreed;
-      status = set j finished (r .status);
+      status = change j finished (r .status);
       mark = r .mark;
       arrived = r .arrived;
       frames = r .frames ++ map (λ i. lvt j i (r .tag) (r .mark j)) (G .from j);
@@ -161,7 +161,7 @@ finish G j r =
 unfoldable pub close : Graph → Rounds → Rounds
 close G r =
     record {
-      agreed = set 0 (r .mark 0) (r .agreed);
+      agreed = change 0 (r .mark 0) (r .agreed);
       status = λ i. idle;
       mark = r .mark;
       arrived = λ i j. 0;
@@ -175,7 +175,7 @@ close G r =
 unfoldable pub takeUpdate : Graph → ℕ → ℕ → ℕ → List RoundFrame → Rounds → Rounds
 takeUpdate G j t h rest r =
     record {
-      agreed = set j (max (r .agreed j) h) (r .agreed);
+      agreed = change j (max (r .agreed j) h) (r .agreed);
       status = r .status;
       mark = r .mark;
       arrived = r .arrived;

@@ -3,8 +3,8 @@ use mathlib.Core.List.{List, [], _∷_, _++_}
 use Prim.Native.Nat.{ℕ, zero, suc, _+_, _-_}
 use native.Mathlib.Decide.{decLt, ℕ-discrete}
 use lib.Dec.{ltb, eqb}
-use mathlib.Core.Bool.{Bool, true, false}
-use Rattle.timewarp.specs.Families.{pick, set}
+use mathlib.Core.Bool.{Bool, true, false, cond}
+use Rattle.timewarp.specs.Families.{change}
 use Rattle.timewarp.specs.Events.{Model, hour, sentBy}
 
 -- The lists of gateways 0 to n, one behind the other.
@@ -16,7 +16,7 @@ together (suc n) f = together n f ++ f (suc n)
 unfoldable pub notLater : List ℕ → List ℕ → Bool
 notLater [] l = true
 notLater (a ∷ k) [] = false
-notLater (a ∷ k) (b ∷ l) = pick (ltb a b) true (pick (eqb a b) (notLater k l) false)
+notLater (a ∷ k) (b ∷ l) = cond (ltb a b) true (cond (eqb a b) (notLater k l) false)
 
 -- Its list of messages, and for each gateway what was done there, the newest in front.
 pub record Queue (Message : Type 0) : Type 0 where
@@ -29,12 +29,12 @@ module _ (M : Model) where
   -- The first of m and l in event order.
   unfoldable pub earliest : Message → List Message → Message
   earliest m [] = m
-  earliest m (n ∷ l) = let e = earliest n l in pick (notLater (key m) (key e)) m e
+  earliest m (n ∷ l) = let e = earliest n l in cond (notLater (key m) (key e)) m e
 
   -- m and l without the first of them.
   unfoldable pub others : Message → List Message → List Message
   others m [] = []
-  others m (n ∷ l) = let r = m ∷ others n l in pick (notLater (key m) (key (earliest n l))) (n ∷ l) r
+  others m (n ∷ l) = let r = m ∷ others n l in cond (notLater (key m) (key (earliest n l))) (n ∷ l) r
 
   -- At first all opening lists together, and nothing is done.
   unfoldable pub openingQueue : Queue Message
@@ -42,7 +42,7 @@ module _ (M : Model) where
 
   -- The gateway in its to does m. What is sent joins the list.
   unfoldable pub doNext : Message → List Message → (ℕ → List Message) → Queue Message
-  doNext m rest h = record { list = sentBy M (to m) (h (to m)) m ++ rest; done = set (to m) (m ∷ h (to m)) h }
+  doNext m rest h = record { list = sentBy M (to m) (h (to m)) m ++ rest; done = change (to m) (m ∷ h (to m)) h }
 
   -- A step takes the first message in event order out of the list and does it. With the list empty it has ended.
   unfoldable pub next : List Message → (ℕ → List Message) → Queue Message
