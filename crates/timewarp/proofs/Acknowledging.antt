@@ -4,11 +4,11 @@ use mathlib.Core.Path.{_≡_, refl, sym, ap, subst, _∙_}
 use mathlib.Core.Logic.{_≢_}
 use Prim.Native.Nat.{ℕ, _+_, _≤_, _<_}
 use native.Mathlib.Omega.{arith}
-use Rattle.timewarp.specs.Lists.{All, nil, cons, Insert}
+use Rattle.timewarp.specs.Lists.{All, nil, cons, Insert, count}
 use Rattle.timewarp.specs.Events.{Model, hour, sentBy}
 use Rattle.timewarp.specs.Gateways.{Event, plain, cancel, message, Gateway, Network, history}
 use Rattle.timewarp.specs.EventSteps.{EventStep, does, undoes, takes, takesAcknowledgment, commits}
-use Rattle.timewarp.proofs.ListLaws.{all-image, count, count-insert, count-inserts, count-none, one-other}
+use Rattle.timewarp.proofs.ListLaws.{all-image, count-insert, count-inserts, count-none, one-other}
 use Rattle.timewarp.proofs.OrderLaws.{event-eq}
 use Rattle.timewarp.proofs.Addressing.{sent-from}
 use Rattle.timewarp.proofs.StepLaws.{taking-outstanding}

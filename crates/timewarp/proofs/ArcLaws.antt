@@ -3,20 +3,16 @@ use mathlib.Core.Bool.{Bool, true, false, cond}
 use mathlib.Core.List.{List, [], _∷_, _++_}
 use mathlib.Core.Path.{_≡_, refl}
 use Prim.Native.Nat.{ℕ, zero, suc, _+_, _*_, _-_, _/_, _≤_, _<_, min}
+use native.Mathlib.Decide.{ℕ-discrete}
 use native.Mathlib.Omega.{arith}
 use lib.Dec.{leb, leb→le, nleb→lt}
 use lib.ListN.{length, length-append}
-use Rattle.timewarp.specs.Lists.{All, cons}
+use Rattle.timewarp.specs.Lists.{All, cons, one, count, tally}
 use Rattle.timewarp.specs.Families.{change, sum}
-use Rattle.timewarp.specs.Arcs.{Graph, Child, one, times, arcCount, roundMessages, ifGateway, children}
+use Rattle.timewarp.specs.Arcs.{Graph, Child, times, arcCount, roundMessages, ifGateway, children}
+use Rattle.timewarp.proofs.ListLaws.{one-equal, one-other, count-append}
 use Rattle.timewarp.proofs.FamilyLaws.{Same, same, other, same?, Changed, at, off, change?, sum-agree, sum-add, sum-swap, sum-set, sum-at-most, sum-constant}
-use Rattle.timewarp.proofs.RoundFrames.{one-is, one-not}
 use Rattle.timewarp.proofs.RoundCarried.{all-times}
-
-times-append : (n : ℕ) (l m : List ℕ) → times n (l ++ m) ≡ times n l + times n m
-unfolding times
-times-append n [] m = omega arith
-times-append n (k ∷ l) m = omega (arith, times-append n l m)
 
 -- j is the gateway n of the list, or does not stand in it
 data InIfGateway (last n j : ℕ) : Type 0 where
@@ -24,20 +20,20 @@ data InIfGateway (last n j : ℕ) : Type 0 where
   is-not-it : times j (ifGateway last n) ≡ 0 → InIfGateway last n j
 
 in-ifGateway? : (last n j : ℕ) → InIfGateway last n j
-unfolding ifGateway times
+unfolding ifGateway count tally
 in-ifGateway? last n j = go (leb n last) refl (same? n j)
   where
     go : (b : Bool) → leb n last ≡ b → Same n j → InIfGateway last n j
-    go true e (same p d) = is-it (p, leb→le n last (rw e tt), rw e (omega (arith, one-is j n (omega arith))))
-    go true e (other p d) = is-not-it (rw e (omega (arith, one-not j n (omega arith))))
+    go true e (same p d) = is-it (p, leb→le n last (rw e tt), rw e (omega (arith, one-equal ℕ-discrete {a = j} {b = n} (omega arith))))
+    go true e (other p d) = is-not-it (rw e (omega (arith, one-other ℕ-discrete {a = j} {b = n} (omega arith))))
     go false e d = is-not-it (rw e)
 
 in-ifGateway : (last n j : ℕ) → n ≡ j → j ≤ last → times j (ifGateway last n) ≡ 1
-unfolding ifGateway times
+unfolding ifGateway count tally
 in-ifGateway last n j p l = go (leb n last) refl
   where
     go : (b : Bool) → leb n last ≡ b → times j (ifGateway last n) ≡ 1
-    go true e = rw e (omega (arith, one-is j n (omega arith)))
+    go true e = rw e (omega (arith, one-equal ℕ-discrete {a = j} {b = n} (omega arith)))
     go false e = absurd (omega (arith, nleb→lt n last (rw e tt)))
 
 length-ifGateway : (last n : ℕ) → length (ifGateway last n) ≡ min 1 (suc last - n)
@@ -58,7 +54,7 @@ unfolding children
 child? last i j = go (in-ifGateway? last (2 * i + 1) j) (in-ifGateway? last (2 * i + 2) j)
   where
     whole : times j (children last i) ≡ times j (ifGateway last (2 * i + 1)) + times j (ifGateway last (2 * i + 2))
-    whole = times-append j (ifGateway last (2 * i + 1)) (ifGateway last (2 * i + 2))
+    whole = count-append ℕ-discrete j (ifGateway last (2 * i + 1)) (ifGateway last (2 * i + 2))
 
     go : InIfGateway last (2 * i + 1) j → InIfGateway last (2 * i + 2) j → ChildOf last i j
     go (is-it p) (is-it q) = absurd (omega arith)
@@ -75,7 +71,7 @@ parent last j p l = (i, omega arith, go (same? (2 * i + 1) j))
     i = (j - 1) / 2
 
     whole : times j (children last i) ≡ times j (ifGateway last (2 * i + 1)) + times j (ifGateway last (2 * i + 2))
-    whole = times-append j (ifGateway last (2 * i + 1)) (ifGateway last (2 * i + 2))
+    whole = count-append ℕ-discrete j (ifGateway last (2 * i + 1)) (ifGateway last (2 * i + 2))
 
     go : Same (2 * i + 1) j → Child last i j
     go (same e d) = omega (arith, whole, in-ifGateway last (2 * i + 1) j e l)
@@ -105,21 +101,21 @@ all-children last = omega (arith, children-sum last last)
 
 -- a list's length, counted by the numbers in it
 length-times : (n : ℕ) (l : List ℕ) → ((k : ℕ) → 1 ≤ times k l → k ≤ n) → sum n (λ k. times k l) ≡ length l
-unfolding times
+unfolding count tally
 length-times n [] h = omega (arith, sum-constant n 0)
 length-times n (m ∷ l) h =
-    omega (arith, sum-add n (λ k. one k m) (λ k. times k l), length-times n l (λ k p. h k (omega arith)), once-m)
+    omega (arith, sum-add n (λ k. one ℕ-discrete k m) (λ k. times k l), length-times n l (λ k p. h k (omega arith)), once-m)
   where
-    agrees : (k : ℕ) → Changed {A = ℕ} m 1 (λ j. 0) k → one k m ≡ change m 1 (λ j. 0) k
-    agrees k (at p e) = omega (arith, one-is k m (omega arith))
-    agrees k (off p e) = omega (arith, one-not k m (omega arith))
+    agrees : (k : ℕ) → Changed {A = ℕ} m 1 (λ j. 0) k → one ℕ-discrete k m ≡ change m 1 (λ j. 0) k
+    agrees k (at p e) = omega (arith, one-equal ℕ-discrete {a = k} {b = m} (omega arith))
+    agrees k (off p e) = omega (arith, one-other ℕ-discrete {a = k} {b = m} (omega arith))
 
-    once-m : sum n (λ k. one k m) ≡ 1
+    once-m : sum n (λ k. one ℕ-discrete k m) ≡ 1
     once-m =
         omega (
           arith,
-          sum-agree n (λ k. one k m) (change m 1 (λ j. 0)) (λ k q. agrees k (change? m 1 (λ j. 0) k)),
-          sum-set n m 1 (λ j. 0) (h m (omega (arith, one-is m m refl))),
+          sum-agree n (λ k. one ℕ-discrete k m) (change m 1 (λ j. 0)) (λ k q. agrees k (change? m 1 (λ j. 0) k)),
+          sum-set n m 1 (λ j. 0) (h m (omega (arith, one-equal ℕ-discrete {a = m} {b = m} refl))),
           sum-constant n 0,
         )
 

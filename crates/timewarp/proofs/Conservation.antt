@@ -4,11 +4,11 @@ use mathlib.Core.Path.{_≡_, refl, sym, ap, subst, _∙_}
 use mathlib.Core.Logic.{_≢_}
 use Prim.Native.Nat.{ℕ, _+_, _≤_, _<_}
 use native.Mathlib.Omega.{arith}
-use Rattle.timewarp.specs.Lists.{All, nil, cons, Insert}
+use Rattle.timewarp.specs.Lists.{All, nil, cons, Insert, count, one}
 use Rattle.timewarp.specs.Events.{Model, hour, sentBy}
 use Rattle.timewarp.specs.Gateways.{Event, plain, cancel, message, Gateway, Network, history}
 use Rattle.timewarp.specs.EventSteps.{EventStep, does, undoes, takes, takesAcknowledgment, commits, Taking, becomesPending, meetsCancel, strikesOut, waits}
-use Rattle.timewarp.proofs.ListLaws.{count, count-append, count-insert, one, one-other}
+use Rattle.timewarp.proofs.ListLaws.{count-append, count-insert, one-other}
 use Rattle.timewarp.proofs.OrderLaws.{message-eq, event-eq}
 use Rattle.timewarp.proofs.EventCounts.{times, events, plain-injective, cancel-injective, plain-no-cancel, cancel-no-plain, insert-own, inserts-own, insert-other, inserts-other, times-cons, times-insert}
 use Rattle.timewarp.proofs.StepLaws.{history-undone, history-committed, taking-history}

@@ -4,10 +4,10 @@ use mathlib.Core.Path.{_≡_, refl, sym, ap, subst, _∙_}
 use mathlib.Core.Logic.{_≢_}
 use Prim.Native.Nat.{ℕ, _+_, _≤_, _<_}
 use native.Mathlib.Omega.{arith}
-use Rattle.timewarp.specs.Lists.{All, nil, cons, Insert, Inserts}
+use Rattle.timewarp.specs.Lists.{All, nil, cons, Insert, Inserts, count, one}
 use Rattle.timewarp.specs.Events.{Model}
 use Rattle.timewarp.specs.Gateways.{Event, plain, cancel}
-use Rattle.timewarp.proofs.ListLaws.{count, count-cons, count-insert, count-inserts, count-image, count-none, one, one-other, one-image, all-image, all-every}
+use Rattle.timewarp.proofs.ListLaws.{count-cons, count-insert, count-inserts, count-image, count-none, one-other, one-image, all-image, all-every}
 use Rattle.timewarp.proofs.OrderLaws.{message-eq, event-eq}
 
 pub plain-injective : {A : Type 0} (x y : A) → plain x ≡ plain y → x ≡ y

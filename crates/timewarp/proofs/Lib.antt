@@ -13,7 +13,6 @@ pub mod Uniqueness
 pub mod QueueLaws
 pub mod Histories
 pub mod Effects
-pub mod Tallies
 pub mod RoundQueues
 pub mod RoundArcs
 pub mod RoundFrames

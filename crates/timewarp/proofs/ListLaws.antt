@@ -4,7 +4,7 @@ use mathlib.Core.Path.{_≡_, refl, sym, ap, subst, _∙_}
 use mathlib.Core.Logic.{_≢_}
 use Prim.Native.Nat.{ℕ, zero, suc, _+_, _≤_, _<_, min}
 use native.Mathlib.Omega.{arith}
-use Rattle.timewarp.specs.Lists.{All, nil, cons, Insert, here, there, Inserts, nothing, more, least}
+use Rattle.timewarp.specs.Lists.{All, nil, cons, Insert, here, there, Inserts, nothing, more, least, tally, one, count}
 
 module _ {A : Type 0} {p : A → Type 0} where
   pub all-head : {a : A} {l : List A} → All p (a ∷ l) → p a
@@ -88,16 +88,40 @@ module _ {A : Type 0} where
   inserts-back [] l = rw append-nil nothing
   inserts-back (a ∷ s) l = more (insert-last a l) (rw append-assoc at (inserts-back s (l ++ (a ∷ []))))
 
--- how often an element stands in a list, with equality decided
+-- Tallies.
+module _ {A : Type 0} (f : A → ℕ) where
+  pub tally-append : (l m : List A) → tally f (l ++ m) ≡ tally f l + tally f m
+  unfolding tally
+  tally-append [] m = omega arith
+  tally-append (a ∷ l) m = omega (arith, tally-append l m)
+
+  pub tally-insert : {a : A} {l m : List A} → Insert a l m → tally f m ≡ f a + tally f l
+  unfolding tally
+  tally-insert here = refl
+  tally-insert (there i) = omega (arith, tally-insert i)
+
+  pub tally-inserts : {s l m : List A} → Inserts s l m → tally f m ≡ tally f s + tally f l
+  unfolding tally
+  tally-inserts nothing = omega arith
+  tally-inserts (more i r) = omega (arith, tally-insert i, tally-inserts r)
+
+  pub tally-none : {l : List A} → All (λ a. f a ≡ 0) l → tally f l ≡ 0
+  unfolding tally
+  tally-none nil = refl
+  tally-none (cons e t) = omega (arith, tally-none t)
+
+  pub tally-map : {B : Type 0} (g : B → A) (l : List B) → tally f (map g l) ≡ tally (λ b. f (g b)) l
+  unfolding tally
+  tally-map g [] = refl
+  tally-map g (b ∷ l) = omega (arith, tally-map g l)
+
+pub tally-agree : {A : Type 0} (f g : A → ℕ) (l : List A) → ((a : A) → f a ≡ g a) → tally f l ≡ tally g l
+unfolding tally
+tally-agree f g [] e = refl
+tally-agree f g (a ∷ l) e = omega (arith, e a, tally-agree f g l e)
+
+-- Counts.
 module _ {A : Type 0} (eq : Discrete A) where
-  -- 1 for equal elements, else 0
-  pub one : A → A → ℕ
-  one a b = elim (eq a b) [ yes e ↦ 1 | no e ↦ 0 ]
-
-  pub count : A → List A → ℕ
-  count a [] = 0
-  count a (b ∷ l) = one a b + count a l
-
   one-when : {a b : A} → a ≡ b → (d : Dec (a ≡ b)) → _≡_ {A = ℕ} (elim d [ yes e ↦ 1 | no e ↦ 0 ]) 1
   one-when h (yes e) = refl
   one-when h (no e) = absurd (e h)
@@ -106,58 +130,57 @@ module _ {A : Type 0} (eq : Discrete A) where
   one-unless h (yes e) = absurd (h e)
   one-unless h (no e) = refl
 
-  pub one-same : (a : A) → one a a ≡ 1
+  pub one-equal : {a b : A} → a ≡ b → one eq a b ≡ 1
   unfolding one
-  one-same a = one-when refl (eq a a)
+  one-equal {a} {b} h = one-when h (eq a b)
 
-  pub one-other : {a b : A} → a ≢ b → one a b ≡ 0
+  pub one-same : (a : A) → one eq a a ≡ 1
+  one-same a = one-equal refl
+
+  pub one-other : {a b : A} → a ≢ b → one eq a b ≡ 0
   unfolding one
   one-other {a} {b} h = one-unless h (eq a b)
 
-  pub count-nil : (x : A) → count x [] ≡ 0
-  unfolding count
+  pub count-nil : (x : A) → count eq x [] ≡ 0
+  unfolding count tally
   count-nil x = refl
 
-  pub count-cons : (x a : A) (l : List A) → count x (a ∷ l) ≡ one x a + count x l
-  unfolding count
+  pub count-cons : (x a : A) (l : List A) → count eq x (a ∷ l) ≡ one eq x a + count eq x l
+  unfolding count tally
   count-cons x a l = refl
 
-  pub count-append : (x : A) (l m : List A) → count x (l ++ m) ≡ count x l + count x m
+  pub count-append : (x : A) (l m : List A) → count eq x (l ++ m) ≡ count eq x l + count eq x m
   unfolding count
-  count-append x [] m = omega arith
-  count-append x (a ∷ l) m = omega (arith, count-append x l m)
+  count-append x = tally-append (one eq x)
 
-  pub count-insert : (x : A) {a : A} {l m : List A} → Insert a l m → count x m ≡ one x a + count x l
+  pub count-insert : (x : A) {a : A} {l m : List A} → Insert a l m → count eq x m ≡ one eq x a + count eq x l
   unfolding count
-  count-insert x here = refl
-  count-insert x (there i) = omega (arith, count-insert x i)
+  count-insert x i = tally-insert (one eq x) i
 
-  pub count-inserts : (x : A) {s l m : List A} → Inserts s l m → count x m ≡ count x s + count x l
+  pub count-inserts : (x : A) {s l m : List A} → Inserts s l m → count eq x m ≡ count eq x s + count eq x l
   unfolding count
-  count-inserts x nothing = omega arith
-  count-inserts x (more i r) = omega (arith, count-insert x i, count-inserts x r)
+  count-inserts x i = tally-inserts (one eq x) i
 
   -- An element that lacks what all have does not occur.
-  pub count-none : {p : A → Type 0} (x : A) {l : List A} → All p l → (p x → ⊥) → count x l ≡ 0
+  pub count-none : {p : A → Type 0} (x : A) {l : List A} → All p l → (p x → ⊥) → count eq x l ≡ 0
   unfolding count
-  count-none x nil f = refl
-  count-none {p} x (cons {a = a} h t) f = omega (arith, one-other {a = x} {b = a} (λ e. f (subst p (sym e) h)), count-none x t f)
+  count-none {p} x h f = tally-none (one eq x) (all-map (λ a k. one-other {a = x} {b = a} (λ e. f (subst p (sym e) k))) h)
 
   -- An element that occurs can be taken out.
-  pub found : (x : A) (l : List A) → 1 ≤ count x l → (rest : List A) × Insert x rest l
-  unfolding count
+  pub found : (x : A) (l : List A) → 1 ≤ count eq x l → (rest : List A) × Insert x rest l
+  unfolding count tally
   found x [] h = absurd (omega arith)
   found x (a ∷ l) h = go (eq x a) (found x l)
     where
-      go : Dec (x ≡ a) → (1 ≤ count x l → (rest : List A) × Insert x rest l) → (rest : List A) × Insert x rest (a ∷ l)
+      go : Dec (x ≡ a) → (1 ≤ count eq x l → (rest : List A) × Insert x rest l) → (rest : List A) × Insert x rest (a ∷ l)
       go (yes e) k = (l, subst (λ (y : A). Insert x l (y ∷ l)) e here)
       go (no e) k = let r : (rest : List A) × Insert x rest l = k (omega (arith, one-other e)) in (a ∷ r .0, there (r .1))
 
-  pub all-count : {p : A → Type 0} (x : A) {l : List A} → All p l → 1 ≤ count x l → p x
+  pub all-count : {p : A → Type 0} (x : A) {l : List A} → All p l → 1 ≤ count eq x l → p x
   all-count x h k = all-taken (found x _ k .1) h
 
-  pub count-all : {p : A → Type 0} (l : List A) → ((x : A) → 1 ≤ count x l → p x) → All p l
-  unfolding count
+  pub count-all : {p : A → Type 0} (l : List A) → ((x : A) → 1 ≤ count eq x l → p x) → All p l
+  unfolding count tally
   count-all [] f = nil
   count-all (a ∷ l) f = cons (f a (omega (arith, one-same a))) (count-all l (λ x h. f x (omega arith)))
 
@@ -172,8 +195,8 @@ module _ {A B : Type 0} (eq : Discrete A) (eq′ : Discrete B) where
 
   pub count-image : (f : A → B) → ((a b : A) → f a ≡ f b → a ≡ b) → (x : A) (l : List A) → count eq′ (f x) (map f l) ≡ count eq x l
   unfolding count
-  count-image f inj x [] = refl
-  count-image f inj x (a ∷ l) = omega (arith, one-image f inj x a, count-image f inj x l)
+  count-image f inj x l =
+      omega (arith, tally-map (one eq′ (f x)) f l, tally-agree (λ a. one eq′ (f x) (f a)) (one eq x) l (one-image f inj x))
 
 module _ {A : Type 0} (never : ℕ) (f : A → ℕ) where
   pub least-never : (l : List A) → least never f l ≤ never

@@ -7,11 +7,11 @@ use Prim.Native.Nat.{ℕ, zero, suc, _+_, _≤_, _<_}
 use native.Mathlib.Omega.{arith}
 use native.Mathlib.Decide.{ℕ-discrete, decLt}
 use lib.Dec.{T, ltb, eqb, ltb→lt, lt→ltb, nltb→le, eqb→eq, eqb-refl}
-use Rattle.timewarp.specs.Lists.{All, nil, cons}
+use Rattle.timewarp.specs.Lists.{All, nil, cons, one, count}
 use Rattle.timewarp.specs.Events.{first, KeyNotLater, ended, less, same, Model, hour, NotLater}
 use Rattle.timewarp.specs.SingleQueue.{notLater}
 use Rattle.timewarp.specs.Gateways.{Event, plain, cancel, message}
-use Rattle.timewarp.proofs.ListLaws.{one, count, one-same, one-other, count-nil, count-cons, all-count, all-head, all-tail}
+use Rattle.timewarp.proofs.ListLaws.{one-same, one-other, count-nil, count-cons, all-count, all-head, all-tail}
 
 pub key-refl : (k : List ℕ) → KeyNotLater k k
 key-refl [] = ended

@@ -3,15 +3,15 @@ use mathlib.Core.List.{List, [], _∷_, map}
 use mathlib.Core.Path.{_≡_, refl, ap}
 use mathlib.Core.Logic.{_≢_}
 use Prim.Native.Nat.{ℕ, suc, _≤_, _<_}
+use native.Mathlib.Decide.{ℕ-discrete}
 use native.Mathlib.Omega.{arith}
 use Rattle.timewarp.specs.Lists.{All, nil, cons, Insert}
 use Rattle.timewarp.specs.Families.{change}
 use Rattle.timewarp.specs.Arcs.{Graph, Arc, Child, times, children}
 use Rattle.timewarp.specs.Round.{idle, finished, RoundFrame, start, lvt, update}
 use Rattle.timewarp.proofs.FamilyLaws.{Same, same, other, same?, change-off}
-use Rattle.timewarp.proofs.ListLaws.{all-member, all-taken, all-image, all-map}
-use Rattle.timewarp.proofs.Tallies.{tally-insert}
-use Rattle.timewarp.proofs.RoundFrames.{one-is, one-not, startOn, lvtOn, both-is}
+use Rattle.timewarp.proofs.ListLaws.{all-member, all-taken, all-image, all-map, tally-insert, count-all, all-count}
+use Rattle.timewarp.proofs.RoundFrames.{startOn, lvtOn, both-is}
 use Rattle.timewarp.proofs.RoundArcs.{fresh, begun, back, StateOf, ArcStates}
 
 pub data Carried (G : Graph) (st mk : ℕ → ℕ) (tag : ℕ) : RoundFrame → Type 0 where
@@ -31,26 +31,14 @@ module _ {G : Graph} {st mk : ℕ → ℕ} {tag i j t : ℕ} where
 
 -- every element of a list stands in it
 pub all-times : (l : List ℕ) → All (λ j. 1 ≤ times j l) l
-unfolding times
-all-times [] = nil
-all-times (m ∷ l) = cons {a = m} (omega (arith, one-is m m refl)) (all-map (λ j h. omega arith) (all-times l))
+all-times l = count-all ℕ-discrete l (λ j h. h)
 
--- what every element has, a number that stands in the list has
-pub all-at : {P : ℕ → Type 0} (l : List ℕ) → All P l → (k : ℕ) → 1 ≤ times k l → P k
-unfolding times
-all-at {P} [] nil k x = absurd (omega arith)
-all-at {P} (m ∷ l) (cons h t) k x = go (same? m k) (λ y. all-at l t k y)
-  where
-    go : Same m k → (1 ≤ times k l → P k) → P k
-    go (same e d) f = rw e at h
-    go (other n d) f = f (omega (arith, one-not k m (omega arith)))
-
--- so what is checked of each of `to i`, or of `from j`, holds along each arc from i, or to j
+-- what is checked of each of `to i`, or of `from j`, holds along each arc from i, or to j
 pub all-to : {P : ℕ → Type 0} (G : Graph) (i : ℕ) → All P (G .to i) → (k : ℕ) → Arc G i k → P k
-all-to G i h k c = all-at (G .to i) h k c
+all-to G i h k c = all-count ℕ-discrete k h c
 
 pub all-from : {P : ℕ → Type 0} (G : Graph) (j : ℕ) → All P (G .from j) → (k : ℕ) → Arc G k j → P k
-all-from G j h k c = all-at (G .from j) h k (omega (arith, G .matched k j))
+all-from G j h k c = all-count ℕ-discrete k h (omega (arith, G .matched k j))
 
 module _ (G : Graph) (st mk : ℕ → ℕ) (tag : ℕ) where
   -- a change that leaves the finished gateways as they are

@@ -5,12 +5,12 @@ use mathlib.Core.Logic.{_≢_}
 use Prim.Native.Nat.{ℕ, zero, suc, _+_, _*_, _≤_, _<_}
 use native.Mathlib.Omega.{arith}
 use lib.ListN.{length}
-use Rattle.timewarp.specs.Lists.{Insert}
+use Rattle.timewarp.specs.Lists.{Insert, tally}
 use Rattle.timewarp.specs.Families.{change, put, sum}
 use Rattle.timewarp.specs.Arcs.{Graph, Child, times, arcCount, roundMessages, children}
 use Rattle.timewarp.specs.Round.{idle, counting, stopped, finished, RoundFrame, start, lvt, update, raise}
+use Rattle.timewarp.proofs.ListLaws.{tally-append, tally-insert}
 use Rattle.timewarp.proofs.FamilyLaws.{Same, same, other, same?, change-at, change-off, put-at, put-off, sum-agree, sum-add, sum-set, sum-constant}
-use Rattle.timewarp.proofs.Tallies.{tally, tally-append, tally-insert}
 use Rattle.timewarp.proofs.RoundFrames.{both, both-is, both-not, updateTo, sent-first, sent-not-first, sent-none}
 use Rattle.timewarp.proofs.ArcLaws.{ChildOf, child, no-child, child?, parent, all-children, arcs-at-receivers, none-to-0}
 

@@ -4,16 +4,18 @@ use mathlib.Core.List.{List, [], _∷_, map}
 use mathlib.Core.Path.{_≡_, refl}
 use mathlib.Core.Logic.{_≢_}
 use Prim.Native.Nat.{ℕ}
+use native.Mathlib.Decide.{ℕ-discrete}
 use native.Mathlib.Omega.{arith}
 use lib.Dec.{eqb}
-use Rattle.timewarp.specs.Arcs.{one, times}
+use Rattle.timewarp.specs.Lists.{tally, one, count}
+use Rattle.timewarp.specs.Arcs.{times}
 use Rattle.timewarp.specs.Round.{RoundFrame, start, lvt, update}
+use Rattle.timewarp.proofs.ListLaws.{tally-none, tally-map, tally-agree, one-equal, one-other, all-every}
 use Rattle.timewarp.proofs.FamilyLaws.{Same, same, other, same?}
-use Rattle.timewarp.proofs.Tallies.{tally, tally-none, tally-map, tally-agree}
 
 -- 1 if both are equal, else 0
 unfoldable pub both : ℕ → ℕ → ℕ → ℕ → ℕ
-both a b i j = cond (eqb i a) (one b j) 0
+both a b i j = cond (eqb i a) (one ℕ-discrete b j) 0
 
 -- 1 for a Start from a to b
 unfoldable pub startOn : ℕ → ℕ → RoundFrame → ℕ
@@ -33,27 +35,11 @@ updateTo s b (start i j t) = 0
 updateTo s b (lvt i j t h) = 0
 updateTo s b (update i j t h) = both s b t j
 
-pub one-is : (n m : ℕ) → n ≡ m → one n m ≡ 1
-unfolding one
-one-is n m p = go (same? n m)
-  where
-    go : Same n m → one n m ≡ 1
-    go (same q e) = rw e
-    go (other k e) = absurd (k p)
-
-pub one-not : (n m : ℕ) → n ≢ m → one n m ≡ 0
-unfolding one
-one-not n m k = go (same? n m)
-  where
-    go : Same n m → one n m ≡ 0
-    go (same q e) = absurd (k q)
-    go (other q e) = rw e
-
-both-first : (a b i j : ℕ) → i ≡ a → both a b i j ≡ one b j
+both-first : (a b i j : ℕ) → i ≡ a → both a b i j ≡ one ℕ-discrete b j
 unfolding both
 both-first a b i j p = go (same? i a)
   where
-    go : Same i a → both a b i j ≡ one b j
+    go : Same i a → both a b i j ≡ one ℕ-discrete b j
     go (same q e) = rw e
     go (other k e) = absurd (k p)
 
@@ -66,19 +52,14 @@ both-not-first a b i j n = go (same? i a)
     go (other k e) = rw e
 
 pub both-is : (a b i j : ℕ) → i ≡ a → j ≡ b → both a b i j ≡ 1
-both-is a b i j p q = omega (arith, both-first a b i j p, one-is b j (omega arith))
+both-is a b i j p q = omega (arith, both-first a b i j p, one-equal ℕ-discrete {a = b} {b = j} (omega arith))
 
 pub both-not : (a b i j : ℕ) → (i ≡ a → j ≢ b) → both a b i j ≡ 0
 both-not a b i j n = go (same? i a)
   where
     go : Same i a → both a b i j ≡ 0
-    go (same p e) = omega (arith, both-first a b i j p, one-not b j (λ q. n p (omega arith)))
+    go (same p e) = omega (arith, both-first a b i j p, one-other ℕ-discrete {a = b} {b = j} (λ q. n p (omega arith)))
     go (other k e) = both-not-first a b i j k
-
-times-tally : (n : ℕ) (l : List ℕ) → times n l ≡ tally (one n) l
-unfolding times tally
-times-tally n [] = refl
-times-tally n (m ∷ l) = omega (arith, times-tally n l)
 
 -- frames that a list of receivers is sent, each with i first: they count for i alone, each receiver as often as listed
 module _ (w : ℕ → ℕ → RoundFrame → ℕ) (f : ℕ → RoundFrame) (i : ℕ) (e : (a b j : ℕ) → w a b (f j) ≡ both a b i j) where
@@ -87,18 +68,18 @@ module _ (w : ℕ → ℕ → RoundFrame → ℕ) (f : ℕ → RoundFrame) (i : 
       omega (
         arith,
         tally-map (w a b) f l,
-        tally-none (λ j. w a b (f j)) l (λ j. omega (arith, e a b j, both-not-first a b i j n)),
+        tally-none (λ j. w a b (f j)) (all-every (λ j. omega (arith, e a b j, both-not-first a b i j n)) l),
       )
 
   pub sent-first : (a b : ℕ) (l : List ℕ) → i ≡ a → tally (w a b) (map f l) ≡ times b l
+  unfolding count
   sent-first a b l p =
       omega (
         arith,
         tally-map (w a b) f l,
-        tally-agree (λ j. w a b (f j)) (one b) l (λ j. omega (arith, e a b j, both-first a b i j p)),
-        times-tally b l,
+        tally-agree (λ j. w a b (f j)) (one ℕ-discrete b) l (λ j. omega (arith, e a b j, both-first a b i j p)),
       )
 
 -- frames of another kind do not count
 pub sent-none : (w : RoundFrame → ℕ) (f : ℕ → RoundFrame) (l : List ℕ) → ((j : ℕ) → w (f j) ≡ 0) → tally w (map f l) ≡ 0
-sent-none w f l z = omega (arith, tally-map w f l, tally-none (λ j. w (f j)) l z)
+sent-none w f l z = omega (arith, tally-map w f l, tally-none (λ j. w (f j)) (all-every z l))

@@ -4,7 +4,7 @@ use mathlib.Core.Path.{_≡_, refl, ap}
 use mathlib.Core.Logic.{_≢_}
 use Prim.Native.Nat.{ℕ, suc, _≤_, _<_, min, max}
 use native.Mathlib.Omega.{arith}
-use Rattle.timewarp.specs.Lists.{All, nil, Insert}
+use Rattle.timewarp.specs.Lists.{All, nil, Insert, tally}
 use Rattle.timewarp.specs.Families.{change}
 use Rattle.timewarp.specs.Arcs.{Graph, Arc, Child, roundMessages, children}
 use Rattle.timewarp.specs.Round.{
@@ -45,8 +45,7 @@ use Rattle.timewarp.specs.Round.{
   update-in-turn,
 }
 use Rattle.timewarp.proofs.FamilyLaws.{Same, same, other, same?, Changed, at, off, change?, change-at, change-off, sum-constant}
-use Rattle.timewarp.proofs.ListLaws.{all-append, all-taken, all-rest, all-image, all-map, all-every}
-use Rattle.timewarp.proofs.Tallies.{tally, tally-insert}
+use Rattle.timewarp.proofs.ListLaws.{all-append, all-taken, all-rest, all-image, all-map, all-every, tally-insert}
 use Rattle.timewarp.proofs.RoundFrames.{startOn, lvtOn, updateTo, both-is}
 use Rattle.timewarp.proofs.RoundArcs.{
   fresh,

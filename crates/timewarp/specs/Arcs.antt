@@ -3,18 +3,15 @@ use mathlib.Core.Bool.{cond}
 use mathlib.Core.List.{List, [], _∷_, _++_}
 use mathlib.Core.Path.{_≡_}
 use Prim.Native.Nat.{ℕ, _+_, _*_, _≤_, _<_}
-use lib.Dec.{eqb, leb}
+use native.Mathlib.Decide.{ℕ-discrete}
+use lib.Dec.{leb}
 use lib.ListN.{length}
+use Rattle.timewarp.specs.Lists.{count}
 use Rattle.timewarp.specs.Families.{sum}
 
--- 1 if n is m, else 0
-unfoldable pub one : ℕ → ℕ → ℕ
-one n m = cond (eqb n m) 1 0
-
 -- how often n stands in a list
-unfoldable pub times : ℕ → List ℕ → ℕ
-times n [] = 0
-times n (m ∷ l) = one n m + times n l
+abbrev pub times : ℕ → List ℕ → ℕ
+times n l = count ℕ-discrete n l
 
 -- The gateways are 0 to last. A Start goes from i to each of `to i`, an Lvt from j to each of `from j`.
 pub record Graph : Type 0 where

@@ -1,7 +1,6 @@
--- Lists as the definitions speak of them: a property of every element, and elements put in at some place.
+-- Lists as the definitions speak of them: a property of every element, elements put in at some place, and counts.
 use mathlib.Core.List.{List, [], _∷_}
-use mathlib.Core.Path.{_≡_}
-use Prim.Native.Nat.{ℕ, min}
+use Prim.Native.Nat.{ℕ, _+_, min}
 
 -- Every element has the property.
 pub data All {A : Type 0} (p : A → Type 0) : List A → Type 0 where
@@ -22,3 +21,16 @@ pub data Inserts {A : Type 0} : List A → List A → List A → Type 0 where
 unfoldable pub least : {A : Type 0} → ℕ → (A → ℕ) → List A → ℕ
 least never f [] = never
 least never f (a ∷ l) = min (f a) (least never f l)
+
+-- What f gives for each element of the list, added up.
+unfoldable pub tally : {A : Type 0} → (A → ℕ) → List A → ℕ
+tally f [] = 0
+tally f (a ∷ l) = f a + tally f l
+
+-- 1 for equal elements, else 0.
+unfoldable pub one : {A : Type 0} → Discrete A → A → A → ℕ
+one eq a b = elim (eq a b) [ yes e ↦ 1 | no e ↦ 0 ]
+
+-- How often an element stands in the list.
+unfoldable pub count : {A : Type 0} → Discrete A → A → List A → ℕ
+count eq a l = tally (one eq a) l
