@@ -1,14 +1,14 @@
 -- Outstanding: each event is outstanding at its sender as often as it or its acknowledgment is under way.
-use mathlib.Core.List.{List, [], _∷_, _++_, map}
-use mathlib.Core.Path.{_≡_, refl, sym, ap, subst, _∙_}
+use mathlib.Core.List.{List, _++_}
+use mathlib.Core.Path.{_≡_, refl, ap, _∙_}
 use mathlib.Core.Logic.{_≢_}
-use Prim.Native.Nat.{ℕ, _+_, _≤_, _<_}
+use Prim.Native.Nat.{ℕ, _+_}
 use native.Mathlib.Omega.{arith}
-use Rattle.timewarp.specs.Lists.{All, nil, cons, Insert, count}
-use Rattle.timewarp.specs.Events.{Model, hour, sentBy}
+use Rattle.timewarp.specs.Lists.{All, count}
+use Rattle.timewarp.specs.Events.{Model}
 use Rattle.timewarp.specs.Gateways.{Event, plain, cancel, message, Gateway, Network, history}
 use Rattle.timewarp.specs.EventSteps.{EventStep, does, undoes, takes, takesAcknowledgment, commits}
-use Rattle.timewarp.proofs.ListLaws.{all-image, count-insert, count-inserts, count-none, one-other}
+use Rattle.timewarp.proofs.ListLaws.{all-image, count-insert, count-inserts, count-none, matches-other}
 use Rattle.timewarp.proofs.OrderLaws.{event-eq}
 use Rattle.timewarp.proofs.Addressing.{sent-from}
 use Rattle.timewarp.proofs.StepLaws.{taking-outstanding}
@@ -57,5 +57,5 @@ module _ (M : Model) where
   settled-elsewhere (takes x under ack here taking) e k =
       omega (arith, count-insert (event-eq M) e under, count-insert (event-eq M) e ack)
   settled-elsewhere {i} (takesAcknowledgment x ack here out) e k =
-      omega (arith, count-insert (event-eq M) e ack, one-other (event-eq M) {a = e} {b = x} (λ p. k (ap (λ y. from (message y)) p ∙ here)))
+      omega (arith, count-insert (event-eq M) e ack, matches-other (event-eq M) {a = e} {b = x} (λ p. k (ap (λ y. from (message y)) p ∙ here)))
   settled-elsewhere (commits m first due) e k = refl

@@ -1,17 +1,17 @@
 -- Laws of the arcs and of the tree of Updates: arcs counted at both ends, one parent each, messages of a whole round.
 use mathlib.Core.Bool.{Bool, true, false, cond}
-use mathlib.Core.List.{List, [], _∷_, _++_}
+use mathlib.Core.List.{List, [], _∷_}
 use mathlib.Core.Path.{_≡_, refl}
 use Prim.Native.Nat.{ℕ, zero, suc, _+_, _*_, _-_, _/_, _≤_, _<_, min}
 use native.Mathlib.Decide.{ℕ-discrete}
 use native.Mathlib.Omega.{arith}
 use lib.Dec.{leb, leb→le, nleb→lt}
 use lib.ListN.{length, length-append}
-use Rattle.timewarp.specs.Lists.{All, cons, one, count, tally}
+use Rattle.timewarp.specs.Lists.{All, cons, matches, count, tally}
 use Rattle.timewarp.specs.Families.{change, sum}
 use Rattle.timewarp.specs.Arcs.{Graph, Child, times, arcCount, roundMessages, ifGateway, children}
-use Rattle.timewarp.proofs.ListLaws.{one-equal, one-other, count-append}
-use Rattle.timewarp.proofs.FamilyLaws.{Same, same, other, same?, Changed, at, off, change?, sum-agree, sum-add, sum-swap, sum-set, sum-at-most, sum-constant}
+use Rattle.timewarp.proofs.ListLaws.{matches-equal, matches-other, count-append}
+use Rattle.timewarp.proofs.FamilyLaws.{Same, same, other, same?, Changed, at, off, change?, sum-agree, sum-add, sum-swap, sum-change, sum-at-most, sum-constant}
 use Rattle.timewarp.proofs.RoundCarried.{all-times}
 
 -- j is the gateway n of the list, or does not stand in it
@@ -24,8 +24,8 @@ unfolding ifGateway count tally
 in-ifGateway? last n j = go (leb n last) refl (same? n j)
   where
     go : (b : Bool) → leb n last ≡ b → Same n j → InIfGateway last n j
-    go true e (same p d) = is-it (p, leb→le n last (rw e tt), rw e (omega (arith, one-equal ℕ-discrete {a = j} {b = n} (omega arith))))
-    go true e (other p d) = is-not-it (rw e (omega (arith, one-other ℕ-discrete {a = j} {b = n} (omega arith))))
+    go true e (same p d) = is-it (p, leb→le n last (rw e tt), rw e (omega (arith, matches-equal ℕ-discrete {a = j} {b = n} (omega arith))))
+    go true e (other p d) = is-not-it (rw e (omega (arith, matches-other ℕ-discrete {a = j} {b = n} (omega arith))))
     go false e d = is-not-it (rw e)
 
 in-ifGateway : (last n j : ℕ) → n ≡ j → j ≤ last → times j (ifGateway last n) ≡ 1
@@ -33,7 +33,7 @@ unfolding ifGateway count tally
 in-ifGateway last n j p l = go (leb n last) refl
   where
     go : (b : Bool) → leb n last ≡ b → times j (ifGateway last n) ≡ 1
-    go true e = rw e (omega (arith, one-equal ℕ-discrete {a = j} {b = n} (omega arith)))
+    go true e = rw e (omega (arith, matches-equal ℕ-discrete {a = j} {b = n} (omega arith)))
     go false e = absurd (omega (arith, nleb→lt n last (rw e tt)))
 
 length-ifGateway : (last n : ℕ) → length (ifGateway last n) ≡ min 1 (suc last - n)
@@ -104,18 +104,18 @@ length-times : (n : ℕ) (l : List ℕ) → ((k : ℕ) → 1 ≤ times k l → k
 unfolding count tally
 length-times n [] h = omega (arith, sum-constant n 0)
 length-times n (m ∷ l) h =
-    omega (arith, sum-add n (λ k. one ℕ-discrete k m) (λ k. times k l), length-times n l (λ k p. h k (omega arith)), once-m)
+    omega (arith, sum-add n (λ k. matches ℕ-discrete k m) (λ k. times k l), length-times n l (λ k p. h k (omega arith)), once-m)
   where
-    agrees : (k : ℕ) → Changed {A = ℕ} m 1 (λ j. 0) k → one ℕ-discrete k m ≡ change m 1 (λ j. 0) k
-    agrees k (at p e) = omega (arith, one-equal ℕ-discrete {a = k} {b = m} (omega arith))
-    agrees k (off p e) = omega (arith, one-other ℕ-discrete {a = k} {b = m} (omega arith))
+    agrees : (k : ℕ) → Changed {A = ℕ} m 1 (λ j. 0) k → matches ℕ-discrete k m ≡ change m 1 (λ j. 0) k
+    agrees k (at p e) = omega (arith, matches-equal ℕ-discrete {a = k} {b = m} (omega arith))
+    agrees k (off p e) = omega (arith, matches-other ℕ-discrete {a = k} {b = m} (omega arith))
 
-    once-m : sum n (λ k. one ℕ-discrete k m) ≡ 1
+    once-m : sum n (λ k. matches ℕ-discrete k m) ≡ 1
     once-m =
         omega (
           arith,
-          sum-agree n (λ k. one ℕ-discrete k m) (change m 1 (λ j. 0)) (λ k q. agrees k (change? m 1 (λ j. 0) k)),
-          sum-set n m 1 (λ j. 0) (h m (omega (arith, one-equal ℕ-discrete {a = m} {b = m} refl))),
+          sum-agree n (λ k. matches ℕ-discrete k m) (change m 1 (λ j. 0)) (λ k q. agrees k (change? m 1 (λ j. 0) k)),
+          sum-change n m 1 (λ j. 0) (λ k x. x) (h m (omega (arith, matches-equal ℕ-discrete {a = m} {b = m} refl))),
           sum-constant n 0,
         )
 

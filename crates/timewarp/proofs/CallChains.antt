@@ -1,15 +1,15 @@
 -- The calls are chains of elementary steps.
 use mathlib.Core.Bool.{Bool, true, false, cond, cond}
 use mathlib.Core.List.{List, [], _∷_, _++_, map}
-use mathlib.Core.Path.{_≡_, refl, sym, ap, subst, _∙_}
-use Prim.Native.Nat.{ℕ, zero, suc, _≤_, _<_}
+use mathlib.Core.Path.{_≡_, refl, sym, ap, subst}
+use Prim.Native.Nat.{ℕ, zero, suc, _≤_}
 use native.Mathlib.Omega.{arith}
-use Rattle.timewarp.specs.Lists.{All, nil, cons, Insert, here, there, Inserts}
+use Rattle.timewarp.specs.Lists.{All, nil, cons, Insert, here, there}
 use Rattle.timewarp.specs.Events.{Model, hour, NotLater, sentBy}
 use Rattle.timewarp.specs.SingleQueue.{notLater, earliest, others}
-use Rattle.timewarp.specs.Gateways.{Event, plain, cancel, message, Gateway, Network, Data, history, after}
-use Rattle.timewarp.specs.EventSteps.{EventStep, does, undoes, takes, Taking, becomesPending, meetsCancel, strikesOut, waits}
-use Rattle.timewarp.specs.Worlds.{Setting, World, Step, event, Steps, none, then, lowerAll}
+use Rattle.timewarp.specs.Gateways.{Event, plain, cancel, message, Gateway, history, after}
+use Rattle.timewarp.specs.EventSteps.{does, undoes, takes, Taking, becomesPending, meetsCancel, strikesOut, waits}
+use Rattle.timewarp.specs.Worlds.{Setting, World, Step, event, Steps, none, then}
 use Rattle.timewarp.specs.Calls.{has, without, same, sameEvent, enqueue, becomes, doMessage, doEarliest, work, undoMessage, undoLater, undoBackTo, accept, acceptMet, acceptPending, acceptStriking, acceptWaiting, takePlain, takeCancel}
 use Rattle.timewarp.proofs.ListLaws.{insert-last, inserts-back, all-taken, all-map, all-left}
 use Rattle.timewarp.proofs.FamilyLaws.{change-at}

@@ -1,14 +1,14 @@
 -- Conservation: for each message, what was there at first, was sent or is cancelled is done, pending or under way.
-use mathlib.Core.List.{List, [], _∷_, _++_, map}
-use mathlib.Core.Path.{_≡_, refl, sym, ap, subst, _∙_}
+use mathlib.Core.List.{List, [], _∷_, _++_}
+use mathlib.Core.Path.{_≡_, sym, ap, _∙_}
 use mathlib.Core.Logic.{_≢_}
-use Prim.Native.Nat.{ℕ, _+_, _≤_, _<_}
+use Prim.Native.Nat.{ℕ, _+_}
 use native.Mathlib.Omega.{arith}
-use Rattle.timewarp.specs.Lists.{All, nil, cons, Insert, count, one}
-use Rattle.timewarp.specs.Events.{Model, hour, sentBy}
+use Rattle.timewarp.specs.Lists.{Insert}
+use Rattle.timewarp.specs.Events.{Model, sentBy}
 use Rattle.timewarp.specs.Gateways.{Event, plain, cancel, message, Gateway, Network, history}
 use Rattle.timewarp.specs.EventSteps.{EventStep, does, undoes, takes, takesAcknowledgment, commits, Taking, becomesPending, meetsCancel, strikesOut, waits}
-use Rattle.timewarp.proofs.ListLaws.{count-append, count-insert, one-other}
+use Rattle.timewarp.proofs.ListLaws.{count-append, count-insert, matches-other}
 use Rattle.timewarp.proofs.OrderLaws.{message-eq, event-eq}
 use Rattle.timewarp.proofs.EventCounts.{times, events, plain-injective, cancel-injective, plain-no-cancel, cancel-no-plain, insert-own, inserts-own, insert-other, inserts-other, times-cons, times-insert}
 use Rattle.timewarp.proofs.StepLaws.{history-undone, history-committed, taking-history}
@@ -102,8 +102,8 @@ module _ (M : Model) where
     taken-elsewhere {e} i h =
         let p : cancel x ≢ e = λ q. h (sym (ap (λ y. to (message y)) q)) in
         let r : plain x ≢ e = λ q. h (sym (ap (λ y. to (message y)) q)) in (
-          omega (arith, count-insert (event-eq M) (cancel x) i, one-other (event-eq M) p),
-          omega (arith, count-insert (event-eq M) (plain x) i, one-other (event-eq M) r),
+          omega (arith, count-insert (event-eq M) (cancel x) i, matches-other (event-eq M) p),
+          omega (arith, count-insert (event-eq M) (plain x) i, matches-other (event-eq M) r),
         )
 
     -- At a gateway that x is not addressed to.

@@ -1,13 +1,13 @@
 -- Counts of messages, and of the events of either sense that carry or cancel them.
-use mathlib.Core.List.{List, [], _∷_, _++_, map}
-use mathlib.Core.Path.{_≡_, refl, sym, ap, subst, _∙_}
+use mathlib.Core.List.{List, _∷_, map}
+use mathlib.Core.Path.{_≡_, refl}
 use mathlib.Core.Logic.{_≢_}
-use Prim.Native.Nat.{ℕ, _+_, _≤_, _<_}
+use Prim.Native.Nat.{ℕ, _+_}
 use native.Mathlib.Omega.{arith}
-use Rattle.timewarp.specs.Lists.{All, nil, cons, Insert, Inserts, count, one}
+use Rattle.timewarp.specs.Lists.{Insert, Inserts, count, matches}
 use Rattle.timewarp.specs.Events.{Model}
 use Rattle.timewarp.specs.Gateways.{Event, plain, cancel}
-use Rattle.timewarp.proofs.ListLaws.{count-cons, count-insert, count-inserts, count-image, count-none, one-other, one-image, all-image, all-every}
+use Rattle.timewarp.proofs.ListLaws.{count-cons, count-insert, count-inserts, count-image, count-none, matches-other, matches-image, all-image, all-every}
 use Rattle.timewarp.proofs.OrderLaws.{message-eq, event-eq}
 
 pub plain-injective : {A : Type 0} (x y : A) → plain x ≡ plain y → x ≡ y
@@ -34,8 +34,8 @@ module _ (M : Model) where
 
   -- Of the sense c, events of the sense c count as their messages do.
   module _ (c : Message → Event Message) (injective : (x y : Message) → c x ≡ c y → x ≡ y) (x : Message) where
-    pub insert-own : {m : Message} {l k : List (Event Message)} → Insert (c m) l k → events (c x) k ≡ one (message-eq M) x m + events (c x) l
-    insert-own {m} i = omega (arith, count-insert (event-eq M) (c x) i, one-image (message-eq M) (event-eq M) c injective x m)
+    pub insert-own : {m : Message} {l k : List (Event Message)} → Insert (c m) l k → events (c x) k ≡ matches (message-eq M) x m + events (c x) l
+    insert-own {m} i = omega (arith, count-insert (event-eq M) (c x) i, matches-image (message-eq M) (event-eq M) c injective x m)
 
     pub inserts-own : (s : List Message) {l k : List (Event Message)} → Inserts (map c s) l k → events (c x) k ≡ times x s + events (c x) l
     inserts-own s i = omega (arith, count-inserts (event-eq M) (c x) i, count-image (message-eq M) (event-eq M) c injective x s)
@@ -43,7 +43,7 @@ module _ (M : Model) where
   -- Of the sense c, events of the sense d do not count.
   module _ (c d : Message → Event Message) (apart : (x y : Message) → c x ≢ d y) (x : Message) where
     pub insert-other : {m : Message} {l k : List (Event Message)} → Insert (d m) l k → events (c x) k ≡ events (c x) l
-    insert-other {m} i = omega (arith, count-insert (event-eq M) (c x) i, one-other (event-eq M) (apart x m))
+    insert-other {m} i = omega (arith, count-insert (event-eq M) (c x) i, matches-other (event-eq M) (apart x m))
 
     pub inserts-other : (s : List Message) {l k : List (Event Message)} → Inserts (map d s) l k → events (c x) k ≡ events (c x) l
     inserts-other s i =
@@ -53,8 +53,8 @@ module _ (M : Model) where
           count-none (event-eq M) {p = λ e. c x ≢ e} (c x) (all-image d (all-every (apart x) s)) (λ f. f refl),
         )
 
-  pub times-cons : (x m : Message) (l : List Message) → times x (m ∷ l) ≡ one (message-eq M) x m + times x l
+  pub times-cons : (x m : Message) (l : List Message) → times x (m ∷ l) ≡ matches (message-eq M) x m + times x l
   times-cons x m l = count-cons (message-eq M) x m l
 
-  pub times-insert : (x : Message) {m : Message} {l k : List Message} → Insert m l k → times x k ≡ one (message-eq M) x m + times x l
+  pub times-insert : (x : Message) {m : Message} {l k : List Message} → Insert m l k → times x k ≡ matches (message-eq M) x m + times x l
   times-insert x i = count-insert (message-eq M) x i

@@ -2,7 +2,7 @@
 use mathlib.Core.Bool.{Bool, true, false}
 use mathlib.Core.Path.{_≡_, refl, ap, subst}
 use mathlib.Core.Logic.{_≢_}
-use Prim.Native.Nat.{ℕ, zero, suc, _+_, _*_, _≤_, _<_}
+use Prim.Native.Nat.{ℕ, zero, suc, _+_, _*_, _≤_}
 use native.Mathlib.Omega.{arith}
 use lib.Dec.{T, eqb, eqb→eq, eqb-refl}
 use Rattle.timewarp.specs.Families.{change, put, sum}
@@ -19,7 +19,7 @@ same? i k = go (eqb i k) refl
     go true e = same (eqb→eq i k (rw e tt)) e
     go false e = other (λ p. subst T e (subst (λ x. T (eqb i x)) p (eqb-refl i))) e
 
--- the place that is set, or another
+-- the place that is changed, or another
 pub data Changed {A : Type 0} (i : ℕ) (v : A) (f : ℕ → A) (k : ℕ) : Type 0 where
   at : i ≡ k → change i v f k ≡ v → Changed i v f k
   off : i ≢ k → change i v f k ≡ f k → Changed i v f k
@@ -60,6 +60,24 @@ put? i j v f k l = go (change? i (change j v (f i)) f k) (change? j v (f i) l)
     go (at p e) (off n d) = off (λ p'. n) (rw (e, d, p))
     go (off n e) (at q d) = off (λ p. absurd (n p)) (rw e)
     go (off n e) (off m d) = off (λ p. absurd (n p)) (rw e)
+
+-- a property of each place holds after one is changed
+pub change-each : {A : Type 0} (p : ℕ → A → Type 0) (i : ℕ) (v : A) (f : ℕ → A) → p i v → ((k : ℕ) → p k (f k)) → (k : ℕ) → p k (change i v f k)
+change-each p i v f h t k = go (change? i v f k)
+  where
+    go : Changed i v f k → p k (change i v f k)
+    go (at e q) = rw q (subst (λ (j : ℕ). p j v) e h)
+    go (off e q) = rw q (t k)
+
+-- the row that is put in, or another
+module _ {A : Type 0} (i j : ℕ) (v : A) (f : ℕ → ℕ → A) (k : ℕ) where
+  pub row-at : i ≡ k → put i j v f k ≡ change j v (f i)
+  unfolding put
+  row-at p = change-at i (change j v (f i)) f k p
+
+  pub row-off : i ≢ k → put i j v f k ≡ f k
+  unfolding put
+  row-off n = change-off i (change j v (f i)) f k n
 
 module _ {A : Type 0} (i j : ℕ) (v : A) (f : ℕ → ℕ → A) (k l : ℕ) where
   pub put-at : i ≡ k → j ≡ l → put i j v f k l ≡ v
@@ -105,23 +123,29 @@ unfolding sum
 sum-swap zero n f = refl
 sum-swap (suc m) n f = omega (arith, sum-swap m n f, sum-add n (λ j. sum m (λ i. f i j)) (f (suc m)))
 
--- a family set outside the sum
-sum-set-above : (n i v : ℕ) (f : ℕ → ℕ) → n < i → sum n (change i v f) ≡ sum n f
-sum-set-above n i v f h = sum-agree n (change i v f) f (λ k l. go k l (change? i v f k))
-  where
-    go : (k : ℕ) → k ≤ n → Changed i v f k → change i v f k ≡ f k
-    go k l (at p e) = absurd (omega arith)
-    go k l (off m e) = e
-
--- the sum after one place is set
-pub sum-set : (n i v : ℕ) (f : ℕ → ℕ) → i ≤ n → sum n (change i v f) + f i ≡ sum n f + v
+-- the sum of what w makes of each place, after one is changed
+pub sum-change : {A : Type 0} (n i : ℕ) (v : A) (f : ℕ → A) (w : ℕ → A → ℕ) → i ≤ n
+    → sum n (λ k. w k (change i v f k)) + w i (f i) ≡ sum n (λ k. w k (f k)) + w i v
 unfolding sum
-sum-set zero i v f h =
+sum-change zero i v f w h =
     let p : 0 ≡ i = omega arith in
-    rw (← p) (omega (arith, change-at 0 v f 0 refl))
-sum-set (suc n) i v f h = go (change? i v f (suc n)) (λ l. sum-set n i v f l)
+    rw (← p) (omega (arith, ap (w 0) (change-at 0 v f 0 refl)))
+sum-change (suc n) i v f w h = go (change? i v f (suc n)) (λ l. sum-change n i v f w l)
   where
-    go : Changed i v f (suc n) → (i ≤ n → sum n (change i v f) + f i ≡ sum n f + v)
-        → sum n (change i v f) + change i v f (suc n) + f i ≡ sum n f + f (suc n) + v
-    go (at p e) ih = omega (arith, sum-set-above n i v f (omega arith), ap f p)
-    go (off m e) ih = omega (arith, ih (omega arith))
+    before : (k : ℕ) → ℕ
+    before k = w k (f k)
+
+    after : (k : ℕ) → ℕ
+    after k = w k (change i v f k)
+
+    go : Changed i v f (suc n) → (i ≤ n → sum n after + before i ≡ sum n before + w i v)
+        → sum n after + after (suc n) + before i ≡ sum n before + before (suc n) + w i v
+    go (at p e) ih =
+        omega (
+          arith,
+          sum-agree n after before (λ k l. ap (w k) (change-off i v f k (omega arith))),
+          ap (w (suc n)) e,
+          ap before p,
+          ap (λ k. w k v) p,
+        )
+    go (off m e) ih = omega (arith, ih (omega arith), ap (w (suc n)) e)

@@ -1,16 +1,16 @@
 -- Below an agreed time that bounds all that is outstanding, pending and waiting, the histories are the single queue's.
-use mathlib.Core.List.{List, [], _∷_, _++_, append-assoc, append-nil}
-use mathlib.Core.Path.{_≡_, refl, sym, ap, subst, _∙_}
-use Prim.Native.Nat.{ℕ, zero, suc, _+_, _≤_, _<_}
+use mathlib.Core.List.{List, _++_, append-assoc}
+use mathlib.Core.Path.{_≡_, sym, ap, _∙_}
+use Prim.Native.Nat.{ℕ, _≤_}
 use native.Mathlib.Omega.{arith}
-use Rattle.timewarp.specs.Lists.{All, nil, cons, Insert}
+use Rattle.timewarp.specs.Lists.{All, Insert}
 use Rattle.timewarp.specs.Events.{Model, hour}
-use Rattle.timewarp.specs.Gateways.{Event, plain, cancel, message, Gateway, Network, Data, history}
+use Rattle.timewarp.specs.Gateways.{Event, plain, cancel, message, Gateway, Data, history}
 use Rattle.timewarp.specs.SingleQueue.{singleHistory}
 use Rattle.timewarp.specs.Claims.{Beginning}
-use Rattle.timewarp.proofs.ListLaws.{all-map, all-both, all-count, count-all, count-none, found}
+use Rattle.timewarp.proofs.ListLaws.{all-map, all-count, count-all, count-none, found}
 use Rattle.timewarp.proofs.OrderLaws.{message-eq, event-eq}
-use Rattle.timewarp.proofs.EventCounts.{times, events}
+use Rattle.timewarp.proofs.EventCounts.{events}
 use Rattle.timewarp.proofs.Addressing.{Between}
 use Rattle.timewarp.proofs.Acknowledging.{unsettled}
 use Rattle.timewarp.proofs.Conservation.{held}

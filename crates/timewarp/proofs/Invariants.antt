@@ -1,47 +1,21 @@
 -- The invariants of the events together, kept by every step: order, addresses, outstanding, conservation.
-use mathlib.Core.List.{List, [], _∷_, _++_}
-use mathlib.Core.Path.{_≡_, refl, sym, ap, subst, _∙_}
-use mathlib.Core.Logic.{_≢_}
-use Prim.Native.Nat.{ℕ, _+_, _≤_, _<_}
+use mathlib.Core.List.{List}
+use mathlib.Core.Path.{_≡_, sym, ap}
+use Prim.Native.Nat.{ℕ, _+_, _≤_}
 use native.Mathlib.Omega.{arith}
-use Rattle.timewarp.specs.Lists.{All, nil, cons}
+use Rattle.timewarp.specs.Lists.{All, nil}
 use Rattle.timewarp.specs.Families.{change, sum}
 use Rattle.timewarp.specs.Events.{Model, hour}
 use Rattle.timewarp.specs.Gateways.{Event, plain, cancel, message, Gateway, Network, Data, history, after, openingData}
 use Rattle.timewarp.specs.EventSteps.{EventStep}
 use Rattle.timewarp.proofs.ListLaws.{all-every, all-both, count-nil}
-use Rattle.timewarp.proofs.FamilyLaws.{Changed, at, off, change?, change-at, change-off, sum-agree, sum-constant, sum-set}
-use Rattle.timewarp.proofs.OrderLaws.{Sorted, empty, message-eq, event-eq}
+use Rattle.timewarp.proofs.FamilyLaws.{Changed, at, off, change?, change-each, sum-agree, sum-constant, sum-change}
+use Rattle.timewarp.proofs.OrderLaws.{empty, message-eq, event-eq}
 use Rattle.timewarp.proofs.EventCounts.{times, events}
 use Rattle.timewarp.proofs.Ordering.{Ordered, ordered-later, ordered-step}
-use Rattle.timewarp.proofs.Addressing.{Here, Between, Addressed, Carried, addressed-step, carried-step}
+use Rattle.timewarp.proofs.Addressing.{Here, Addressed, Carried, addressed-step, carried-step}
 use Rattle.timewarp.proofs.Acknowledging.{unsettled, settled-here, settled-elsewhere}
 use Rattle.timewarp.proofs.Conservation.{sentIn, made, held, conserved-here, conserved-elsewhere}
-
--- A property of each place holds after one is set.
-pub change-each : {A : Type 0} (p : ℕ → A → Type 0) (i : ℕ) (v : A) (f : ℕ → A) → p i v → ((k : ℕ) → p k (f k)) → (k : ℕ) → p k (change i v f k)
-change-each p i v f h t k = go (change? i v f k)
-  where
-    go : Changed i v f k → p k (change i v f k)
-    go (at e q) = rw q (subst (λ (j : ℕ). p j v) e h)
-    go (off e q) = rw q (t k)
-
--- A sum of what a function makes of each place, after one is set.
-pub sum-changed : {A : Type 0} (n i : ℕ) (v : A) (f : ℕ → A) (w : ℕ → A → ℕ) → i ≤ n → sum n (λ k. w k (change i v f k)) + w i (f i) ≡ sum n (λ k. w k (f k)) + w i v
-sum-changed n i v f w h =
-    omega (
-      arith,
-      sum-set n i (w i v) (λ k. w k (f k)) h,
-      sum-agree
-          n
-          (λ k. w k (change i v f k))
-          (change i (w i v) (λ k. w k (f k)))
-          (λ k l. go k (change? i v f k)),
-    )
-  where
-    go : (k : ℕ) → Changed i v f k → w k (change i v f k) ≡ change i (w i v) (λ k. w k (f k)) k
-    go k (at e q) = rw (q, change-at i (w i v) (λ k. w k (f k)) k e, e)
-    go k (off e q) = rw (q, change-off i (w i v) (λ k. w k (f k)) k e)
 
 module _ (M : Model) where
   open Model M using (Message, from, to, last, never, opening)
@@ -122,7 +96,7 @@ module _ (M : Model) where
     conserved-step s x h = go (change? i g (d .gateways) (to x))
       where
         total : sum last (λ j. times M x (sentIn M j (history (change i g (d .gateways) j)))) + times M x (sentIn M i (history (d .gateways i))) ≡ sum last (λ j. times M x (sentIn M j (history (d .gateways j)))) + times M x (sentIn M i (history g))
-        total = sum-changed last i g (d .gateways) (λ j f. times M x (sentIn M j (history f))) inside
+        total = sum-change last i g (d .gateways) (λ j f. times M x (sentIn M j (history f))) inside
 
         go :
             Changed i g (d .gateways) (to x) →

@@ -2,24 +2,21 @@
 use mathlib.Core.List.{List, [], _∷_, map}
 use mathlib.Core.Path.{_≡_, refl, sym, ap, subst}
 use mathlib.Core.Logic.{_≢_}
-use Prim.Native.Nat.{ℕ, _≤_, _<_, min}
+use Prim.Native.Nat.{ℕ, _≤_}
 use native.Mathlib.Omega.{arith}
 use native.Mathlib.Decide.{ℕ-discrete}
-use Rattle.timewarp.specs.Lists.{All, nil, cons, Insert, Inserts, nothing, more, least}
-use Rattle.timewarp.specs.Families.{change}
+use Rattle.timewarp.specs.Lists.{All, nil, Inserts, nothing, more}
 use Rattle.timewarp.specs.Events.{Model, hour}
 use Rattle.timewarp.specs.Gateways.{Event, message, Gateway, Network, Data, after, openingData}
-use Rattle.timewarp.specs.EventSteps.{EventStep}
-use Rattle.timewarp.specs.Arcs.{Graph}
 use Rattle.timewarp.specs.Round.{Rounds, opening, lower}
 use Rattle.timewarp.specs.Worlds.{Setting, World, openingWorld, leastOutstanding, leastWaiting, lowerAll, Step, event, round, Steps, none, then, Reachable}
 use Rattle.timewarp.proofs.ListLaws.{all-map, all-every, all-insert, all-rest, all-before, all-head, all-tail, least-never, least-bounds, bounds-least}
-use Rattle.timewarp.proofs.FamilyLaws.{change-at, change-off}
-use Rattle.timewarp.proofs.Invariants.{Sound, sound-step, sound-later, change-each}
+use Rattle.timewarp.proofs.FamilyLaws.{change-at, change-off, change-each}
+use Rattle.timewarp.proofs.Invariants.{Sound, sound-step, sound-later}
 use Rattle.timewarp.proofs.Invariants as Invariants
 use Rattle.timewarp.proofs.Histories.{OutstandingFrom, WaitingFrom}
-use Rattle.timewarp.proofs.Effects.{Under, Effect, effect}
-use Rattle.timewarp.proofs.RoundQueues.{Downward, Reading, Arrives, Sends}
+use Rattle.timewarp.proofs.Effects.{Effect, effect}
+use Rattle.timewarp.proofs.RoundQueues.{Downward, Reading, Sends}
 use Rattle.timewarp.proofs.RoundSound.{RoundSound, sound-round, agreed-rises, sound-arrives, sound-sends}
 use Rattle.timewarp.proofs.RoundSound as RoundSound
 

@@ -1,10 +1,10 @@
 -- Laws of lists: a property of every element, counts, elements put in, the least number.
 use mathlib.Core.List.{List, [], _∷_, _++_, map, append-nil, append-assoc}
-use mathlib.Core.Path.{_≡_, refl, sym, ap, subst, _∙_}
+use mathlib.Core.Path.{_≡_, refl, sym, subst, _∙_}
 use mathlib.Core.Logic.{_≢_}
-use Prim.Native.Nat.{ℕ, zero, suc, _+_, _≤_, _<_, min}
+use Prim.Native.Nat.{ℕ, _+_, _≤_}
 use native.Mathlib.Omega.{arith}
-use Rattle.timewarp.specs.Lists.{All, nil, cons, Insert, here, there, Inserts, nothing, more, least, tally, one, count}
+use Rattle.timewarp.specs.Lists.{All, nil, cons, Insert, here, there, Inserts, nothing, more, least, tally, matches, count}
 
 module _ {A : Type 0} {p : A → Type 0} where
   pub all-head : {a : A} {l : List A} → All p (a ∷ l) → p a
@@ -122,49 +122,49 @@ tally-agree f g (a ∷ l) e = omega (arith, e a, tally-agree f g l e)
 
 -- Counts.
 module _ {A : Type 0} (eq : Discrete A) where
-  one-when : {a b : A} → a ≡ b → (d : Dec (a ≡ b)) → _≡_ {A = ℕ} (elim d [ yes e ↦ 1 | no e ↦ 0 ]) 1
-  one-when h (yes e) = refl
-  one-when h (no e) = absurd (e h)
+  matches-when : {a b : A} → a ≡ b → (d : Dec (a ≡ b)) → _≡_ {A = ℕ} (elim d [ yes e ↦ 1 | no e ↦ 0 ]) 1
+  matches-when h (yes e) = refl
+  matches-when h (no e) = absurd (e h)
 
-  one-unless : {a b : A} → a ≢ b → (d : Dec (a ≡ b)) → _≡_ {A = ℕ} (elim d [ yes e ↦ 1 | no e ↦ 0 ]) 0
-  one-unless h (yes e) = absurd (h e)
-  one-unless h (no e) = refl
+  matches-unless : {a b : A} → a ≢ b → (d : Dec (a ≡ b)) → _≡_ {A = ℕ} (elim d [ yes e ↦ 1 | no e ↦ 0 ]) 0
+  matches-unless h (yes e) = absurd (h e)
+  matches-unless h (no e) = refl
 
-  pub one-equal : {a b : A} → a ≡ b → one eq a b ≡ 1
-  unfolding one
-  one-equal {a} {b} h = one-when h (eq a b)
+  pub matches-equal : {a b : A} → a ≡ b → matches eq a b ≡ 1
+  unfolding matches
+  matches-equal {a} {b} h = matches-when h (eq a b)
 
-  pub one-same : (a : A) → one eq a a ≡ 1
-  one-same a = one-equal refl
+  pub matches-same : (a : A) → matches eq a a ≡ 1
+  matches-same a = matches-equal refl
 
-  pub one-other : {a b : A} → a ≢ b → one eq a b ≡ 0
-  unfolding one
-  one-other {a} {b} h = one-unless h (eq a b)
+  pub matches-other : {a b : A} → a ≢ b → matches eq a b ≡ 0
+  unfolding matches
+  matches-other {a} {b} h = matches-unless h (eq a b)
 
   pub count-nil : (x : A) → count eq x [] ≡ 0
   unfolding count tally
   count-nil x = refl
 
-  pub count-cons : (x a : A) (l : List A) → count eq x (a ∷ l) ≡ one eq x a + count eq x l
+  pub count-cons : (x a : A) (l : List A) → count eq x (a ∷ l) ≡ matches eq x a + count eq x l
   unfolding count tally
   count-cons x a l = refl
 
   pub count-append : (x : A) (l m : List A) → count eq x (l ++ m) ≡ count eq x l + count eq x m
   unfolding count
-  count-append x = tally-append (one eq x)
+  count-append x = tally-append (matches eq x)
 
-  pub count-insert : (x : A) {a : A} {l m : List A} → Insert a l m → count eq x m ≡ one eq x a + count eq x l
+  pub count-insert : (x : A) {a : A} {l m : List A} → Insert a l m → count eq x m ≡ matches eq x a + count eq x l
   unfolding count
-  count-insert x i = tally-insert (one eq x) i
+  count-insert x i = tally-insert (matches eq x) i
 
   pub count-inserts : (x : A) {s l m : List A} → Inserts s l m → count eq x m ≡ count eq x s + count eq x l
   unfolding count
-  count-inserts x i = tally-inserts (one eq x) i
+  count-inserts x i = tally-inserts (matches eq x) i
 
   -- An element that lacks what all have does not occur.
   pub count-none : {p : A → Type 0} (x : A) {l : List A} → All p l → (p x → ⊥) → count eq x l ≡ 0
   unfolding count
-  count-none {p} x h f = tally-none (one eq x) (all-map (λ a k. one-other {a = x} {b = a} (λ e. f (subst p (sym e) k))) h)
+  count-none {p} x h f = tally-none (matches eq x) (all-map (λ a k. matches-other {a = x} {b = a} (λ e. f (subst p (sym e) k))) h)
 
   -- An element that occurs can be taken out.
   pub found : (x : A) (l : List A) → 1 ≤ count eq x l → (rest : List A) × Insert x rest l
@@ -174,7 +174,7 @@ module _ {A : Type 0} (eq : Discrete A) where
     where
       go : Dec (x ≡ a) → (1 ≤ count eq x l → (rest : List A) × Insert x rest l) → (rest : List A) × Insert x rest (a ∷ l)
       go (yes e) k = (l, subst (λ (y : A). Insert x l (y ∷ l)) e here)
-      go (no e) k = let r : (rest : List A) × Insert x rest l = k (omega (arith, one-other e)) in (a ∷ r .0, there (r .1))
+      go (no e) k = let r : (rest : List A) × Insert x rest l = k (omega (arith, matches-other e)) in (a ∷ r .0, there (r .1))
 
   pub all-count : {p : A → Type 0} (x : A) {l : List A} → All p l → 1 ≤ count eq x l → p x
   all-count x h k = all-taken (found x _ k .1) h
@@ -182,21 +182,21 @@ module _ {A : Type 0} (eq : Discrete A) where
   pub count-all : {p : A → Type 0} (l : List A) → ((x : A) → 1 ≤ count eq x l → p x) → All p l
   unfolding count tally
   count-all [] f = nil
-  count-all (a ∷ l) f = cons (f a (omega (arith, one-same a))) (count-all l (λ x h. f x (omega arith)))
+  count-all (a ∷ l) f = cons (f a (omega (arith, matches-same a))) (count-all l (λ x h. f x (omega arith)))
 
 module _ {A B : Type 0} (eq : Discrete A) (eq′ : Discrete B) where
   -- Images under an injection are counted as what they are images of.
-  pub one-image : (f : A → B) → ((a b : A) → f a ≡ f b → a ≡ b) → (a b : A) → one eq′ (f a) (f b) ≡ one eq a b
-  one-image f inj a b = go (eq a b)
+  pub matches-image : (f : A → B) → ((a b : A) → f a ≡ f b → a ≡ b) → (a b : A) → matches eq′ (f a) (f b) ≡ matches eq a b
+  matches-image f inj a b = go (eq a b)
     where
-      go : Dec (a ≡ b) → one eq′ (f a) (f b) ≡ one eq a b
-      go (yes e) = rw e (one-same eq′ (f b) ∙ sym (one-same eq b))
-      go (no e) = one-other eq′ (λ k. e (inj a b k)) ∙ sym (one-other eq e)
+      go : Dec (a ≡ b) → matches eq′ (f a) (f b) ≡ matches eq a b
+      go (yes e) = rw e (matches-same eq′ (f b) ∙ sym (matches-same eq b))
+      go (no e) = matches-other eq′ (λ k. e (inj a b k)) ∙ sym (matches-other eq e)
 
   pub count-image : (f : A → B) → ((a b : A) → f a ≡ f b → a ≡ b) → (x : A) (l : List A) → count eq′ (f x) (map f l) ≡ count eq x l
   unfolding count
   count-image f inj x l =
-      omega (arith, tally-map (one eq′ (f x)) f l, tally-agree (λ a. one eq′ (f x) (f a)) (one eq x) l (one-image f inj x))
+      omega (arith, tally-map (matches eq′ (f x)) f l, tally-agree (λ a. matches eq′ (f x) (f a)) (matches eq x) l (matches-image f inj x))
 
 module _ {A : Type 0} (never : ℕ) (f : A → ℕ) where
   pub least-never : (l : List A) → least never f l ≤ never

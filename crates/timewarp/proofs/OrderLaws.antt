@@ -1,17 +1,17 @@
 -- Laws of event order, of sorted histories, and of equality of messages and events.
 use mathlib.Core.Bool.{Bool, true, false, cond}
-use mathlib.Core.List.{List, [], _∷_, _++_, map, List-discrete}
+use mathlib.Core.List.{List, [], _∷_, List-discrete}
 use mathlib.Core.Path.{_≡_, refl, sym, ap, ap₂, subst, _∙_}
 use mathlib.Core.Logic.{_≢_}
-use Prim.Native.Nat.{ℕ, zero, suc, _+_, _≤_, _<_}
+use Prim.Native.Nat.{ℕ, _≤_, _<_}
 use native.Mathlib.Omega.{arith}
-use native.Mathlib.Decide.{ℕ-discrete, decLt}
+use native.Mathlib.Decide.{ℕ-discrete}
 use lib.Dec.{T, ltb, eqb, ltb→lt, lt→ltb, nltb→le, eqb→eq, eqb-refl}
-use Rattle.timewarp.specs.Lists.{All, nil, cons, one, count}
+use Rattle.timewarp.specs.Lists.{All, cons, matches, count}
 use Rattle.timewarp.specs.Events.{first, KeyNotLater, ended, less, same, Model, hour, NotLater}
 use Rattle.timewarp.specs.SingleQueue.{notLater}
-use Rattle.timewarp.specs.Gateways.{Event, plain, cancel, message}
-use Rattle.timewarp.proofs.ListLaws.{one-same, one-other, count-nil, count-cons, all-count, all-head, all-tail}
+use Rattle.timewarp.specs.Gateways.{Event, plain, cancel}
+use Rattle.timewarp.proofs.ListLaws.{matches-same, count-nil, count-cons, all-count}
 
 pub key-refl : (k : List ℕ) → KeyNotLater k k
 key-refl [] = ended
@@ -130,9 +130,9 @@ module _ (M : Model) where
   pub sorted-unique : {h k : List Message} → Sorted h → Sorted k → ((x : Message) → count message-eq x h ≡ count message-eq x k) → h ≡ k
   sorted-unique empty empty e = refl
   sorted-unique empty (newest {m = b} {h = k} p s) e =
-      absurd (omega (arith, e b, count-nil message-eq b, count-cons message-eq b b k, one-same message-eq b))
+      absurd (omega (arith, e b, count-nil message-eq b, count-cons message-eq b b k, matches-same message-eq b))
   sorted-unique (newest {m = b} {h = k} p s) empty e =
-      absurd (omega (arith, e b, count-nil message-eq b, count-cons message-eq b b k, one-same message-eq b))
+      absurd (omega (arith, e b, count-nil message-eq b, count-cons message-eq b b k, matches-same message-eq b))
   sorted-unique (newest {m = a} {h = h} p s) (newest {m = b} {h = k} q t) e =
       ap₂ _∷_ same-head (sorted-unique s t tails)
     where
@@ -145,14 +145,14 @@ module _ (M : Model) where
           message-eq
           a
           (cons (order-refl b) q)
-          (omega (arith, e a, count-cons message-eq a a h, one-same message-eq a)))
+          (omega (arith, e a, count-cons message-eq a a h, matches-same message-eq a)))
           (all-count
           message-eq
           b
           (cons (order-refl a) p)
-          (omega (arith, e b, count-cons message-eq b b k, one-same message-eq b)))
+          (omega (arith, e b, count-cons message-eq b b k, matches-same message-eq b)))
 
       tails : (x : Message) → count message-eq x h ≡ count message-eq x k
       tails x =
           omega
-          (arith, e x, count-cons message-eq x a h, count-cons message-eq x b k, ap (one message-eq x) same-head)
+          (arith, e x, count-cons message-eq x a h, count-cons message-eq x b k, ap (matches message-eq x) same-head)

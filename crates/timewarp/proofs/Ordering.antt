@@ -1,14 +1,14 @@
 -- Order: a gateway's history is sorted and not later than anything pending, and what is committed is below its agreed time.
-use mathlib.Core.List.{List, [], _∷_, _++_, append-assoc}
-use mathlib.Core.Path.{_≡_, refl, sym, ap, subst}
+use mathlib.Core.List.{List, _∷_}
+use mathlib.Core.Path.{subst}
 use Prim.Native.Nat.{ℕ, _≤_, _<_}
 use native.Mathlib.Omega.{arith}
-use Rattle.timewarp.specs.Lists.{All, nil, cons, Insert}
+use Rattle.timewarp.specs.Lists.{All, cons}
 use Rattle.timewarp.specs.Events.{Model, hour, NotLater}
 use Rattle.timewarp.specs.Gateways.{Event, Gateway, Network, history}
 use Rattle.timewarp.specs.EventSteps.{EventStep, does, undoes, takes, takesAcknowledgment, commits, Taking, becomesPending, meetsCancel, strikesOut, waits}
 use Rattle.timewarp.proofs.ListLaws.{all-append, all-insert, all-taken, all-rest, all-map, all-both, all-tail}
-use Rattle.timewarp.proofs.OrderLaws.{Sorted, empty, newest, order-hour}
+use Rattle.timewarp.proofs.OrderLaws.{Sorted, newest, order-hour}
 use Rattle.timewarp.proofs.StepLaws.{history-undone, history-committed}
 
 module _ (M : Model) where

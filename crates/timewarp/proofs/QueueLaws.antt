@@ -1,7 +1,7 @@
 -- The single queue accounts for every message, and ends.
-use mathlib.Core.Bool.{Bool, true, false, cond}
+use mathlib.Core.Bool.{cond}
 use mathlib.Core.List.{List, [], _∷_, _++_}
-use mathlib.Core.Path.{_≡_, refl, sym, ap, subst, _∙_}
+use mathlib.Core.Path.{_≡_, refl, sym, ap}
 use mathlib.Core.Logic.{_≢_}
 use Prim.Native.Nat.{ℕ, zero, suc, _+_, _-_, _≤_, _<_}
 use native.Mathlib.Omega.{arith}
@@ -11,13 +11,12 @@ use Rattle.timewarp.specs.Lists.{All, nil, cons, Insert, here, there}
 use Rattle.timewarp.specs.Families.{change, sum}
 use Rattle.timewarp.specs.Events.{Model, hour, NotLater, sentBy}
 use Rattle.timewarp.specs.SingleQueue.{together, notLater, Queue, earliest, others, openingQueue, doNext, next, steps, measure, singleHistory}
-use Rattle.timewarp.proofs.ListLaws.{all-append, all-insert, all-taken, all-rest, all-map, all-both, all-every, count-nil, count-none, count-append, one-other}
-use Rattle.timewarp.proofs.FamilyLaws.{Changed, at, off, change?, sum-agree, sum-constant}
+use Rattle.timewarp.proofs.ListLaws.{all-append, all-insert, all-taken, all-rest, all-map, all-both, all-every, count-nil, count-none, count-append, matches-other}
+use Rattle.timewarp.proofs.FamilyLaws.{Changed, at, off, change?, sum-agree, sum-constant, change-each, sum-change}
 use Rattle.timewarp.proofs.OrderLaws.{Compared, sooner, later, compared, Sorted, empty, newest, order-refl, order-trans, order-hour, message-eq}
 use Rattle.timewarp.proofs.EventCounts.{times, times-cons, times-insert}
 use Rattle.timewarp.proofs.Addressing.{sent-later, sent-inside, sent-due}
 use Rattle.timewarp.proofs.Conservation.{sentIn, sent-cons}
-use Rattle.timewarp.proofs.Invariants.{change-each, sum-changed}
 use Rattle.timewarp.proofs.Uniqueness.{Accounts}
 
 module _ (M : Model) where
@@ -74,7 +73,7 @@ module _ (M : Model) where
     balance-next x inside = go (change? (to m) (m ∷ h (to m)) h (to x))
       where
         total : sum last (λ j. times M x (sentIn M j (change (to m) (m ∷ h (to m)) h j))) + times M x (sentIn M (to m) (h (to m))) ≡ sum last (λ j. times M x (sentIn M j (h j))) + times M x (sentIn M (to m) (m ∷ h (to m)))
-        total = sum-changed last (to m) (m ∷ h (to m)) h (λ j d. times M x (sentIn M j d)) (all-taken taken (k .inside))
+        total = sum-change last (to m) (m ∷ h (to m)) h (λ j d. times M x (sentIn M j d)) (all-taken taken (k .inside))
 
         go : Changed (to m) (m ∷ h (to m)) h (to x) → times M x (opening (to x)) + sum last (λ j. times M x (sentIn M j (change (to m) (m ∷ h (to m)) h j))) ≡ times M x (change (to m) (m ∷ h (to m)) h (to x)) + times M x (sentBy M (to m) (h (to m)) m ++ rest)
         go (at p q) =
@@ -98,7 +97,7 @@ module _ (M : Model) where
               times-insert M x taken,
               count-append (message-eq M) x (sentBy M (to m) (h (to m)) m) rest,
               ap (times M x) q,
-              one-other (message-eq M) {a = x} {b = m} (λ e. p (sym (ap to e))),
+              matches-other (message-eq M) {a = x} {b = m} (λ e. p (sym (ap to e))),
             )
 
     kept-do : Kept (doNext M m rest h)

@@ -1,15 +1,15 @@
 -- What every frame under way carries: it goes along an arc or to a child, with its round's tag and its sender's mark.
-use mathlib.Core.List.{List, [], _∷_, map}
+use mathlib.Core.List.{List, map}
 use mathlib.Core.Path.{_≡_, refl, ap}
 use mathlib.Core.Logic.{_≢_}
 use Prim.Native.Nat.{ℕ, suc, _≤_, _<_}
 use native.Mathlib.Decide.{ℕ-discrete}
 use native.Mathlib.Omega.{arith}
-use Rattle.timewarp.specs.Lists.{All, nil, cons, Insert}
+use Rattle.timewarp.specs.Lists.{All, Insert}
 use Rattle.timewarp.specs.Families.{change}
 use Rattle.timewarp.specs.Arcs.{Graph, Arc, Child, times, children}
 use Rattle.timewarp.specs.Round.{idle, finished, RoundFrame, start, lvt, update}
-use Rattle.timewarp.proofs.FamilyLaws.{Same, same, other, same?, change-off}
+use Rattle.timewarp.proofs.FamilyLaws.{change-off}
 use Rattle.timewarp.proofs.ListLaws.{all-member, all-taken, all-image, all-map, tally-insert, count-all, all-count}
 use Rattle.timewarp.proofs.RoundFrames.{startOn, lvtOn, both-is}
 use Rattle.timewarp.proofs.RoundArcs.{fresh, begun, back, StateOf, ArcStates}

@@ -10,7 +10,7 @@ use Rattle.timewarp.specs.Families.{change, put, sum}
 use Rattle.timewarp.specs.Arcs.{Graph, Child, times, arcCount, roundMessages, children}
 use Rattle.timewarp.specs.Round.{idle, counting, stopped, finished, RoundFrame, start, lvt, update, raise}
 use Rattle.timewarp.proofs.ListLaws.{tally-append, tally-insert}
-use Rattle.timewarp.proofs.FamilyLaws.{Same, same, other, same?, change-at, change-off, put-at, put-off, sum-agree, sum-add, sum-set, sum-constant}
+use Rattle.timewarp.proofs.FamilyLaws.{Same, same, other, same?, change-at, change-off, put-at, put-off, row-at, row-off, sum-agree, sum-add, sum-change, sum-constant}
 use Rattle.timewarp.proofs.RoundFrames.{both, both-is, both-not, updateTo, sent-first, sent-not-first, sent-none}
 use Rattle.timewarp.proofs.ArcLaws.{ChildOf, child, no-child, child?, parent, all-children, arcs-at-receivers, none-to-0}
 
@@ -91,17 +91,7 @@ module _ (G : Graph) (st : ℕ → ℕ) (fr : List RoundFrame) (tag : ℕ) (writ
       → sum (G .last) (spentBy G (change i s st)) + spentBy G st i
       ≡ sum (G .last) (spentBy G st) + spent s (length (G .to i)) (length (G .from i))
   unfolding spentBy
-  spent-change i s l =
-      omega (
-        arith,
-        sum-set (G .last) i (spent s (length (G .to i)) (length (G .from i))) (spentBy G st) l,
-        sum-agree (G .last) (spentBy G (change i s st)) (change i (spent s (length (G .to i)) (length (G .from i))) (spentBy G st))
-            (λ k m. go k (same? i k)),
-      )
-    where
-      go : (k : ℕ) → Same i k → spentBy G (change i s st) k ≡ change i (spent s (length (G .to i)) (length (G .from i))) (spentBy G st) k
-      go k (same e d) = rw (change-at i s st k e, change-at i (spent s (length (G .to i)) (length (G .from i))) (spentBy G st) k e, e)
-      go k (other n d) = rw (change-off i s st k n, change-off i (spent s (length (G .to i)) (length (G .from i))) (spentBy G st) k n)
+  spent-change i s l = sum-change (G .last) i s st (λ k x. spent x (length (G .to k)) (length (G .from k))) l
 
   -- a step that writes nothing and takes no Update: the frames left are as many Updates, the sum is the same
   counts-quiet : (st′ : ℕ → ℕ) (fr′ : List RoundFrame) → sum (G .last) (spentBy G st′) ≡ sum (G .last) (spentBy G st)
@@ -241,22 +231,21 @@ module _ (G : Graph) (st : ℕ → ℕ) (fr : List RoundFrame) (tag : ℕ) (writ
           all,
           h .open-round,
           change-at tag (written tag + length (children (G .last) 0)) written t e,
-          sum-agree (G .last) (relayedBy G (put tag 0 1 accepted t)) (change 0 (length (children (G .last) 0)) (λ j. 0)) (λ j l. go j (same? 0 j)),
-          sum-set (G .last) 0 (length (children (G .last) 0)) (λ j. 0) (omega arith),
+          ap (λ row. sum (G .last) (relayedBy G row)) (row-at tag 0 1 accepted t e),
+          sum-change (G .last) 0 1 (accepted tag) (λ k x. x * length (children (G .last) k)) (omega arith),
+          sum-agree (G .last) (relayedBy G (accepted tag)) (λ k. 0) (λ k l. none k),
           sum-constant (G .last) 0,
+          none 0,
         )
       where
-        go : (j : ℕ) → Same 0 j → relayedBy G (put tag 0 1 accepted t) j ≡ change 0 (length (children (G .last) 0)) (λ j. 0) j
-        go j (same f b) = rw (put-at tag 0 1 accepted t j e f, change-at 0 (length (children (G .last) 0)) (λ j. 0) j f, ← f) (omega arith)
-        go j (other n b) =
-            rw (put-off tag 0 1 accepted t j (λ p. n), change-off 0 (length (children (G .last) 0)) (λ j. 0) j n, h .none-accepted t j (omega arith)) (omega arith)
+        none : (k : ℕ) → accepted tag k * length (children (G .last) k) ≡ 0
+        none k = rw (h .none-accepted tag k (omega arith)) (omega arith)
     closed-relays t q (other n d) =
         omega (
           arith,
           h .closed-rounds t (omega arith),
           change-off tag (written tag + length (children (G .last) 0)) written t n,
-          sum-agree (G .last) (relayedBy G (put tag 0 1 accepted t)) (relayedBy G (accepted t))
-              (λ j l. rw (put-off tag 0 1 accepted t j (λ p. absurd (n p)))),
+          ap (λ row. sum (G .last) (relayedBy G row)) (row-off tag 0 1 accepted t n),
         )
 
     pub counts-close : Counts G (λ i. idle) (fr ++ map (λ k. update 0 k tag v) (children (G .last) 0)) (suc tag)
@@ -378,27 +367,17 @@ module _ (G : Graph) (st : ℕ → ℕ) (fr : List RoundFrame) (tag : ℕ) (writ
     update-relays t p (same e d) =
         omega (
           arith,
-          h .closed-rounds t p,
-          ap written e,
+          h .closed-rounds s q,
           change-at s (written s + length (children (G .last) j)) written t e,
-          sum-agree (G .last) (relayedBy G (accepted′ t)) (change j (suc (accepted t j) * length (children (G .last) j)) (relayedBy G (accepted t)))
-              (λ k l. go k (same? j k)),
-          sum-set (G .last) j (suc (accepted t j) * length (children (G .last) j)) (relayedBy G (accepted t)) (bounds (child? (G .last) i j) .1),
+          ap (λ row. sum (G .last) (relayedBy G row)) (row-at s j (suc (accepted s j)) accepted t e),
+          sum-change (G .last) j (suc (accepted s j)) (accepted s) (λ k x. x * length (children (G .last) k)) (bounds (child? (G .last) i j) .1),
         )
-      where
-        new : ℕ
-        new = suc (accepted t j) * length (children (G .last) j)
-
-        go : (k : ℕ) → Same j k → relayedBy G (accepted′ t) k ≡ change j new (relayedBy G (accepted t)) k
-        go k (same f b) = rw (put-at s j (suc (accepted s j)) accepted t k e f, change-at j new (relayedBy G (accepted t)) k f, e, f)
-        go k (other n b) = rw (put-off s j (suc (accepted s j)) accepted t k (λ p. n), change-off j new (relayedBy G (accepted t)) k n)
     update-relays t p (other n d) =
         omega (
           arith,
           h .closed-rounds t p,
           change-off s (written s + length (children (G .last) j)) written t n,
-          sum-agree (G .last) (relayedBy G (accepted′ t)) (relayedBy G (accepted t))
-              (λ k l. rw (put-off s j (suc (accepted s j)) accepted t k (λ p. absurd (n p)))),
+          ap (λ row. sum (G .last) (relayedBy G row)) (row-off s j (suc (accepted s j)) accepted t n),
         )
 
     pub counts-update : Counts G st (rest ++ map (λ k. update j k s v) (children (G .last) j)) tag

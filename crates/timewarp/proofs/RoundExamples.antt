@@ -4,9 +4,9 @@ use mathlib.Core.Path.{_≡_, refl}
 use Prim.Native.Nat.{ℕ, zero, suc, _≤_, _<_, min, max}
 use native.Mathlib.Decide.{ℕ-discrete}
 use native.Mathlib.Omega.{arith}
-use Rattle.timewarp.specs.Lists.{nil, cons, here, there, tally, one, count}
+use Rattle.timewarp.specs.Lists.{nil, cons, here, there, tally, matches, count}
 use Rattle.timewarp.specs.Families.{change, put}
-use Rattle.timewarp.specs.Arcs.{Graph, times, ifGateway, children}
+use Rattle.timewarp.specs.Arcs.{Graph, ifGateway, children}
 use Rattle.timewarp.specs.Round.{Rounds, opening, raise, noted, lower, begin, hear, stop, takeLvt, finish, close, takeUpdate, as-it-starts, at-an-lvt, RoundStep, begins, hears, stops, takes-lvt, finishes, closes, takes-update, Completed}
 use Rattle.timewarp.proofs.SmallGraphs.{single, two, toOfTwo, fromOfTwo, four, toOfFour, fromOfFour}
 use Rattle.timewarp.proofs.RoundCarried.{all-to, all-from}
@@ -44,7 +44,7 @@ agreed-of-one o w = refl
 -- A round of two gateways. The least hours outstanding before the round are o at 0 and p at 1, the least due v at 0 and
 -- w at 1; and 1 sends a message of hour h between its start and its stop.
 round-of-two : (o v p h w : ℕ) → (r : Rounds) × Run two opening r
-unfolding begin hear stop finish takeLvt close lower noted opening change put raise two toOfTwo fromOfTwo children ifGateway tally one count ℕ-discrete
+unfolding begin hear stop finish takeLvt close lower noted opening change put raise two toOfTwo fromOfTwo children ifGateway tally matches count ℕ-discrete
 round-of-two o v p h w = (
   _,
   ready
@@ -86,7 +86,7 @@ sent-between = refl
 -- A round of four gateways, with nothing outstanding (n is nothing due) and a, b, c, d the least due hours: gateway 3
 -- begins when both its Starts have come, gateway 0 closes when both its Lvts have.
 round-of-four : (n a b c d : ℕ) → (r : Rounds) × Run four opening r
-unfolding begin hear stop finish takeLvt close takeUpdate opening change put raise four toOfFour fromOfFour children ifGateway tally one count ℕ-discrete
+unfolding begin hear stop finish takeLvt close takeUpdate opening change put raise four toOfFour fromOfFour children ifGateway tally matches count ℕ-discrete
 round-of-four n a b c d = (
   _,
   ready

@@ -21,7 +21,7 @@ abbrev pub OnMarks : (ℕ → Type 0) → ℕ → (ℕ → ℕ) → (ℕ → ℕ
 OnMarks P last st mk = (j : ℕ) → j ≤ last → counting ≤ st j → P (mk j)
 
 module _ (P : ℕ → Type 0) (last : ℕ) (st mk : ℕ → ℕ) (u : OnMarks P last st mk) where
-  -- one mark is set, and no other gateway begins
+  -- one mark is changed, and no other gateway begins
   pub marks-change : (st′ : ℕ → ℕ) (i m : ℕ) → (i ≤ last → counting ≤ st′ i → P m)
       → ((k : ℕ) → i ≢ k → counting ≤ st′ k → counting ≤ st k)
       → OnMarks P last st′ (change i m mk)

@@ -1,21 +1,19 @@
 -- The theorem: the claim holds of every world that can be reached.
 use mathlib.Core.List.{List, [], _∷_, _++_}
-use mathlib.Core.Path.{_≡_, refl, sym, ap, subst, _∙_}
-use Prim.Native.Nat.{ℕ, suc, _*_, _≤_, _<_}
+use mathlib.Core.Path.{_≡_, refl, sym, subst, _∙_}
+use Prim.Native.Nat.{ℕ, _≤_}
 use native.Mathlib.Omega.{arith}
-use Rattle.timewarp.specs.Lists.{All, nil, cons, Insert}
-use Rattle.timewarp.specs.Events.{Model, hour}
-use Rattle.timewarp.specs.Gateways.{Gateway, Data, history}
-use Rattle.timewarp.specs.Arcs.{Graph, roundMessages}
-use Rattle.timewarp.specs.Round.{RoundFrame, InTurn, Completed}
+use Rattle.timewarp.specs.Lists.{All}
+use Rattle.timewarp.specs.Events.{Model}
+use Rattle.timewarp.specs.Gateways.{history}
 use Rattle.timewarp.specs.SingleQueue.{singleHistory}
-use Rattle.timewarp.specs.Worlds.{Setting, World, Step, Steps, none, then, Reachable}
+use Rattle.timewarp.specs.Worlds.{Setting, World, Steps, none, then, Reachable}
 use Rattle.timewarp.specs.Claims.{Claim, NothingToCommit}
 use Rattle.timewarp.proofs.ListLaws.{all-left, all-right, all-head, all-member}
 use Rattle.timewarp.proofs.Addressing.{Here}
 use Rattle.timewarp.proofs.ArcLaws.{round-below}
 use Rattle.timewarp.proofs.Histories.{Bounds, bounds-events, bounds-acknowledgments, committed-beginning, history-whole, acknowledgments-settle}
-use Rattle.timewarp.proofs.RoundSound.{RoundSound, round-count, in-turn}
+use Rattle.timewarp.proofs.RoundSound.{round-count, in-turn}
 use Rattle.timewarp.proofs.Joined.{Good, good, good-steps, agreed-never-falls}
 
 -- A list is empty or has a last element.

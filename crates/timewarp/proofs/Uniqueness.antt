@@ -7,10 +7,10 @@ use native.Mathlib.Omega.{arith}
 use native.Mathlib.Decide.{decLt, ℕ-discrete}
 use Rattle.timewarp.specs.Lists.{All, nil, cons}
 use Rattle.timewarp.specs.Families.{sum}
-use Rattle.timewarp.specs.Events.{Model, hour, NotLater, sentBy}
-use Rattle.timewarp.proofs.ListLaws.{all-map, count-cons, count-none, one-other}
+use Rattle.timewarp.specs.Events.{Model, hour}
+use Rattle.timewarp.proofs.ListLaws.{all-map, count-none, matches-other}
 use Rattle.timewarp.proofs.FamilyLaws.{sum-agree}
-use Rattle.timewarp.proofs.OrderLaws.{Sorted, empty, newest, sorted-unique, hour-order, message-eq}
+use Rattle.timewarp.proofs.OrderLaws.{Sorted, newest, sorted-unique, hour-order, message-eq}
 use Rattle.timewarp.proofs.EventCounts.{times, times-cons}
 use Rattle.timewarp.proofs.Addressing.{sent-later}
 use Rattle.timewarp.proofs.Conservation.{sentIn, sent-cons}
@@ -57,7 +57,7 @@ module _ (M : Model) where
   below-count (keeps e) x k = refl
   below-count (drops {m = m} {h = h} e r) x k =
       let apart : x ≢ m = λ p. absurd (omega (arith, ap (hour M) p)) in
-      omega (arith, below-count r x k, times-cons M x m h, one-other (message-eq M) apart)
+      omega (arith, below-count r x k, times-cons M x m h, matches-other (message-eq M) apart)
 
   -- What a history sent up to hour t, its events below t sent.
   below-sent :

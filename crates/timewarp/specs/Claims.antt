@@ -7,7 +7,7 @@ use Rattle.timewarp.specs.Events.{Model, hour}
 use Rattle.timewarp.specs.Gateways.{Event, message, Gateway}
 use Rattle.timewarp.specs.SingleQueue.{singleHistory}
 use Rattle.timewarp.specs.Arcs.{roundMessages}
-use Rattle.timewarp.specs.Round.{RoundFrame, Completed, InTurn}
+use Rattle.timewarp.specs.Round.{Completed, InTurn}
 use Rattle.timewarp.specs.Worlds.{Setting, World, Step}
 
 -- c is a beginning of h; both have the newest event in front.

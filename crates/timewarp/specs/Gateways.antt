@@ -1,5 +1,5 @@
 -- The gateways' queues and outstanding lists, and the events under way between them.
-use mathlib.Core.List.{List, [], _∷_, _++_}
+use mathlib.Core.List.{List, [], _++_}
 use Prim.Native.Nat.{ℕ}
 use Rattle.timewarp.specs.Families.{change}
 use Rattle.timewarp.specs.Events.{Model}

@@ -28,9 +28,9 @@ tally f [] = 0
 tally f (a ∷ l) = f a + tally f l
 
 -- 1 for equal elements, else 0.
-unfoldable pub one : {A : Type 0} → Discrete A → A → A → ℕ
-one eq a b = elim (eq a b) [ yes e ↦ 1 | no e ↦ 0 ]
+unfoldable pub matches : {A : Type 0} → Discrete A → A → A → ℕ
+matches eq a b = elim (eq a b) [ yes e ↦ 1 | no e ↦ 0 ]
 
 -- How often an element stands in the list.
 unfoldable pub count : {A : Type 0} → Discrete A → A → List A → ℕ
-count eq a l = tally (one eq a) l
+count eq a l = tally (matches eq a) l

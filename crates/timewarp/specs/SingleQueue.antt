@@ -1,7 +1,6 @@
 -- The single queue: a plain machine with one list of messages. It is fed the opening states and lists and nothing more.
 use mathlib.Core.List.{List, [], _∷_, _++_}
 use Prim.Native.Nat.{ℕ, zero, suc, _+_, _-_}
-use native.Mathlib.Decide.{decLt, ℕ-discrete}
 use lib.Dec.{ltb, eqb}
 use mathlib.Core.Bool.{Bool, true, false, cond}
 use Rattle.timewarp.specs.Families.{change}
