@@ -29,3 +29,4 @@ pub mod Theorem
 pub mod CallChains
 pub mod SmallGraphs
 pub mod RoundExamples
+pub mod ExampleModel
