@@ -53,6 +53,11 @@ module _ {A : Type 0} {p : A → Type 0} where
   all-every f [] = nil
   all-every f (a ∷ l) = cons (f a) (all-every f l)
 
+  -- a property of whatever can be taken out
+  pub all-member : (l : List A) → ((a : A) (rest : List A) → Insert a rest l → p a) → All p l
+  all-member [] f = nil
+  all-member (a ∷ l) f = cons (f a l here) (all-member l (λ b rest i. f b (a ∷ rest) (there i)))
+
 module _ {A : Type 0} where
   pub all-both : {p q r : A → Type 0} → ((a : A) → p a → q a → r a) → {l : List A} → All p l → All q l → All r l
   all-both f nil k = nil

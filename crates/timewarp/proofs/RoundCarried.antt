@@ -9,7 +9,8 @@ use Rattle.timewarp.specs.Families.{set}
 use Rattle.timewarp.specs.Arcs.{Graph, Arc, Child, times, children}
 use Rattle.timewarp.specs.Round.{idle, finished, RoundFrame, start, lvt, update}
 use Rattle.timewarp.proofs.FamilyLaws.{Same, same, other, same?, set-off}
-use Rattle.timewarp.proofs.Tallies.{tally-insert, all-inserted, all-map, all-change, all-member}
+use Rattle.timewarp.proofs.ListLaws.{all-member, all-taken, all-image, all-map}
+use Rattle.timewarp.proofs.Tallies.{tally-insert}
 use Rattle.timewarp.proofs.RoundFrames.{one-is, one-not, startOn, lvtOn, both-is}
 use Rattle.timewarp.proofs.RoundArcs.{fresh, begun, back, StateOf, ArcStates}
 
@@ -32,7 +33,7 @@ module _ {G : Graph} {st mk : ℕ → ℕ} {tag i j t : ℕ} where
 pub all-times : (l : List ℕ) → All (λ j. 1 ≤ times j l) l
 unfolding times
 all-times [] = nil
-all-times (m ∷ l) = cons {a = m} (omega (arith, one-is m m refl)) (all-change (λ j h. omega arith) (all-times l))
+all-times (m ∷ l) = cons {a = m} (omega (arith, one-is m m refl)) (all-map (λ j h. omega arith) (all-times l))
 
 -- what every element has, a number that stands in the list has
 pub all-at : {P : ℕ → Type 0} (l : List ℕ) → All P l → (k : ℕ) → 1 ≤ times k l → P k
@@ -67,16 +68,16 @@ module _ (G : Graph) (st mk : ℕ → ℕ) (tag : ℕ) where
       omega (arith, set-off i s st j m, set-off i v mk j m)
 
   pub starts-carried : (i : ℕ) → All (Carried G st mk tag) (map (λ j. start i j tag) (G .to i))
-  starts-carried i = all-map (λ j. start i j tag) (all-change (λ j c. a-start c refl) (all-times (G .to i)))
+  starts-carried i = all-image (λ j. start i j tag) (all-map (λ j c. a-start c refl) (all-times (G .to i)))
 
   pub lvts-carried : (j : ℕ) → st j ≡ finished → All (Carried G st mk tag) (map (λ i. lvt j i tag (mk j)) (G .from j))
   lvts-carried j p =
-      all-map (λ i. lvt j i tag (mk j))
-      (all-change (λ i c. an-lvt (omega (arith, G .matched i j)) p refl refl) (all-times (G .from j)))
+      all-image (λ i. lvt j i tag (mk j))
+      (all-map (λ i c. an-lvt (omega (arith, G .matched i j)) p refl refl) (all-times (G .from j)))
 
   pub updates-carried : (j t v : ℕ) → t < tag → All (Carried G st mk tag) (map (λ k. update j k t v) (children (G .last) j))
   updates-carried j t v l =
-      all-map (λ k. update j k t v) (all-change (λ k c. an-update c l) (all-times (children (G .last) j)))
+      all-image (λ k. update j k t v) (all-map (λ k c. an-update c l) (all-times (children (G .last) j)))
 
   -- at the close no Start and no Lvt is under way
   module _ (ar : ℕ → ℕ → ℕ) (fr : List RoundFrame) (h : ArcStates G st mk ar fr) (z : (a b : ℕ) → Arc G a b → ar a b ≡ 2) where
@@ -98,4 +99,4 @@ module _ (G : Graph) (st mk : ℕ → ℕ) (tag : ℕ) where
     closed-on f rest x (an-update {t = t} c e) = an-update {t = t} c (omega arith)
 
     pub carried-close : All (Carried G st mk tag) fr → All (Carried G (λ i. idle) mk (suc tag)) fr
-    carried-close a = all-member fr (λ f rest x. closed-on f rest x (all-inserted x a))
+    carried-close a = all-member fr (λ f rest x. closed-on f rest x (all-taken x a))

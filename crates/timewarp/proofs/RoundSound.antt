@@ -45,7 +45,8 @@ use Rattle.timewarp.specs.Round.{
   update-in-turn,
 }
 use Rattle.timewarp.proofs.FamilyLaws.{Same, same, other, same?, Set, at, off, set?, set-at, set-off, sum-constant}
-use Rattle.timewarp.proofs.Tallies.{tally, tally-insert, all-append, all-inserted, all-rest, all-map, all-change, all-member}
+use Rattle.timewarp.proofs.ListLaws.{all-append, all-taken, all-rest, all-image, all-map, all-every}
+use Rattle.timewarp.proofs.Tallies.{tally, tally-insert}
 use Rattle.timewarp.proofs.RoundFrames.{startOn, lvtOn, updateTo, both-is}
 use Rattle.timewarp.proofs.RoundArcs.{
   fresh,
@@ -95,9 +96,6 @@ update-hour : {P Q : ℕ → Type 0} → ((g : ℕ) → P g → Q g) → (f : Ro
 update-hour on (start i j t) h = tt
 update-hour on (lvt i j t v) h = tt
 update-hour on (update i j t v) h = on v h
-
-all-of : {A : Type 0} {P : A → Type 0} (l : List A) → ((a : A) → P a) → All P l
-all-of l h = all-member l (λ a rest x. h a)
 
 -- a maximum is one of the two
 max-either : (P : ℕ → Type 0) (a b : ℕ) → P a → P b → P (max a b)
@@ -161,12 +159,12 @@ module _ (G : Graph) (never : ℕ) (O W : ℕ → ℕ → Type 0) (down-O : Down
         crest = crest-begin (G .last) status (s .crest) i p;
         carried =
             all-append
-            (all-change (carried-on G status mark tag st′ mk′ (set-unfinished G status mark tag i counting v (omega arith))) (s .carried))
+            (all-map (carried-on G status mark tag st′ mk′ (set-unfinished G status mark tag i counting v (omega arith))) (s .carried))
             (starts-carried G st′ mk′ tag i);
         cut = cut-begin (G .last) status mark O W down-O down-W (s .cut) i v p (read-O .bound i v x);
         marks-capped = marks-set (λ m. m ≤ never) (G .last) status mark (s .marks-capped) st′ i v (λ m n. read-O .capped i v x) others;
         floor = λ k m. on (agreed k) (s .floor k m);
-        update-floor = all-append (all-change (update-hour on) (s .update-floor)) (all-map (λ j. start i j tag) (all-of (G .to i) (λ j. tt)));
+        update-floor = all-append (all-map (update-hour on) (s .update-floor)) (all-image (λ j. start i j tag) (all-every (λ j. tt) (G .to i)));
         counts = counts-begin G status frames tag written accepted (s .counts) i tag l p;
       }
     where
@@ -206,13 +204,13 @@ module _ (G : Graph) (never : ℕ) (O W : ℕ → ℕ → Type 0) (down-O : Down
         arcs = arcs-stop G status mark arrived frames (s .arcs) i v p;
         crest = crest-set (G .last) status (s .crest) i stopped (omega arith) (last-stopped q);
         carried =
-            all-change (carried-on G status mark tag st′ mk′ (set-unfinished G status mark tag i stopped m (omega arith))) (s .carried);
+            all-map (carried-on G status mark tag st′ mk′ (set-unfinished G status mark tag i stopped m (omega arith))) (s .carried);
         cut = cut-stop (G .last) status mark O W down-O down-W (s .cut) i v p (read-W .bound i v x);
         marks-capped =
             marks-set (λ n. n ≤ never) (G .last) status mark (s .marks-capped) st′ i m
             (λ k n. omega (arith, s .marks-capped i l (omega arith))) others;
         floor = λ k n. on (agreed k) (s .floor k n);
-        update-floor = all-change (update-hour on) (s .update-floor);
+        update-floor = all-map (update-hour on) (s .update-floor);
         counts = counts-stop G status frames tag written accepted (s .counts) i l p;
       }
     where
@@ -228,7 +226,7 @@ module _ (G : Graph) (never : ℕ) (O W : ℕ → ℕ → Type 0) (down-O : Down
       last-stopped : Stops G i r → i ≢ G .last → stopped ≤ status (G .last)
       last-stopped (as-it-starts e) n = absurd (n e)
       last-stopped (at-an-lvt {j = j} y) n =
-          let (c, f, e, d) = of-lvt (all-inserted y (s .carried)) in
+          let (c, f, e, d) = of-lvt (all-taken y (s .carried)) in
           s .crest j (G .upward i j c .1) (omega arith)
 
       others : (k : ℕ) → i ≢ k → counting ≤ st′ k → counting ≤ status k
@@ -244,7 +242,7 @@ module _ (G : Graph) (never : ℕ) (O W : ℕ → ℕ → Type 0) (down-O : Down
       → RoundSound G never O W (takeLvt j i v rest r)
   unfolding takeLvt
   sound-lvt j i t v rest p x =
-      let (c, f, e, d) = of-lvt (all-inserted x (s .carried)) in
+      let (c, f, e, d) = of-lvt (all-taken x (s .carried)) in
       go c f e
     where
       m : ℕ
@@ -266,7 +264,7 @@ module _ (G : Graph) (never : ℕ) (O W : ℕ → ℕ → Type 0) (down-O : Down
             crest = s .crest;
             carried =
                 all-rest x
-                (all-change
+                (all-map
                 (carried-on G status mark tag status mk′
                 (λ k q. (q, set-unfinished G status mark tag i stopped m (omega arith) k q .1)))
                 (s .carried));
@@ -275,7 +273,7 @@ module _ (G : Graph) (never : ℕ) (O W : ℕ → ℕ → Type 0) (down-O : Down
                 marks-set (λ n. n ≤ never) (G .last) status mark (s .marks-capped) status i m
                 (λ k n. omega (arith, s .marks-capped i k n)) (λ k n a. a);
             floor = λ k n. on c y e (agreed k) (s .floor k n);
-            update-floor = all-rest x (all-change (update-hour (on c y e)) (s .update-floor));
+            update-floor = all-rest x (all-map (update-hour (on c y e)) (s .update-floor));
             counts = counts-lvt G status frames tag written accepted (s .counts) j i t v rest x;
           }
 
@@ -287,13 +285,13 @@ module _ (G : Graph) (never : ℕ) (O W : ℕ → ℕ → Type 0) (down-O : Down
         arcs = arcs-finish G status mark arrived frames (s .arcs) j tag (mark j) p q;
         crest = crest-set (G .last) status (s .crest) j finished (omega arith) (λ n. s .crest j l (omega arith));
         carried =
-            all-append (all-change (carried-on G status mark tag st′ mark (λ k e. (stays k e (same? j k), refl))) (s .carried))
+            all-append (all-map (carried-on G status mark tag st′ mark (λ k e. (stays k e (same? j k), refl))) (s .carried))
             (lvts-carried G st′ mark tag j (set-at j finished status j refl));
         cut = cut-finish (G .last) status mark O W down-O down-W (s .cut) j p;
         marks-capped = λ k m n. s .marks-capped k m (begun-before k n (same? j k));
         floor = λ k m. on (agreed k) (s .floor k m);
         update-floor =
-            all-append (all-change (update-hour on) (s .update-floor)) (all-map (λ i. lvt j i tag (mark j)) (all-of (G .from j) (λ i. tt)));
+            all-append (all-map (update-hour on) (s .update-floor)) (all-image (λ i. lvt j i tag (mark j)) (all-every (λ i. tt) (G .from j)));
         counts = counts-finish G status frames tag written accepted (s .counts) j tag (mark j) l p;
       }
     where
@@ -350,8 +348,8 @@ module _ (G : Graph) (never : ℕ) (O W : ℕ → ℕ → Type 0) (down-O : Down
           marks-capped = λ j l n. absurd (omega arith);
           floor = λ k l. kept k l (set? 0 (mark 0) agreed k);
           update-floor =
-              all-append (all-change (update-hour on) (s .update-floor))
-              (all-map (λ k. update 0 k tag (mark 0)) (all-of (children (G .last) 0) (λ k. close-floor)));
+              all-append (all-map (update-hour on) (s .update-floor))
+              (all-image (λ k. update 0 k tag (mark 0)) (all-every (λ k. close-floor) (children (G .last) 0)));
           counts =
               counts-close G status frames tag written accepted (s .counts) (mark 0)
               (all-spent G status p close-finished);
@@ -374,11 +372,11 @@ module _ (G : Graph) (never : ℕ) (O W : ℕ → ℕ → Type 0) (down-O : Down
       → RoundSound G never O W (takeUpdate G j t v rest r)
   unfolding takeUpdate
   sound-update i j t v rest x =
-      let (c, l) = of-update (all-inserted x (s .carried)) in
+      let (c, l) = of-update (all-taken x (s .carried)) in
       go c l (child? (G .last) i j)
     where
       new : Floor never (G .last) status mark O W v
-      new = all-inserted x (s .update-floor)
+      new = all-taken x (s .update-floor)
 
       kept : j ≤ G .last → (k : ℕ) → k ≤ G .last → Set j (max (agreed j) v) agreed k
           → Floor never (G .last) status mark O W (set j (max (agreed j) v) agreed k)
@@ -397,7 +395,7 @@ module _ (G : Graph) (never : ℕ) (O W : ℕ → ℕ → Type 0) (down-O : Down
             floor = λ k m. kept (y .2) k m (set? j (max (agreed j) v) agreed k);
             update-floor =
                 all-append (all-rest x (s .update-floor))
-                (all-map (λ k. update j k t v) (all-of (children (G .last) j) (λ k. new)));
+                (all-image (λ k. update j k t v) (all-every (λ k. new) (children (G .last) j)));
             counts = counts-update G status frames tag written accepted (s .counts) i j t v rest x l c;
           }
 
@@ -448,7 +446,7 @@ module _ (G : Graph) (never : ℕ) (O W : ℕ → ℕ → Type 0) (r : Rounds) (
         cut = cut-arrives (G .last) status mark O W down-O down-W (s .cut) all-after-stop O′ W′ i a;
         marks-capped = s .marks-capped;
         floor = λ k l. on (agreed k) (s .floor k l);
-        update-floor = all-change (update-hour on) (s .update-floor);
+        update-floor = all-map (update-hour on) (s .update-floor);
         counts = s .counts;
       }
     where
@@ -463,11 +461,11 @@ module _ (G : Graph) (never : ℕ) (O W : ℕ → ℕ → Type 0) (r : Rounds) (
       record {
         arcs = arcs-lower G status mark arrived frames (s .arcs) i h;
         crest = s .crest;
-        carried = all-change (carried-on G status mark tag status (set i m mark) (λ k e. (e, stays k e (same? i k)))) (s .carried);
+        carried = all-map (carried-on G status mark tag status (set i m mark) (λ k e. (e, stays k e (same? i k)))) (s .carried);
         cut = cut-sends (G .last) status mark O W down-O down-W (s .cut) all-after-stop O′ W′ i h a;
         marks-capped = marks-noted (λ n. n ≤ never) (G .last) status mark (s .marks-capped) i h (λ p q. omega arith);
         floor = λ k p. on (agreed k) (s .floor k p);
-        update-floor = all-change (update-hour on) (s .update-floor);
+        update-floor = all-map (update-hour on) (s .update-floor);
         counts = s .counts;
       }
     where
@@ -490,7 +488,7 @@ module _ (G : Graph) (never : ℕ) (O W : ℕ → ℕ → Type 0) (r : Rounds) (
   pub in-turn : (f : RoundFrame) (rest : List RoundFrame) → Insert f rest frames → InTurn G r f
   unfolding startOn lvtOn updateTo
   in-turn (start i j t) rest x =
-      let (c, e) = of-start (all-inserted x (s .carried)) in
+      let (c, e) = of-start (all-taken x (s .carried)) in
       go c e (s .arcs i j c)
     where
       under-way : 1 ≤ tally (startOn i j) frames
@@ -501,7 +499,7 @@ module _ (G : Graph) (never : ℕ) (O W : ℕ → ℕ → Type 0) (r : Rounds) (
       go c e (begun l) = absurd (omega (arith, under-way))
       go c e (back l) = absurd (omega (arith, under-way))
   in-turn (lvt j i t v) rest x =
-      let (c, f, e, d) = of-lvt (all-inserted x (s .carried)) in
+      let (c, f, e, d) = of-lvt (all-taken x (s .carried)) in
       go c f e d (s .arcs i j c)
     where
       under-way : 1 ≤ tally (lvtOn i j) frames
@@ -516,7 +514,7 @@ module _ (G : Graph) (never : ℕ) (O W : ℕ → ℕ → Type 0) (r : Rounds) (
           d
       go c f e d (back l) = absurd (omega (arith, under-way))
   in-turn (update i j t v) rest x =
-      let (c, l) = of-update (all-inserted x (s .carried)) in
+      let (c, l) = of-update (all-taken x (s .carried)) in
       update-in-turn c l (omega (arith, once c l (child? (G .last) i j)))
     where
       under-way : 1 ≤ tally (updateTo t j) frames

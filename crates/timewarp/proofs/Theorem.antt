@@ -11,8 +11,7 @@ use Rattle.timewarp.specs.Round.{RoundFrame, InTurn, Completed}
 use Rattle.timewarp.specs.SingleQueue.{singleHistory}
 use Rattle.timewarp.specs.Worlds.{Setting, World, Step, Steps, none, then, Reachable}
 use Rattle.timewarp.specs.Claims.{Claim, NothingToCommit}
-use Rattle.timewarp.proofs.ListLaws.{all-left, all-right, all-head}
-use Rattle.timewarp.proofs.Tallies.{all-member}
+use Rattle.timewarp.proofs.ListLaws.{all-left, all-right, all-head, all-member}
 use Rattle.timewarp.proofs.Addressing.{Here}
 use Rattle.timewarp.proofs.ArcLaws.{round-below}
 use Rattle.timewarp.proofs.Histories.{Bounds, bounds-events, bounds-acknowledgments, committed-beginning, history-whole, acknowledgments-settle}
