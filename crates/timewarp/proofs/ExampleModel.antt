@@ -4,7 +4,7 @@ use mathlib.Core.List.{List, [], _∷_}
 use mathlib.Core.Path.{_≡_, refl, sym, ap}
 use Prim.Native.Nat.{ℕ, zero, suc, _+_, _-_, _≤_, _<_}
 use native.Mathlib.Omega.{arith}
-use lib.Dec.{ltb, ltb→lt}
+use lib.Dec.{ltb, ltb→lt, lit<}
 use lib.ListN.{length}
 use Rattle.timewarp.specs.Lists.{All, nil, cons}
 use Rattle.timewarp.specs.Events.{Model, first}
@@ -78,15 +78,23 @@ first-here zero = cons refl nil
 first-here (suc zero) = cons refl nil
 first-here (suc (suc i)) = nil
 
-pub first-due : (i : ℕ) → All (λ p. p .due < noHour) (atFirst i)
-unfolding atFirst
-first-due zero = cons (omega arith) nil
-first-due (suc zero) = cons (omega arith) nil
+pub first-due : (i : ℕ) → All (λ p. first (parcelKey p) < noHour) (atFirst i)
+unfolding atFirst first
+first-due zero = cons (lit< tt) nil
+first-due (suc zero) = cons (lit< tt) nil
 first-due (suc (suc i)) = nil
 
--- The state counts what was done.
-unfoldable pub relay : Model
+-- What is passed on is later, and due.
+pub passed-later : (i n : ℕ) (p : Parcel) → All (λ q. first (parcelKey p) < first (parcelKey q)) (passedOn i n (p .due) (p .left))
 unfolding first
+passed-later i n p = each (λ l h. omega arith) (passed i n (p .due) (p .left))
+
+pub passed-due : (i n : ℕ) (p : Parcel) → All (λ q. first (parcelKey q) < noHour) (passedOn i n (p .due) (p .left))
+unfolding first
+passed-due i n p = each (λ l h. h) (passed i n (p .due) (p .left))
+
+-- The state counts what was done.
+abbrev pub relay : Model
 relay =
     record {
       Message = Parcel;
@@ -106,10 +114,13 @@ relay =
       sends-one = λ i n p. at-most-one (passed i n (p .due) (p .left));
       sends-from = λ i n p. each (λ l h. refl) (passed i n (p .due) (p .left));
       sends-inside = λ i n p. each (λ l h. omega arith) (passed i n (p .due) (p .left));
-      sends-later = λ i n p. each (λ l h. omega arith) (passed i n (p .due) (p .left));
-      sends-due = λ i n p. each (λ l h. h) (passed i n (p .due) (p .left));
+      sends-later = passed-later;
+      sends-due = passed-due;
     }
 
-unfoldable pub relayOfTwo : Setting
-unfolding relay two
-relayOfTwo = record { model = relay; graph = two; same-gateways = refl }
+pub both-two : two .last ≡ 1
+unfolding two
+both-two = refl
+
+abbrev pub relayOfTwo : Setting
+relayOfTwo = record { model = relay; graph = two; same-gateways = both-two }

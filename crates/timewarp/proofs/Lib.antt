@@ -30,3 +30,5 @@ pub mod CallChains
 pub mod SmallGraphs
 pub mod RoundExamples
 pub mod ExampleModel
+pub mod EventExamples
+pub mod WholeRun
