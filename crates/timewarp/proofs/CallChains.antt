@@ -1,21 +1,22 @@
 -- The calls are chains of elementary steps.
-use mathlib.Core.Bool.{Bool, true, false, cond, cond}
+use mathlib.Core.Bool.{Bool, true, false, cond}
 use mathlib.Core.List.{List, [], _∷_, _++_, map}
-use mathlib.Core.Path.{_≡_, refl, sym, ap, subst}
+use mathlib.Core.Path.{_≡_, refl, sym, ap, subst, _∙_}
 use Prim.Native.Nat.{ℕ, zero, suc, _≤_}
 use native.Mathlib.Omega.{arith}
+use lib.Dec.{ltb, ltb→lt}
 use Rattle.timewarp.specs.Lists.{All, nil, cons, Insert, here, there}
 use Rattle.timewarp.specs.Events.{Model, hour, NotLater, sentBy}
 use Rattle.timewarp.specs.SingleQueue.{notLater, earliest, others}
 use Rattle.timewarp.specs.Gateways.{Event, plain, cancel, message, Gateway, history, after}
-use Rattle.timewarp.specs.EventSteps.{does, undoes, takes, Taking, becomesPending, meetsCancel, strikesOut, waits}
+use Rattle.timewarp.specs.EventSteps.{does, undoes, takes, takesAcknowledgment, commits, Taking, becomesPending, meetsCancel, strikesOut, waits}
 use Rattle.timewarp.specs.Worlds.{Setting, World, Step, event, Steps, none, then}
-use Rattle.timewarp.specs.Calls.{has, without, same, sameEvent, enqueue, becomes, doMessage, doEarliest, work, undoMessage, undoLater, undoBackTo, accept, acceptMet, acceptPending, acceptStriking, acceptWaiting, takePlain, takeCancel}
+use Rattle.timewarp.specs.Calls.{has, without, same, sameEvent, enqueue, becomes, doMessage, doEarliest, work, undoMessage, undoLater, undoBackTo, accept, acceptMet, acceptPending, acceptStriking, acceptWaiting, takePlain, takeCancel, takeAcknowledgment, oldest, newerOnes, commitOldest, commit}
 use Rattle.timewarp.proofs.ListLaws.{insert-last, inserts-back, all-taken, all-map, all-left}
 use Rattle.timewarp.proofs.FamilyLaws.{change-at}
 use Rattle.timewarp.proofs.OrderLaws.{Compared, sooner, later, compared, Sorted, empty, newest, order-refl, order-trans, order-antisym, not-later}
 use Rattle.timewarp.proofs.QueueLaws.{first-taken, first-least}
-use Rattle.timewarp.proofs.Histories.{bounds-events}
+use Rattle.timewarp.proofs.Histories.{bounds-events, acknowledgments-settle}
 use Rattle.timewarp.proofs.Joined.{Good, good-steps}
 use Rattle.timewarp.proofs.Theorem.{bounds}
 
@@ -51,7 +52,7 @@ has-inserted test e (there {b = b} {m = m} i) = go (test b) refl (has-inserted t
 
 module _ (S : Setting) where
   open Setting S using (model)
-  open Model model using (Message, key, to, last)
+  open Model model using (Message, key, from, to, last)
 
   -- The newer part of a sorted history is sorted.
   sorted-front : (l k : List Message) → Sorted model (l ++ k) → Sorted model l
@@ -329,3 +330,37 @@ module _ (S : Setting) where
         go true f y d = rw f (then none (strike w under f))
         go false f true d = rw (f, d) (then (back d .undone .chain) (strike v (back d .undone .under-way) (back d .is-pending)))
         go false f false d = rw (f, d) (then none (accept-step (cancel m) to-here w _ under (waits m here)))
+
+    -- Taking an acknowledgment is a step.
+    pub takeAcknowledgment-chain :
+        (e : Event Message) (w : World S) →
+        Good S w →
+        from (message e) ≡ i →
+        {rest : List (Event Message)} →
+        Insert e rest (w .events .network .acknowledgments) →
+        Steps S w (takeAcknowledgment S i e w)
+    unfolding takeAcknowledgment becomes
+    takeAcknowledgment-chain e w k to-here under =
+        let found = all-taken under (acknowledgments-settle model (k .events-sound)) in
+        let out = subst (λ (j : ℕ). Insert e (found .0) (w .events .gateways j .outstanding)) to-here (found .1) in
+        then none (event inside (takesAcknowledgment e (taken-out e under) to-here (taken-out e out)))
+
+    oldest-last : (m : Message) (l : List Message) → m ∷ l ≡ newerOnes S m l ++ (oldest S m l ∷ [])
+    unfolding newerOnes oldest
+    oldest-last m [] = refl
+    oldest-last m (n ∷ l) = ap (λ k. m ∷ k) (oldest-last n l)
+
+    commitOldest-chain : (l : List Message) (w : World S) → w .events .gateways i .processed ≡ l → Steps S w (commitOldest S i l w)
+    unfolding commitOldest becomes
+    commitOldest-chain [] w e = none
+    commitOldest-chain (m ∷ l) w e = go (ltb (hour model (oldest S m l)) (w .rounds .agreed i)) refl
+      where
+        go : (x : Bool) → ltb (hour model (oldest S m l)) (w .rounds .agreed i) ≡ x → Steps S w (commitOldest S i (m ∷ l) w)
+        go true f =
+            rw f (then none (event inside (commits (oldest S m l) (e ∙ oldest-last m l) (ltb→lt _ _ (rw f tt)))))
+        go false f = rw f none
+
+    -- Commit is a step, or nothing.
+    pub commit-chain : (w : World S) → Steps S w (commit S i w)
+    unfolding commit
+    commit-chain w = commitOldest-chain (w .events .gateways i .processed) w refl

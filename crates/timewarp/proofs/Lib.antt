@@ -28,3 +28,6 @@ pub mod Theorem
 pub mod CallChains
 pub mod SmallGraphs
 pub mod RoundExamples
+pub mod ExampleModel
+pub mod EventExamples
+pub mod WholeRun

@@ -1,8 +1,9 @@
--- What a gateway's calls make of the world where they refuse nothing: work, taking a message, taking a cancel.
-use mathlib.Core.Bool.{Bool, true, false, cond, cond}
+-- What a gateway's calls make of the world where they refuse nothing: work, taking an event or an acknowledgment, commit.
+use mathlib.Core.Bool.{Bool, true, false, cond}
 use mathlib.Core.List.{List, [], _∷_, _++_, map}
 use Prim.Native.Nat.{ℕ, zero, suc}
-use Rattle.timewarp.specs.Events.{Model, sentBy}
+use lib.Dec.{ltb}
+use Rattle.timewarp.specs.Events.{Model, hour, sentBy}
 use Rattle.timewarp.specs.SingleQueue.{notLater, earliest, others}
 use Rattle.timewarp.specs.Gateways.{Event, plain, cancel, Gateway, Network, history, gatewayOf, networkOf, after}
 use Rattle.timewarp.specs.Worlds.{Setting, World, lowerAll}
@@ -135,3 +136,34 @@ module _ (S : Setting) where
       let undone = acceptStriking i m (v .events .gateways i) v in
       let kept = acceptWaiting i m g w in
       cond (has (same m) (g .pending)) struck (cond (has (same m) (g .processed)) undone kept)
+
+  -- Take an acknowledgment: one equal outstanding event goes.
+  unfoldable pub takeAcknowledgment : ℕ → Event Message → World S → World S
+  takeAcknowledgment i e w =
+      let g = w .events .gateways i in
+      becomes
+      i
+      (gatewayOf (g .committed) (g .processed) (g .pending) (g .waiting) (without (sameEvent e) (g .outstanding)))
+      (networkOf (w .events .network .events) (without (sameEvent e) (w .events .network .acknowledgments)))
+      []
+      w
+
+  -- The oldest of the event m and the older ones l, and the newer ones without it.
+  unfoldable pub oldest : Message → List Message → Message
+  oldest m [] = m
+  oldest m (n ∷ l) = oldest n l
+
+  unfoldable pub newerOnes : Message → List Message → List Message
+  newerOnes m [] = []
+  newerOnes m (n ∷ l) = m ∷ newerOnes n l
+
+  -- The oldest of the processed events is committed if its hour is below the agreed time.
+  unfoldable pub commitOldest : ℕ → List Message → World S → World S
+  commitOldest i [] w = w
+  commitOldest i (m ∷ l) w =
+      let g = w .events .gateways i in
+      let v = becomes i (gatewayOf (oldest m l ∷ g .committed) (newerOnes m l) (g .pending) (g .waiting) (g .outstanding)) (w .events .network) [] w in
+      cond (ltb (hour model (oldest m l)) (w .rounds .agreed i)) v w
+
+  unfoldable pub commit : ℕ → World S → World S
+  commit i w = commitOldest i (w .events .gateways i .processed) w

@@ -6,38 +6,41 @@ use Rattle.timewarp.specs.Lists.{All, Insert, Inserts}
 use Rattle.timewarp.specs.Events.{Model, hour, NotLater, sentBy}
 use Rattle.timewarp.specs.Gateways.{Event, plain, cancel, message, Gateway, Network, history, gatewayOf, networkOf}
 
-module _ (M : Model) where
-  open Model M using (Message, from, to)
+-- `Taking M time g e g′`: what becomes of the event e that the gateway g takes, whose agreed time is `time`. Only what is
+-- processed or committed is in a fixed order; into the other lists a new element is put at any place.
+module _ (M : Model) (time : ℕ) (g : Gateway (M .Message)) where
+  open Model M using (Message)
 
-  -- `Taking time g e g′`: what becomes of the event e that a gateway takes, whose agreed time is `time`.
-  pub data Taking (time : ℕ) (g : Gateway Message) : Event Message → Gateway Message → Type 0 where
+  pub data Taking : Event Message → Gateway Message → Type 0 where
     -- A message not below the agreed time and not earlier than anything processed becomes pending.
     becomesPending :
         (m : Message) {pending : List Message} →
         time ≤ hour M m →
         All (λ p. NotLater M p m) (g .processed) →
         Insert m (g .pending) pending →
-        Taking time g (plain m) (gatewayOf (g .committed) (g .processed) pending (g .waiting) (g .outstanding))
+        Taking (plain m) (gatewayOf (g .committed) (g .processed) pending (g .waiting) (g .outstanding))
     -- A message whose cancel waits: both vanish.
     meetsCancel :
         (m : Message) {waiting : List Message} →
         Insert m waiting (g .waiting) →
-        Taking time g (plain m) (gatewayOf (g .committed) (g .processed) (g .pending) waiting (g .outstanding))
+        Taking (plain m) (gatewayOf (g .committed) (g .processed) (g .pending) waiting (g .outstanding))
     -- A cancel whose message is pending: both vanish.
     strikesOut :
         (m : Message) {pending : List Message} →
         Insert m pending (g .pending) →
-        Taking time g (cancel m) (gatewayOf (g .committed) (g .processed) pending (g .waiting) (g .outstanding))
+        Taking (cancel m) (gatewayOf (g .committed) (g .processed) pending (g .waiting) (g .outstanding))
     -- A cancel that waits.
     waits :
         (m : Message) {waiting : List Message} →
         Insert m (g .waiting) waiting →
-        Taking time g (cancel m) (gatewayOf (g .committed) (g .processed) (g .pending) waiting (g .outstanding))
+        Taking (cancel m) (gatewayOf (g .committed) (g .processed) (g .pending) waiting (g .outstanding))
 
-  -- `EventStep i time g n sent g′ n′`: gateway i, whose agreed time is `time`, takes a step from g to g′ and the network
-  -- from n to n′. Of each message in `sent` it sends the message or its cancel. Only what is processed or committed is in
-  -- a fixed order; into the other lists a new element is put at any place.
-  pub data EventStep (i time : ℕ) (g : Gateway Message) (n : Network Message) : List Message → Gateway Message → Network Message → Type 0 where
+-- `EventStep M i time g n sent g′ n′`: gateway i, whose agreed time is `time`, takes a step from g to g′ and the network
+-- from n to n′. Of each message in `sent` it sends the message or its cancel.
+module _ (M : Model) (i time : ℕ) (g : Gateway (M .Message)) (n : Network (M .Message)) where
+  open Model M using (Message, from, to)
+
+  pub data EventStep : List Message → Gateway Message → Network Message → Type 0 where
     -- The earliest pending message is done. What it sends goes under way and is outstanding.
     does :
         (m : Message) {rest : List Message} {out events : List (Event Message)} →
@@ -46,10 +49,6 @@ module _ (M : Model) where
         Inserts (map plain (sentBy M i (history g) m)) (g .outstanding) out →
         Inserts (map plain (sentBy M i (history g) m)) (n .events) events →
         EventStep
-        i
-        time
-        g
-        n
         (sentBy M i (history g) m)
         (gatewayOf (g .committed) (m ∷ g .processed) rest (g .waiting) out)
         (networkOf events (n .acknowledgments))
@@ -65,10 +64,6 @@ module _ (M : Model) where
         Inserts (map cancel (sentBy M i (older ++ g .committed) m)) (g .outstanding) out →
         Inserts (map cancel (sentBy M i (older ++ g .committed) m)) (n .events) events →
         EventStep
-        i
-        time
-        g
-        n
         (sentBy M i (older ++ g .committed) m)
         (gatewayOf (g .committed) older pending (g .waiting) out)
         (networkOf events (n .acknowledgments))
@@ -78,8 +73,8 @@ module _ (M : Model) where
         Insert e events (n .events) →
         Insert e (n .acknowledgments) acks →
         to (message e) ≡ i →
-        Taking time g e g′ →
-        EventStep i time g n [] g′ (networkOf events acks)
+        Taking M time g e g′ →
+        EventStep [] g′ (networkOf events acks)
     -- An acknowledgment is taken: one equal outstanding event goes.
     takesAcknowledgment :
         (e : Event Message) {out acks : List (Event Message)} →
@@ -87,10 +82,6 @@ module _ (M : Model) where
         from (message e) ≡ i →
         Insert e out (g .outstanding) →
         EventStep
-        i
-        time
-        g
-        n
         []
         (gatewayOf (g .committed) (g .processed) (g .pending) (g .waiting) out)
         (networkOf (n .events) acks)
@@ -99,11 +90,4 @@ module _ (M : Model) where
         (m : Message) {newer : List Message} →
         g .processed ≡ newer ++ (m ∷ []) →
         hour M m < time →
-        EventStep
-        i
-        time
-        g
-        n
-        []
-        (gatewayOf (m ∷ g .committed) newer (g .pending) (g .waiting) (g .outstanding))
-        n
+        EventStep [] (gatewayOf (m ∷ g .committed) newer (g .pending) (g .waiting) (g .outstanding)) n
