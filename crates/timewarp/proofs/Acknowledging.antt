@@ -5,7 +5,7 @@ use mathlib.Core.Logic.{_≢_}
 use Prim.Native.Nat.{ℕ, _+_}
 use native.Mathlib.Omega.{arith}
 use Rattle.timewarp.specs.Lists.{All, count}
-use Rattle.timewarp.specs.Events.{Model}
+use Rattle.timewarp.specs.Models.{Model}
 use Rattle.timewarp.specs.Gateways.{Event, plain, cancel, message, Gateway, Network, history}
 use Rattle.timewarp.specs.EventSteps.{EventStep, does, undoes, takes, takesAcknowledgment, commits}
 use Rattle.timewarp.proofs.ListLaws.{all-image, count-insert, count-inserts, count-none, matches-other}

@@ -6,8 +6,8 @@ use Prim.Native.Nat.{ℕ, zero, suc, _≤_}
 use native.Mathlib.Omega.{arith}
 use lib.Dec.{ltb, ltb→lt}
 use Rattle.timewarp.specs.Lists.{All, nil, cons, Insert, here, there}
-use Rattle.timewarp.specs.Events.{Model, hour, NotLater, sentBy}
-use Rattle.timewarp.specs.SingleQueue.{notLater, earliest, others}
+use Rattle.timewarp.specs.Models.{Model, hour, NotLater, sentBy}
+use Rattle.timewarp.specs.SingleQueue.{isNotLater, earliest, others}
 use Rattle.timewarp.specs.Gateways.{Event, plain, cancel, message, Gateway, history, after}
 use Rattle.timewarp.specs.EventSteps.{does, undoes, takes, takesAcknowledgment, commits, Taking, becomesPending, meetsCancel, strikesOut, waits}
 use Rattle.timewarp.specs.Worlds.{Setting, World, Step, event, Steps, none, then}
@@ -91,9 +91,9 @@ module _ (S : Setting) where
   enqueued : (m : Message) (l : List Message) → Insert m l (enqueue S m l)
   unfolding enqueue
   enqueued m [] = here
-  enqueued m (n ∷ l) = go (notLater (key n) (key m)) refl (enqueued m l)
+  enqueued m (n ∷ l) = go (isNotLater (key n) (key m)) refl (enqueued m l)
     where
-      go : (x : Bool) → notLater (key n) (key m) ≡ x → Insert m l (enqueue S m l) → Insert m (n ∷ l) (cond (notLater (key n) (key m)) (n ∷ enqueue S m l) (m ∷ (n ∷ l)))
+      go : (x : Bool) → isNotLater (key n) (key m) ≡ x → Insert m l (enqueue S m l) → Insert m (n ∷ l) (cond (isNotLater (key n) (key m)) (n ∷ enqueue S m l) (m ∷ (n ∷ l)))
       go true e k = rw e (there k)
       go false e k = rw e here
 
@@ -191,7 +191,7 @@ module _ (S : Setting) where
               NoneLater (undoMessage S i (queue w) m older w) (undoLater S i (message e) older (undoMessage S i (queue w) m older w)) →
               NoneLater
               w
-              (cond (notLater (key m) (key (message e))) w (undoLater S i (message e) older (undoMessage S i (queue w) m older w)))
+              (cond (isNotLater (key m) (key (message e))) w (undoLater S i (message e) older (undoMessage S i (queue w) m older w)))
           go (sooner c f) k =
               rw f
               (record {

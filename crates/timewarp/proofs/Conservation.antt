@@ -5,12 +5,12 @@ use mathlib.Core.Logic.{_≢_}
 use Prim.Native.Nat.{ℕ, _+_}
 use native.Mathlib.Omega.{arith}
 use Rattle.timewarp.specs.Lists.{Insert}
-use Rattle.timewarp.specs.Events.{Model, sentBy}
+use Rattle.timewarp.specs.Models.{Model, sentBy}
 use Rattle.timewarp.specs.Gateways.{Event, plain, cancel, message, Gateway, Network, history}
 use Rattle.timewarp.specs.EventSteps.{EventStep, does, undoes, takes, takesAcknowledgment, commits, Taking, becomesPending, meetsCancel, strikesOut, waits}
 use Rattle.timewarp.proofs.ListLaws.{count-append, count-insert, matches-other}
 use Rattle.timewarp.proofs.OrderLaws.{message-eq, event-eq}
-use Rattle.timewarp.proofs.EventCounts.{times, events, plain-injective, cancel-injective, plain-no-cancel, cancel-no-plain, insert-own, inserts-own, insert-other, inserts-other, times-cons, times-insert}
+use Rattle.timewarp.proofs.EventCounts.{times, eventCount, plain-injective, cancel-injective, plain-no-cancel, cancel-no-plain, insert-own, inserts-own, insert-other, inserts-other, times-cons, times-insert}
 use Rattle.timewarp.proofs.StepLaws.{history-undone, history-committed, taking-history}
 
 module _ (M : Model) where
@@ -28,7 +28,7 @@ module _ (M : Model) where
   module _ (x : Message) where
     -- What gateway i sent of x, with the cancels of x under way.
     unfoldable pub made : ℕ → Gateway Message → Network Message → ℕ
-    made i g n = times M x (sentIn i (history g)) + events M (cancel x) (n .events)
+    made i g n = times M x (sentIn i (history g)) + eventCount M (cancel x) (n .events)
 
     -- What a gateway has of x, without and with the waiting cancels of it.
     unfoldable pub held : Gateway Message → ℕ
@@ -39,8 +39,8 @@ module _ (M : Model) where
         {time : ℕ} {g g′ : Gateway Message} {e : Event Message} {l k : List (Event Message)} →
         Taking M time g e g′ →
         Insert e l k →
-        events M (cancel x) l + times M x (g′ .waiting) + (times M x (g .pending) + events M (plain x) k)
-        ≡ events M (cancel x) k + times M x (g .waiting) + (times M x (g′ .pending) + events M (plain x) l)
+        eventCount M (cancel x) l + times M x (g′ .waiting) + (times M x (g .pending) + eventCount M (plain x) k)
+        ≡ eventCount M (cancel x) k + times M x (g .waiting) + (times M x (g′ .pending) + eventCount M (plain x) l)
     taken-here (becomesPending m time after put) i =
         omega (arith, times-insert M x put, insert-own M plain plain-injective x i, insert-other M cancel plain cancel-no-plain x i)
     taken-here (meetsCancel m put) i =
@@ -54,8 +54,8 @@ module _ (M : Model) where
     pub conserved-here :
         {i time : ℕ} {g g′ : Gateway Message} {n n′ : Network Message} {sent : List Message} →
         EventStep M i time g n sent g′ n′ →
-        made i g′ n′ + times M x (g′ .waiting) + (held g + events M (plain x) (n .events))
-        ≡ made i g n + times M x (g .waiting) + (held g′ + events M (plain x) (n′ .events))
+        made i g′ n′ + times M x (g′ .waiting) + (held g + eventCount M (plain x) (n .events))
+        ≡ made i g n + times M x (g .waiting) + (held g′ + eventCount M (plain x) (n′ .events))
     unfolding made held history
     conserved-here {i} {g = g} (does m take first out under) =
         omega (
@@ -97,7 +97,7 @@ module _ (M : Model) where
         {e : Event Message} {l k : List (Event Message)} →
         Insert e l k →
         to (message e) ≢ to x →
-        (events M (cancel x) l ≡ events M (cancel x) k) × (events M (plain x) l ≡ events M (plain x) k)
+        (eventCount M (cancel x) l ≡ eventCount M (cancel x) k) × (eventCount M (plain x) l ≡ eventCount M (plain x) k)
     unfolding message
     taken-elsewhere {e} i h =
         let p : cancel x ≢ e = λ q. h (sym (ap (λ y. to (message y)) q)) in
@@ -111,7 +111,7 @@ module _ (M : Model) where
         {i time : ℕ} {g g′ : Gateway Message} {n n′ : Network Message} {sent : List Message} →
         EventStep M i time g n sent g′ n′ →
         i ≢ to x →
-        made i g′ n′ + events M (plain x) (n .events) ≡ made i g n + events M (plain x) (n′ .events)
+        made i g′ n′ + eventCount M (plain x) (n .events) ≡ made i g n + eventCount M (plain x) (n′ .events)
     unfolding made history
     conserved-elsewhere {i} {g = g} (does m take first out under) h =
         omega (

@@ -5,7 +5,7 @@ use mathlib.Core.Logic.{_≢_}
 use Prim.Native.Nat.{ℕ, _+_}
 use native.Mathlib.Omega.{arith}
 use Rattle.timewarp.specs.Lists.{Insert, Inserts, count, matches}
-use Rattle.timewarp.specs.Events.{Model}
+use Rattle.timewarp.specs.Models.{Model}
 use Rattle.timewarp.specs.Gateways.{Event, plain, cancel}
 use Rattle.timewarp.proofs.ListLaws.{count-cons, count-insert, count-inserts, count-image, count-none, matches-other, matches-image, all-image, all-every}
 use Rattle.timewarp.proofs.OrderLaws.{message-eq, event-eq}
@@ -29,23 +29,23 @@ module _ (M : Model) where
   abbrev pub times : Message → List Message → ℕ
   times x l = count (message-eq M) x l
 
-  abbrev pub events : Event Message → List (Event Message) → ℕ
-  events e l = count (event-eq M) e l
+  abbrev pub eventCount : Event Message → List (Event Message) → ℕ
+  eventCount e l = count (event-eq M) e l
 
   -- Of the sense c, events of the sense c count as their messages do.
   module _ (c : Message → Event Message) (injective : (x y : Message) → c x ≡ c y → x ≡ y) (x : Message) where
-    pub insert-own : {m : Message} {l k : List (Event Message)} → Insert (c m) l k → events (c x) k ≡ matches (message-eq M) x m + events (c x) l
+    pub insert-own : {m : Message} {l k : List (Event Message)} → Insert (c m) l k → eventCount (c x) k ≡ matches (message-eq M) x m + eventCount (c x) l
     insert-own {m} i = omega (arith, count-insert (event-eq M) (c x) i, matches-image (message-eq M) (event-eq M) c injective x m)
 
-    pub inserts-own : (s : List Message) {l k : List (Event Message)} → Inserts (map c s) l k → events (c x) k ≡ times x s + events (c x) l
+    pub inserts-own : (s : List Message) {l k : List (Event Message)} → Inserts (map c s) l k → eventCount (c x) k ≡ times x s + eventCount (c x) l
     inserts-own s i = omega (arith, count-inserts (event-eq M) (c x) i, count-image (message-eq M) (event-eq M) c injective x s)
 
   -- Of the sense c, events of the sense d do not count.
   module _ (c d : Message → Event Message) (apart : (x y : Message) → c x ≢ d y) (x : Message) where
-    pub insert-other : {m : Message} {l k : List (Event Message)} → Insert (d m) l k → events (c x) k ≡ events (c x) l
+    pub insert-other : {m : Message} {l k : List (Event Message)} → Insert (d m) l k → eventCount (c x) k ≡ eventCount (c x) l
     insert-other {m} i = omega (arith, count-insert (event-eq M) (c x) i, matches-other (event-eq M) (apart x m))
 
-    pub inserts-other : (s : List Message) {l k : List (Event Message)} → Inserts (map d s) l k → events (c x) k ≡ events (c x) l
+    pub inserts-other : (s : List Message) {l k : List (Event Message)} → Inserts (map d s) l k → eventCount (c x) k ≡ eventCount (c x) l
     inserts-other s i =
         omega (
           arith,

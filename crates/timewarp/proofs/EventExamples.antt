@@ -2,8 +2,8 @@
 use mathlib.Core.List.{[], _∷_}
 use mathlib.Core.Path.{_≡_, refl}
 use Rattle.timewarp.specs.Families.{change}
-use Rattle.timewarp.specs.Events.{stateAfter, sentBy, first, hour}
-use Rattle.timewarp.specs.SingleQueue.{together, notLater, earliest, others, openingQueue, doNext, next, steps, measure, singleHistory}
+use Rattle.timewarp.specs.Models.{stateAfter, sentBy, first, hour}
+use Rattle.timewarp.specs.SingleQueue.{together, isNotLater, earliest, others, openingQueue, doNext, next, steps, measure, singleHistory}
 use Rattle.timewarp.specs.Gateways.{plain, cancel, history, gatewayOf, after, openingData}
 use Rattle.timewarp.specs.Worlds.{World, openingWorld}
 use Rattle.timewarp.specs.Calls.{has, without, same, sameEvent, enqueue, becomes, doMessage, doEarliest, work, undoMessage, undoLater, undoBackTo, accept, acceptMet, acceptPending, acceptStriking, acceptWaiting, takePlain, takeCancel}
@@ -49,7 +49,7 @@ straggler-undoes :
     × (straggler .events .gateways 1 ≡ gatewayOf [] [] (a2 ∷ (q5 ∷ [])) [] (plain r6 ∷ (cancel r6 ∷ [])))
     × (straggler .events .network .events ≡ plain r6 ∷ (cancel r6 ∷ []))
     × (straggler .events .network .acknowledgments ≡ plain a2 ∷ [])
-unfolding early straggler openingWorld openingData work doEarliest doMessage becomes takePlain undoLater undoMessage acceptMet acceptPending accept has without same sameEvent enqueue after change history sentBy stateAfter passedOn atFirst notLater earliest others
+unfolding early straggler openingWorld openingData work doEarliest doMessage becomes takePlain undoLater undoMessage acceptMet acceptPending accept has without same sameEvent enqueue after change history sentBy stateAfter passedOn atFirst isNotLater earliest others
 straggler-undoes = (refl, refl, refl, refl)
 
 -- The cancel waits, and vanishes with its message.
@@ -58,10 +58,10 @@ cancel-overtakes :
     × (met .events .gateways 0 ≡ gatewayOf [] (p1 ∷ []) [] [] (plain a2 ∷ []))
     × (met .events .network .events ≡ [])
     × (met .events .network .acknowledgments ≡ plain a2 ∷ (cancel r6 ∷ (plain r6 ∷ [])))
-unfolding met overtaken early straggler openingWorld openingData work doEarliest doMessage becomes takePlain takeCancel undoLater undoBackTo undoMessage acceptMet acceptPending acceptStriking acceptWaiting accept has without same sameEvent enqueue after change history sentBy stateAfter passedOn atFirst notLater earliest others
+unfolding met overtaken early straggler openingWorld openingData work doEarliest doMessage becomes takePlain takeCancel undoLater undoBackTo undoMessage acceptMet acceptPending acceptStriking acceptWaiting accept has without same sameEvent enqueue after change history sentBy stateAfter passedOn atFirst isNotLater earliest others
 cancel-overtakes = (refl, refl, refl, refl)
 
 -- The single queue does a2 before q5, so that s6 is sent and r6 never.
 single-queue : (singleHistory relay 0 ≡ s6 ∷ (b3 ∷ (p1 ∷ []))) × (singleHistory relay 1 ≡ q5 ∷ (a2 ∷ []))
-unfolding singleHistory steps measure openingQueue together next doNext earliest others notLater hour first change sentBy stateAfter passedOn atFirst
+unfolding singleHistory steps measure openingQueue together next doNext earliest others isNotLater hour first change sentBy stateAfter passedOn atFirst
 single-queue = (refl, refl)

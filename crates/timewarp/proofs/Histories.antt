@@ -4,13 +4,13 @@ use mathlib.Core.Path.{_≡_, sym, ap, _∙_}
 use Prim.Native.Nat.{ℕ, _≤_}
 use native.Mathlib.Omega.{arith}
 use Rattle.timewarp.specs.Lists.{All, Insert}
-use Rattle.timewarp.specs.Events.{Model, hour}
+use Rattle.timewarp.specs.Models.{Model, hour}
 use Rattle.timewarp.specs.Gateways.{Event, plain, cancel, message, Gateway, Data, history}
 use Rattle.timewarp.specs.SingleQueue.{singleHistory}
 use Rattle.timewarp.specs.Claims.{Beginning}
 use Rattle.timewarp.proofs.ListLaws.{all-map, all-count, count-all, count-none, found}
 use Rattle.timewarp.proofs.OrderLaws.{message-eq, event-eq}
-use Rattle.timewarp.proofs.EventCounts.{events}
+use Rattle.timewarp.proofs.EventCounts.{eventCount}
 use Rattle.timewarp.proofs.Addressing.{Between}
 use Rattle.timewarp.proofs.Acknowledging.{unsettled}
 use Rattle.timewarp.proofs.Conservation.{held}
@@ -37,7 +37,7 @@ module _ (M : Model) where
 
   module _ {agreed : ℕ → ℕ} {d : Data Message} (s : Sound M agreed d) where
     -- An event or acknowledgment under way is outstanding.
-    pub outstanding-there : (e : Event Message) → 1 ≤ unsettled M e (d .network) → 1 ≤ events M e (d .gateways (from (message e)) .outstanding)
+    pub outstanding-there : (e : Event Message) → 1 ≤ unsettled M e (d .network) → 1 ≤ eventCount M e (d .gateways (from (message e)) .outstanding)
     unfolding Settled
     outstanding-there e h = omega (arith, s .settled e)
 
@@ -50,7 +50,7 @@ module _ (M : Model) where
     module _ {t : ℕ} (b : (j : ℕ) → j ≤ last → OutstandingFrom (d .gateways j) t) where
       bounds-unsettled :
           (l : List (Event Message)) →
-          ((e : Event Message) → 1 ≤ events M e l → 1 ≤ unsettled M e (d .network)) →
+          ((e : Event Message) → 1 ≤ eventCount M e l → 1 ≤ unsettled M e (d .network)) →
           All (Between M) l →
           All (λ e. t ≤ hour M (message e)) l
       bounds-unsettled l is a =

@@ -5,13 +5,13 @@ use Prim.Native.Nat.{ℕ, _+_, _≤_}
 use native.Mathlib.Omega.{arith}
 use Rattle.timewarp.specs.Lists.{All, nil}
 use Rattle.timewarp.specs.Families.{change, sum}
-use Rattle.timewarp.specs.Events.{Model, hour}
+use Rattle.timewarp.specs.Models.{Model, hour}
 use Rattle.timewarp.specs.Gateways.{Event, plain, cancel, message, Gateway, Network, Data, history, after, openingData}
 use Rattle.timewarp.specs.EventSteps.{EventStep}
 use Rattle.timewarp.proofs.ListLaws.{all-every, all-both, count-nil}
 use Rattle.timewarp.proofs.FamilyLaws.{Changed, at, off, change?, change-each, sum-agree, sum-constant, sum-change}
 use Rattle.timewarp.proofs.OrderLaws.{empty, message-eq, event-eq}
-use Rattle.timewarp.proofs.EventCounts.{times, events}
+use Rattle.timewarp.proofs.EventCounts.{times, eventCount}
 use Rattle.timewarp.proofs.Ordering.{Ordered, ordered-later, ordered-step}
 use Rattle.timewarp.proofs.Addressing.{Here, Addressed, Carried, addressed-step, carried-step}
 use Rattle.timewarp.proofs.Acknowledging.{unsettled, settled-here, settled-elsewhere}
@@ -25,14 +25,14 @@ module _ (M : Model) where
   sentOf x f = sum last (λ j. times M x (sentIn M j (history (f j))))
 
   unfoldable pub Settled : Data Message → Type 0
-  Settled d = (e : Event Message) → events M e (d .gateways (from (message e)) .outstanding) ≡ unsettled M e (d .network)
+  Settled d = (e : Event Message) → eventCount M e (d .gateways (from (message e)) .outstanding) ≡ unsettled M e (d .network)
 
   unfoldable pub Conserved : Data Message → Type 0
   Conserved d =
       (x : Message) →
       to x ≤ last →
-      times M x (opening (to x)) + sentOf x (d .gateways) + events M (cancel x) (d .network .events) + times M x (d .gateways (to x) .waiting)
-      ≡ held M x (d .gateways (to x)) + events M (plain x) (d .network .events)
+      times M x (opening (to x)) + sentOf x (d .gateways) + eventCount M (cancel x) (d .network .events) + times M x (d .gateways (to x) .waiting)
+      ≡ held M x (d .gateways (to x)) + eventCount M (plain x) (d .network .events)
 
   pub record Sound (agreed : ℕ → ℕ) (d : Data Message) : Type 0 where
     pub ordered : (i : ℕ) → Ordered M (agreed i) (d .gateways i)
@@ -78,18 +78,18 @@ module _ (M : Model) where
     unfolding Settled after
     settled-step s e = go (change? i g (d .gateways) (from (message e)))
       where
-        go : Changed i g (d .gateways) (from (message e)) → events M e (change i g (d .gateways) (from (message e)) .outstanding) ≡ unsettled M e n
+        go : Changed i g (d .gateways) (from (message e)) → eventCount M e (change i g (d .gateways) (from (message e)) .outstanding) ≡ unsettled M e n
         go (at p q) =
             omega (
               arith,
               s e,
               settled-here M step e,
-              ap (λ f. events M e (f .outstanding)) q,
-              ap (λ j. events M e (d .gateways j .outstanding)) p,
+              ap (λ f. eventCount M e (f .outstanding)) q,
+              ap (λ j. eventCount M e (d .gateways j .outstanding)) p,
             )
         go (off p q) =
             omega
-            (arith, s e, settled-elsewhere M step e (λ r. p (sym r)), ap (λ f. events M e (f .outstanding)) q)
+            (arith, s e, settled-elsewhere M step e (λ r. p (sym r)), ap (λ f. eventCount M e (f .outstanding)) q)
 
     conserved-step : Conserved d → Conserved (after i g n d)
     unfolding Conserved after sentOf made
@@ -100,8 +100,8 @@ module _ (M : Model) where
 
         go :
             Changed i g (d .gateways) (to x) →
-            times M x (opening (to x)) + sum last (λ j. times M x (sentIn M j (history (change i g (d .gateways) j)))) + events M (cancel x) (n .events) + times M x (change i g (d .gateways) (to x) .waiting)
-            ≡ held M x (change i g (d .gateways) (to x)) + events M (plain x) (n .events)
+            times M x (opening (to x)) + sum last (λ j. times M x (sentIn M j (history (change i g (d .gateways) j)))) + eventCount M (cancel x) (n .events) + times M x (change i g (d .gateways) (to x) .waiting)
+            ≡ held M x (change i g (d .gateways) (to x)) + eventCount M (plain x) (n .events)
         go (at p q) =
             omega (
               arith,

@@ -6,9 +6,9 @@ use Prim.Native.Nat.{ℕ, _≤_}
 use native.Mathlib.Omega.{arith}
 use native.Mathlib.Decide.{ℕ-discrete}
 use Rattle.timewarp.specs.Lists.{All, nil, Inserts, nothing, more}
-use Rattle.timewarp.specs.Events.{Model, hour}
+use Rattle.timewarp.specs.Models.{Model, hour}
 use Rattle.timewarp.specs.Gateways.{Event, message, Gateway, Network, Data, after, openingData}
-use Rattle.timewarp.specs.Round.{Rounds, opening, lower}
+use Rattle.timewarp.specs.RoundSteps.{Rounds, opening, lower}
 use Rattle.timewarp.specs.Worlds.{Setting, World, openingWorld, leastOutstanding, leastWaiting, lowerAll, Step, event, round, Steps, none, then, Reachable}
 use Rattle.timewarp.proofs.ListLaws.{all-map, all-every, all-insert, all-rest, all-before, all-head, all-tail, least-never, least-bounds, bounds-least}
 use Rattle.timewarp.proofs.FamilyLaws.{change-at, change-off, change-each}
@@ -17,8 +17,8 @@ use Rattle.timewarp.proofs.Invariants as Invariants
 use Rattle.timewarp.proofs.Histories.{OutstandingFrom, WaitingFrom}
 use Rattle.timewarp.proofs.Effects.{Effect, effect}
 use Rattle.timewarp.proofs.RoundQueues.{Downward, Reading, Sends}
-use Rattle.timewarp.proofs.RoundSound.{RoundSound, sound-round, agreed-rises, sound-arrives, sound-sends}
-use Rattle.timewarp.proofs.RoundSound as RoundSound
+use Rattle.timewarp.proofs.RoundInvariants.{RoundSound, sound-round, agreed-rises, sound-arrives, sound-sends}
+use Rattle.timewarp.proofs.RoundInvariants
 
 module _ (S : Setting) where
   open Setting S using (model, graph, same-gateways)
@@ -194,7 +194,7 @@ module _ (S : Setting) where
       record {
         events-sound = Invariants.sound-opening model;
         rounds-sound =
-            RoundSound.sound-opening
+            RoundInvariants.sound-opening
             graph
             never
             (O (openingData model))

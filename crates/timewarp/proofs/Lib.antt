@@ -3,11 +3,11 @@ pub mod ListLaws
 pub mod FamilyLaws
 pub mod OrderLaws
 pub mod StepLaws
+pub mod EventCounts
+pub mod Conservation
 pub mod Ordering
 pub mod Addressing
 pub mod Acknowledging
-pub mod EventCounts
-pub mod Conservation
 pub mod Invariants
 pub mod Uniqueness
 pub mod QueueLaws
@@ -22,7 +22,7 @@ pub mod RoundCut
 pub mod RoundFloor
 pub mod ArcLaws
 pub mod RoundCounts
-pub mod RoundSound
+pub mod RoundInvariants
 pub mod Joined
 pub mod Theorem
 pub mod CallChains

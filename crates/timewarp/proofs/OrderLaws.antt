@@ -8,8 +8,8 @@ use native.Mathlib.Omega.{arith}
 use native.Mathlib.Decide.{ℕ-discrete}
 use lib.Dec.{T, ltb, eqb, ltb→lt, lt→ltb, nltb→le, eqb→eq, eqb-refl}
 use Rattle.timewarp.specs.Lists.{All, cons, matches, count}
-use Rattle.timewarp.specs.Events.{first, KeyNotLater, ended, less, same, Model, hour, NotLater}
-use Rattle.timewarp.specs.SingleQueue.{notLater}
+use Rattle.timewarp.specs.Models.{first, KeyNotLater, ended, less, same, Model, hour, NotLater}
+use Rattle.timewarp.specs.SingleQueue.{isNotLater}
 use Rattle.timewarp.specs.Gateways.{Event, plain, cancel}
 use Rattle.timewarp.proofs.ListLaws.{matches-same, count-nil, count-cons, all-count}
 
@@ -45,11 +45,11 @@ first-key (a ∷ k) (b ∷ l) h = less h
 
 -- What the test of key order says.
 pub data Compared (k l : List ℕ) : Type 0 where
-  sooner : KeyNotLater k l → notLater k l ≡ true → Compared k l
-  later : KeyNotLater l k → notLater k l ≡ false → Compared k l
+  sooner : KeyNotLater k l → isNotLater k l ≡ true → Compared k l
+  later : KeyNotLater l k → isNotLater k l ≡ false → Compared k l
 
 pub compared : (k l : List ℕ) → Compared k l
-unfolding notLater
+unfolding isNotLater
 compared [] l = sooner ended refl
 compared (a ∷ k) [] = later ended refl
 compared (a ∷ k) (b ∷ l) = go (ltb a b) refl (eqb a b) refl (compared k l)
@@ -66,8 +66,8 @@ holds : (b : Bool) → T b → b ≡ true
 holds true t = refl
 holds false t = absurd t
 
-pub not-later : {k l : List ℕ} → KeyNotLater k l → notLater k l ≡ true
-unfolding notLater
+pub not-later : {k l : List ℕ} → KeyNotLater k l → isNotLater k l ≡ true
+unfolding isNotLater
 not-later ended = refl
 not-later (less {a = a} {b = b} h) = rw (holds (ltb a b) (lt→ltb a b h))
 not-later (same {a = a} {b = b} {k = k} {l = l} e p) = go (ltb a b) refl (not-later p)
@@ -75,7 +75,7 @@ not-later (same {a = a} {b = b} {k = k} {l = l} e p) = go (ltb a b) refl (not-la
     equal : eqb a b ≡ true
     equal = holds (eqb a b) (subst (λ (c : ℕ). T (eqb a c)) e (eqb-refl a))
 
-    go : (x : Bool) → ltb a b ≡ x → notLater k l ≡ true → cond (ltb a b) true (cond (eqb a b) (notLater k l) false) ≡ true
+    go : (x : Bool) → ltb a b ≡ x → isNotLater k l ≡ true → cond (ltb a b) true (cond (eqb a b) (isNotLater k l) false) ≡ true
     go true f q = rw f
     go false f q = rw (f, equal, q)
 

@@ -9,8 +9,8 @@ use native.Mathlib.Decide.{ℕ-discrete}
 use lib.ListN.{length}
 use Rattle.timewarp.specs.Lists.{All, nil, cons, Insert, here, there}
 use Rattle.timewarp.specs.Families.{change, sum}
-use Rattle.timewarp.specs.Events.{Model, hour, NotLater, sentBy}
-use Rattle.timewarp.specs.SingleQueue.{together, notLater, Queue, earliest, others, openingQueue, doNext, next, steps, measure, singleHistory}
+use Rattle.timewarp.specs.Models.{Model, hour, NotLater, sentBy}
+use Rattle.timewarp.specs.SingleQueue.{together, isNotLater, Queue, earliest, others, openingQueue, doNext, next, steps, measure, singleHistory}
 use Rattle.timewarp.proofs.ListLaws.{all-append, all-insert, all-taken, all-rest, all-map, all-both, all-every, count-nil, count-none, count-append, matches-other}
 use Rattle.timewarp.proofs.FamilyLaws.{Changed, at, off, change?, sum-agree, sum-constant, change-each, sum-change}
 use Rattle.timewarp.proofs.OrderLaws.{Compared, sooner, later, compared, Sorted, empty, newest, order-refl, order-trans, order-hour, message-eq}
@@ -28,7 +28,7 @@ module _ (M : Model) where
   first-taken m [] = here
   first-taken m (n ∷ l) = go (compared (key m) (key (earliest M n l))) (first-taken n l)
     where
-      go : Compared (key m) (key (earliest M n l)) → Insert (earliest M n l) (others M n l) (n ∷ l) → Insert (cond (notLater (key m) (key (earliest M n l))) m (earliest M n l)) (cond (notLater (key m) (key (earliest M n l))) (n ∷ l) (m ∷ others M n l)) (m ∷ (n ∷ l))
+      go : Compared (key m) (key (earliest M n l)) → Insert (earliest M n l) (others M n l) (n ∷ l) → Insert (cond (isNotLater (key m) (key (earliest M n l))) m (earliest M n l)) (cond (isNotLater (key m) (key (earliest M n l))) (n ∷ l) (m ∷ others M n l)) (m ∷ (n ∷ l))
       go (sooner c e) i = rw e here
       go (later c e) i = rw e (there i)
 
@@ -37,7 +37,7 @@ module _ (M : Model) where
   first-least m [] = nil
   first-least m (n ∷ l) = go (compared (key m) (key (earliest M n l))) (first-least n l)
     where
-      go : Compared (key m) (key (earliest M n l)) → All (NotLater M (earliest M n l)) (others M n l) → All (NotLater M (cond (notLater (key m) (key (earliest M n l))) m (earliest M n l))) (cond (notLater (key m) (key (earliest M n l))) (n ∷ l) (m ∷ others M n l))
+      go : Compared (key m) (key (earliest M n l)) → All (NotLater M (earliest M n l)) (others M n l) → All (NotLater M (cond (isNotLater (key m) (key (earliest M n l))) m (earliest M n l))) (cond (isNotLater (key m) (key (earliest M n l))) (n ∷ l) (m ∷ others M n l))
       go (sooner c e) a = rw e (all-insert (first-taken n l) c (all-map (λ y b. order-trans M m (earliest M n l) y c b) a))
       go (later c e) a = rw e (cons c a)
 

@@ -7,7 +7,7 @@ use native.Mathlib.Omega.{arith}
 use Rattle.timewarp.specs.Lists.{Insert, tally}
 use Rattle.timewarp.specs.Families.{change, put}
 use Rattle.timewarp.specs.Arcs.{Graph, Arc, times}
-use Rattle.timewarp.specs.Round.{idle, counting, stopped, finished, RoundFrame, start, lvt, update, noted}
+use Rattle.timewarp.specs.RoundSteps.{idle, counting, stopped, finished, RoundFrame, start, lvt, update, noted}
 use Rattle.timewarp.proofs.ListLaws.{tally-append, tally-insert}
 use Rattle.timewarp.proofs.FamilyLaws.{Same, same, other, same?, Put, at, off, put?, change-at, change-off}
 use Rattle.timewarp.proofs.RoundFrames.{both, both-is, both-not, startOn, lvtOn, sent-first, sent-not-first, sent-none}

@@ -8,7 +8,7 @@ use native.Mathlib.Omega.{arith}
 use Rattle.timewarp.specs.Lists.{All, Insert}
 use Rattle.timewarp.specs.Families.{change}
 use Rattle.timewarp.specs.Arcs.{Graph, Arc, Child, times, children}
-use Rattle.timewarp.specs.Round.{idle, finished, RoundFrame, start, lvt, update}
+use Rattle.timewarp.specs.RoundSteps.{idle, finished, RoundFrame, start, lvt, update}
 use Rattle.timewarp.proofs.FamilyLaws.{change-off}
 use Rattle.timewarp.proofs.ListLaws.{all-member, all-taken, all-image, all-map, tally-insert, count-all, all-count}
 use Rattle.timewarp.proofs.RoundFrames.{startOn, lvtOn, both-is}

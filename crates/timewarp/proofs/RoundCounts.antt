@@ -8,7 +8,7 @@ use lib.ListN.{length}
 use Rattle.timewarp.specs.Lists.{Insert, tally}
 use Rattle.timewarp.specs.Families.{change, put, sum}
 use Rattle.timewarp.specs.Arcs.{Graph, Child, times, arcCount, roundMessages, children}
-use Rattle.timewarp.specs.Round.{idle, counting, stopped, finished, RoundFrame, start, lvt, update, raise}
+use Rattle.timewarp.specs.RoundSteps.{idle, counting, stopped, finished, RoundFrame, start, lvt, update, raise}
 use Rattle.timewarp.proofs.ListLaws.{tally-append, tally-insert}
 use Rattle.timewarp.proofs.FamilyLaws.{Same, same, other, same?, change-at, change-off, put-at, put-off, row-at, row-off, sum-agree, sum-add, sum-change, sum-constant}
 use Rattle.timewarp.proofs.RoundFrames.{both, both-is, both-not, updateTo, sent-first, sent-not-first, sent-none}

@@ -5,7 +5,7 @@ use mathlib.Core.Logic.{_≢_}
 use Prim.Native.Nat.{ℕ, _≤_, min}
 use native.Mathlib.Omega.{arith}
 use Rattle.timewarp.specs.Families.{change}
-use Rattle.timewarp.specs.Round.{idle, counting, stopped, finished, noted}
+use Rattle.timewarp.specs.RoundSteps.{idle, counting, stopped, finished, noted}
 use Rattle.timewarp.proofs.FamilyLaws.{Same, same, other, same?, Changed, at, off, change?, change-at, change-off}
 use Rattle.timewarp.proofs.RoundArcs.{noted-falls, noted-counting}
 use Rattle.timewarp.proofs.RoundQueues.{Downward, Arrives, Sends}

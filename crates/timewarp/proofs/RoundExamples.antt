@@ -7,7 +7,7 @@ use native.Mathlib.Omega.{arith}
 use Rattle.timewarp.specs.Lists.{nil, cons, here, there, tally, matches, count}
 use Rattle.timewarp.specs.Families.{change, put}
 use Rattle.timewarp.specs.Arcs.{Graph, ifGateway, children}
-use Rattle.timewarp.specs.Round.{Rounds, opening, raise, noted, lower, begin, hear, stop, takeLvt, finish, close, takeUpdate, as-it-starts, at-an-lvt, RoundStep, begins, hears, stops, takes-lvt, finishes, closes, takes-update, Completed}
+use Rattle.timewarp.specs.RoundSteps.{Rounds, opening, raise, noted, lower, begin, hear, stop, takeLvt, finish, close, takeUpdate, as-it-starts, at-an-lvt, RoundStep, begins, hears, stops, takes-lvt, finishes, closes, takes-update, Completed}
 use Rattle.timewarp.proofs.SmallGraphs.{single, two, toOfTwo, fromOfTwo, four, toOfFour, fromOfFour}
 use Rattle.timewarp.proofs.RoundCarried.{all-to, all-from}
 

@@ -9,7 +9,7 @@ use native.Mathlib.Omega.{arith}
 use lib.Dec.{eqb}
 use Rattle.timewarp.specs.Lists.{tally, matches, count}
 use Rattle.timewarp.specs.Arcs.{times}
-use Rattle.timewarp.specs.Round.{RoundFrame, start, lvt, update}
+use Rattle.timewarp.specs.RoundSteps.{RoundFrame, start, lvt, update}
 use Rattle.timewarp.proofs.ListLaws.{tally-none, tally-map, tally-agree, matches-equal, matches-other, all-every}
 use Rattle.timewarp.proofs.FamilyLaws.{Same, same, other, same?}
 

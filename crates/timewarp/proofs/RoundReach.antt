@@ -6,7 +6,7 @@ use Prim.Native.Nat.{ℕ, zero, suc, _+_, _≤_, _<_}
 use native.Mathlib.Omega.{arith}
 use Rattle.timewarp.specs.Families.{change}
 use Rattle.timewarp.specs.Arcs.{Graph, Arc}
-use Rattle.timewarp.specs.Round.{idle, counting, stopped, finished, RoundFrame}
+use Rattle.timewarp.specs.RoundSteps.{idle, counting, stopped, finished, RoundFrame}
 use Rattle.timewarp.proofs.FamilyLaws.{Same, same, other, same?, Changed, at, off, change?}
 use Rattle.timewarp.proofs.RoundArcs.{fresh, begun, back, StateOf, ArcStates}
 

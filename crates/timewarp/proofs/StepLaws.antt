@@ -2,7 +2,7 @@
 use mathlib.Core.List.{List, [], _∷_, _++_, append-assoc}
 use mathlib.Core.Path.{_≡_, refl}
 use Prim.Native.Nat.{ℕ}
-use Rattle.timewarp.specs.Events.{Model}
+use Rattle.timewarp.specs.Models.{Model}
 use Rattle.timewarp.specs.Gateways.{Event, Gateway, history}
 use Rattle.timewarp.specs.EventSteps.{Taking, becomesPending, meetsCancel, strikesOut, waits}
 

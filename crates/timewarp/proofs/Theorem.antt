@@ -4,7 +4,7 @@ use mathlib.Core.Path.{_≡_, refl, sym, subst, _∙_}
 use Prim.Native.Nat.{ℕ, _≤_}
 use native.Mathlib.Omega.{arith}
 use Rattle.timewarp.specs.Lists.{All}
-use Rattle.timewarp.specs.Events.{Model}
+use Rattle.timewarp.specs.Models.{Model}
 use Rattle.timewarp.specs.Gateways.{history}
 use Rattle.timewarp.specs.SingleQueue.{singleHistory}
 use Rattle.timewarp.specs.Worlds.{Setting, World, Steps, none, then, Reachable}
@@ -13,7 +13,7 @@ use Rattle.timewarp.proofs.ListLaws.{all-left, all-right, all-head, all
 use Rattle.timewarp.proofs.Addressing.{Here}
 use Rattle.timewarp.proofs.ArcLaws.{round-below}
 use Rattle.timewarp.proofs.Histories.{Bounds, bounds-events, bounds-acknowledgments, committed-beginning, history-whole, acknowledgments-settle}
-use Rattle.timewarp.proofs.RoundSound.{round-count, in-turn}
+use Rattle.timewarp.proofs.RoundInvariants.{round-count, in-turn}
 use Rattle.timewarp.proofs.Joined.{Good, good, good-steps, agreed-never-falls}
 
 -- A list is empty or has a last element.
@@ -81,8 +81,8 @@ module _ (S : Setting) where
         }
 
   -- The claim holds of every reachable world.
-  pub theorem : {w : World S} → Reachable S w → Claim S w
-  theorem s = claimed (good S s)
+  pub claim-holds : {w : World S} → Reachable S w → Claim S w
+  claim-holds s = claimed (good S s)
 
   -- No agreed time falls in any number of steps.
   pub never-falls : {w v : World S} → Good S w → Steps S w v → (i : ℕ) → w .rounds .agreed i ≤ v .rounds .agreed i
@@ -100,4 +100,4 @@ module _ (S : Setting) where
       never ≤ v .rounds .agreed i →
       NothingToCommit S (v .rounds .agreed i) (v .events .gateways i) →
       w .events .gateways i .committed ≡ v .events .gateways i .committed
-  same-record i l s a p t b q = theorem s .whole i l a p ∙ sym (theorem t .whole i l b q)
+  same-record i l s a p t b q = claim-holds s .whole i l a p ∙ sym (claim-holds t .whole i l b q)

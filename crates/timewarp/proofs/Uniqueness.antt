@@ -7,7 +7,7 @@ use native.Mathlib.Omega.{arith}
 use native.Mathlib.Decide.{decLt, ℕ-discrete}
 use Rattle.timewarp.specs.Lists.{All, nil, cons}
 use Rattle.timewarp.specs.Families.{sum}
-use Rattle.timewarp.specs.Events.{Model, hour}
+use Rattle.timewarp.specs.Models.{Model, hour}
 use Rattle.timewarp.proofs.ListLaws.{all-map, count-none, matches-other}
 use Rattle.timewarp.proofs.FamilyLaws.{sum-agree}
 use Rattle.timewarp.proofs.OrderLaws.{Sorted, newest, sorted-unique, hour-order, message-eq}

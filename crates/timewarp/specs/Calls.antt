@@ -3,8 +3,8 @@ use mathlib.Core.Bool.{Bool, true, false, cond}
 use mathlib.Core.List.{List, [], _∷_, _++_, map}
 use Prim.Native.Nat.{ℕ, zero, suc}
 use lib.Dec.{ltb}
-use Rattle.timewarp.specs.Events.{Model, hour, sentBy}
-use Rattle.timewarp.specs.SingleQueue.{notLater, earliest, others}
+use Rattle.timewarp.specs.Models.{Model, hour, sentBy}
+use Rattle.timewarp.specs.SingleQueue.{isNotLater, earliest, others}
 use Rattle.timewarp.specs.Gateways.{Event, plain, cancel, Gateway, Network, history, gatewayOf, networkOf, after}
 use Rattle.timewarp.specs.Worlds.{Setting, World, lowerAll}
 
@@ -24,7 +24,7 @@ module _ (S : Setting) where
 
   -- Whether two messages, or two events, are equal.
   unfoldable pub same : Message → Message → Bool
-  same m n = cond (notLater (key m) (key n)) (notLater (key n) (key m)) false
+  same m n = cond (isNotLater (key m) (key n)) (isNotLater (key n) (key m)) false
 
   unfoldable pub sameEvent : Event Message → Event Message → Bool
   sameEvent (plain m) (plain n) = same m n
@@ -35,7 +35,7 @@ module _ (S : Setting) where
   -- A message put into a list in event order, after its equals.
   unfoldable pub enqueue : Message → List Message → List Message
   enqueue m [] = m ∷ []
-  enqueue m (n ∷ l) = cond (notLater (key n) (key m)) (n ∷ enqueue m l) (m ∷ (n ∷ l))
+  enqueue m (n ∷ l) = cond (isNotLater (key n) (key m)) (n ∷ enqueue m l) (m ∷ (n ∷ l))
 
   -- Gateway i becomes g and the network n; of each message in `sent` it sends the message or its cancel.
   unfoldable pub becomes : ℕ → Gateway Message → Network Message → List Message → World S → World S
@@ -78,7 +78,7 @@ module _ (S : Setting) where
   undoLater i m [] w = w
   undoLater i m (p ∷ older) w =
       let v = undoLater i m older (undoMessage i (w .events .gateways i) p older w) in
-      cond (notLater (key p) (key m)) w v
+      cond (isNotLater (key p) (key m)) w v
 
   -- Of the processed events the last equal to m and those after it are undone, the latest first.
   unfoldable pub undoBackTo : ℕ → Message → List Message → World S → World S

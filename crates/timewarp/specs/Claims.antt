@@ -3,11 +3,11 @@ use mathlib.Core.List.{List, [], _∷_, _++_}
 use mathlib.Core.Path.{_≡_}
 use Prim.Native.Nat.{ℕ, suc, _*_, _≤_, _<_}
 use Rattle.timewarp.specs.Lists.{All, Insert}
-use Rattle.timewarp.specs.Events.{Model, hour}
+use Rattle.timewarp.specs.Models.{Model, hour}
 use Rattle.timewarp.specs.Gateways.{Event, message, Gateway}
 use Rattle.timewarp.specs.SingleQueue.{singleHistory}
 use Rattle.timewarp.specs.Arcs.{roundMessages}
-use Rattle.timewarp.specs.Round.{Completed, InTurn}
+use Rattle.timewarp.specs.RoundSteps.{Completed, InTurn}
 use Rattle.timewarp.specs.Worlds.{Setting, World, Step}
 
 -- c is a beginning of h; both have the newest event in front.

@@ -3,7 +3,7 @@ use mathlib.Core.List.{List, [], _∷_, _++_, map}
 use mathlib.Core.Path.{_≡_}
 use Prim.Native.Nat.{ℕ, _≤_, _<_}
 use Rattle.timewarp.specs.Lists.{All, Insert, Inserts}
-use Rattle.timewarp.specs.Events.{Model, hour, NotLater, sentBy}
+use Rattle.timewarp.specs.Models.{Model, hour, NotLater, sentBy}
 use Rattle.timewarp.specs.Gateways.{Event, plain, cancel, message, Gateway, Network, history, gatewayOf, networkOf}
 
 -- `Taking M time g e g′`: what becomes of the event e that the gateway g takes, whose agreed time is `time`. Only what is

@@ -2,7 +2,7 @@
 use mathlib.Core.List.{List, [], _++_}
 use Prim.Native.Nat.{ℕ}
 use Rattle.timewarp.specs.Families.{change}
-use Rattle.timewarp.specs.Events.{Model}
+use Rattle.timewarp.specs.Models.{Model}
 
 -- What is sent as an event: a message, or the cancel of one.
 pub data Event (Message : Type 0) : Type 0 where

@@ -4,7 +4,7 @@ use Prim.Native.Nat.{ℕ, zero, suc, _+_, _-_}
 use lib.Dec.{ltb, eqb}
 use mathlib.Core.Bool.{Bool, true, false, cond}
 use Rattle.timewarp.specs.Families.{change}
-use Rattle.timewarp.specs.Events.{Model, hour, sentBy}
+use Rattle.timewarp.specs.Models.{Model, hour, sentBy}
 
 -- The lists of gateways 0 to n, one behind the other.
 unfoldable pub together : {A : Type 0} → ℕ → (ℕ → List A) → List A
@@ -12,10 +12,10 @@ together zero f = f zero
 together (suc n) f = together n f ++ f (suc n)
 
 -- Whether a key is not later than another: `KeyNotLater` as a test.
-unfoldable pub notLater : List ℕ → List ℕ → Bool
-notLater [] l = true
-notLater (a ∷ k) [] = false
-notLater (a ∷ k) (b ∷ l) = cond (ltb a b) true (cond (eqb a b) (notLater k l) false)
+unfoldable pub isNotLater : List ℕ → List ℕ → Bool
+isNotLater [] l = true
+isNotLater (a ∷ k) [] = false
+isNotLater (a ∷ k) (b ∷ l) = cond (ltb a b) true (cond (eqb a b) (isNotLater k l) false)
 
 -- Its list of messages, and for each gateway what was done there, the newest in front.
 pub record Queue (Message : Type 0) : Type 0 where
@@ -28,12 +28,12 @@ module _ (M : Model) where
   -- The first of m and l in event order.
   unfoldable pub earliest : Message → List Message → Message
   earliest m [] = m
-  earliest m (n ∷ l) = let e = earliest n l in cond (notLater (key m) (key e)) m e
+  earliest m (n ∷ l) = let e = earliest n l in cond (isNotLater (key m) (key e)) m e
 
   -- m and l without the first of them.
   unfoldable pub others : Message → List Message → List Message
   others m [] = []
-  others m (n ∷ l) = let r = m ∷ others n l in cond (notLater (key m) (key (earliest n l))) (n ∷ l) r
+  others m (n ∷ l) = let r = m ∷ others n l in cond (isNotLater (key m) (key (earliest n l))) (n ∷ l) r
 
   -- At first all opening lists together, and nothing is done.
   unfoldable pub openingQueue : Queue Message

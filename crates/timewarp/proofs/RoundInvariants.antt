@@ -7,7 +7,7 @@ use native.Mathlib.Omega.{arith}
 use Rattle.timewarp.specs.Lists.{All, nil, Insert, tally}
 use Rattle.timewarp.specs.Families.{change}
 use Rattle.timewarp.specs.Arcs.{Graph, Arc, Child, roundMessages, children}
-use Rattle.timewarp.specs.Round.{
+use Rattle.timewarp.specs.RoundSteps.{
   idle,
   counting,
   stopped,
