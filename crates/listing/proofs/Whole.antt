@@ -3,6 +3,7 @@ use mathlib.Core.Path.{_≡_, refl, sym, _∙_, ap, subst}
 use mathlib.Core.List.{List, [], _∷_, _++_}
 use Prim.Native.Nat.{ℕ, zero, suc, _+_, _*_, _-_, _≤_, _<_}
 use native.Mathlib.Omega.{arith}
+use native.Mathlib.Decide.{decLe}
 use lib.ListN.{length, set, length-append}
 use borrow.Author.Tests.{le-leb, lt-leb}
 use Rattle.buffer.specs.Slice.{write}
@@ -63,3 +64,12 @@ module _ (n : ℕ) (low : 1 ≤ n) (high : n ≤ 65535) {t : Totals} (e : t ≡ 
 pub rendering-is : (input m : List ℕ) {n : ℕ} → n ≡ numberIn input → rendered (listing n) m ≡ rendering input m
 unfolding rendering printed
 rendering-is input m e = ap (λ (n : ℕ). rendered (listing n) m) e
+
+-- what was put is within the output
+pub put-within : (input m : List ℕ) {r : Rendered} {now : List ℕ} → record { answer = r; out = now } ≡ rendering input m → r .length ≤ length m
+unfolding rendering rendered
+put-within input m {r} e = go (decLe (length (printed input)) (length m))
+  where
+    go : Dec (length (printed input) ≤ length m) → r .length ≤ length m
+    go (yes h) = omega (arith, ap (λ (s : Rendering). s .answer .length) (rw (le-leb (length (printed input)) (length m) h) at e))
+    go (no h) = omega (arith, ap (λ (s : Rendering). s .answer .length) (rw (lt-leb (length (printed input)) (length m) (omega arith)) at e))
