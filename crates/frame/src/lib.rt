@@ -2,7 +2,9 @@
 // numbers and hour.
 use model::Message;
 
-pub mod reader; // reader.rt: what a byte string is
+pub mod reader; // reader.rt: what a byte string is, and the lamp's part of it
+pub mod rules; // rules.rt: what a message of each kind has to keep to
+pub mod tables; // tables.rt: the table of kinds and the table of lengths
 
 // What a frame says of its message. A plain message has no sense.
 pub enum Sense {
