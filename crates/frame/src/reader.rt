@@ -145,7 +145,7 @@ fn read8(bytes: &[u8], at: usize) -> u8
 }
 
 // The eighteen bytes from a position on.
-fn read_lamp(bytes: &[u8], at: usize) -> [u8; 18]
+pub fn read_lamp(bytes: &[u8], at: usize) -> [u8; 18]
     requires { ⌜ at + 18 ≤ length (now bytes) ⌝ }
     ensures { λ r. ⌜ r ≡ part (now (bytes .entry)) at 18 ⌝ }
 {
