@@ -80,7 +80,7 @@ sent site s m = sentFor site s m (m .kind)
 abbrev pub sentBy : Outcome → List Message
 sentBy r = cond (r .sends) (r .sent ∷ []) []
 
--- an outcome of doing m in that state
-pub record Does (site : Site) (s : State) (m : Message) (r : Outcome) : Type 0 where
-  pub state : r .state ≡ after s (m .kind)
-  pub sends : sentBy r ≡ sent site s m
+-- the outcome r gives that state and sends just those messages
+pub record Gives (next : State) (messages : List Message) (r : Outcome) : Type 0 where
+  pub state : r .state ≡ next
+  pub sends : sentBy r ≡ messages

@@ -1,6 +1,6 @@
 -- The event order: hour, kind, origin, lamp, quantity, from, to.
 use Prim.Native.Nat.{ℕ}
-use mathlib.Core.Bool.{Bool, true, false}
+use mathlib.Core.Bool.{Bool, true, false, cond}
 use mathlib.Core.List.{List, [], _∷_, _++_}
 use lib.Dec.{ltb}
 use Rattle.model.specs.Messages.{kindNumber, originOf, quantityOf}
@@ -12,15 +12,25 @@ use Rattle.model.specs.declared.order.Comparison.the-variants.{Before, S
 unfoldable pub key : Message → List ℕ
 key m = m .hour ∷ kindNumber (m .kind) ∷ originOf (m .kind) ∷ (m .lamp ++ (quantityOf (m .kind) ∷ m .from ∷ m .to ∷ []))
 
--- the first number decides unless the two are equal
-abbrev pub decided : Bool → Bool → Comparison → Comparison
-decided true more rest = Before
-decided false true rest = After
-decided false false rest = rest
+-- whether a comparison found a difference
+abbrev pub different : Comparison → Bool
+different Before = true
+different Same = false
+different After = true
+
+-- the first comparison decides unless it finds no difference
+abbrev pub orElse : Comparison → Comparison → Comparison
+orElse Before rest = Before
+orElse Same rest = rest
+orElse After rest = After
+
+-- two numbers
+abbrev pub numbers : ℕ → ℕ → Comparison
+numbers x y = cond (ltb x y) Before (cond (ltb y x) After Same)
 
 -- lists of numbers in lexicographic order, a list before its continuations
 unfoldable pub compared : List ℕ → List ℕ → Comparison
 compared [] [] = Same
 compared [] (y ∷ ys) = Before
 compared (x ∷ xs) [] = After
-compared (x ∷ xs) (y ∷ ys) = decided (ltb x y) (ltb y x) (compared xs ys)
+compared (x ∷ xs) (y ∷ ys) = orElse (numbers x y) (compared xs ys)

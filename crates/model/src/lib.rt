@@ -2,6 +2,9 @@
 pub mod event; // event.rt: doing a message
 pub mod order; // order.rt: the event order
 
+ghost use mathlib.Core.Path.{_≡_};
+ghost use Rattle.model.specs.Messages.{kindNumber, originOf, quantityOf};
+
 // A message's kind, with the kind's own fields. The first four are events of the forecast. The last three are the
 // round's: no queue holds them, and doing one would change nothing.
 pub enum Kind {
@@ -36,4 +39,49 @@ pub struct Site {
     pub own: u8,
     pub supplier: u8,
     pub last: u32,
+}
+
+// The kind's number.
+pub fn kind_number(kind: Kind) -> u8
+    ensures { λ r. ⌜ r ≡ kindNumber kind ⌝ }
+{
+    match kind {
+        Kind::Failure { origin: _ } => 0,
+        Kind::Request { origin: _ } => 1,
+        Kind::Delivery { origin: _ } => 2,
+        Kind::Restock { quantity: _ } => 3,
+        Kind::Start => 4,
+        Kind::Lvt => 5,
+        Kind::Update => 6,
+    }
+}
+
+// The gateway whose lamp the message is about, or zero.
+pub fn origin_of(kind: Kind) -> u8
+    ensures { λ r. ⌜ r ≡ originOf kind ⌝ }
+{
+    match kind {
+        Kind::Failure { origin } => origin,
+        Kind::Request { origin } => origin,
+        Kind::Delivery { origin } => origin,
+        Kind::Restock { quantity: _ } => 0,
+        Kind::Start => 0,
+        Kind::Lvt => 0,
+        Kind::Update => 0,
+    }
+}
+
+// The drivers that come in, or zero.
+pub fn quantity_of(kind: Kind) -> u16
+    ensures { λ r. ⌜ r ≡ quantityOf kind ⌝ }
+{
+    match kind {
+        Kind::Failure { origin: _ } => 0,
+        Kind::Request { origin: _ } => 0,
+        Kind::Delivery { origin: _ } => 0,
+        Kind::Restock { quantity } => quantity,
+        Kind::Start => 0,
+        Kind::Lvt => 0,
+        Kind::Update => 0,
+    }
 }

@@ -1,0 +1,7 @@
+-- Laws of the lamp model.
+pub mod Comparing
+pub mod Keys
+pub mod Arrays
+pub mod Outcomes
+pub mod Ordered
+pub mod Sending

@@ -1,0 +1,61 @@
+-- The laws of what doing a message sends.
+use mathlib.Core.Path.{_≡_, refl}
+use Prim.Native.Nat.{ℕ, _+_, _≤_, _<_}
+use native.Mathlib.Omega.{arith}
+use mathlib.Core.List.{List, [], _∷_}
+use mathlib.Core.Bool.{Bool, true, false, cond}
+use lib.Dec.{leb, ltb, lit<}
+use lib.ListN.{length}
+use borrow.Author.Tests.{leb-true}
+use Rattle.model.specs.Doing.{notPast, reply, sent, sentFor, requestHours, deliveryHours}
+use Rattle.model.specs.Claims.{SendingLaws}
+use Rattle.model.specs.declared.Kind.{Kind}
+use Rattle.model.specs.declared.Kind.the-variants.{Failure, Request, Delivery, Restock, Start, Lvt, Update}
+use Rattle.model.specs.declared.Message.{Message}
+use Rattle.model.specs.declared.State.{State}
+use Rattle.model.specs.declared.Site.{Site}
+
+-- at most one message, and what holds of it
+data Sends (site : Site) (m : Message) : List Message → Type 0 where
+  nothing : Sends site m []
+  one : (x : Message) → m .hour < x .hour → x .hour ≤ site .last → x .from ≡ site .own → Sends site m (x ∷ [])
+
+module _ (site : Site) (m : Message) where
+  replies : (hours to : ℕ) (kind : Kind) → 0 < hours → Sends site m (notPast (site .last) (reply site m hours to kind))
+  replies hours to kind h = timely (leb (m .hour + hours) (site .last)) refl
+    where
+      timely : (b : Bool) → leb (m .hour + hours) (site .last) ≡ b → Sends site m (cond b (reply site m hours to kind ∷ []) [])
+      timely true e = one (reply site m hours to kind) (omega arith) (leb-true (m .hour + hours) (site .last) e) refl
+      timely false e = nothing
+
+  either : (b : Bool) {u v : List Message} → Sends site m u → Sends site m v → Sends site m (cond b u v)
+  either true s t = s
+  either false s t = t
+
+  sends-for : (s : State) (kind : Kind) → Sends site m (sentFor site s m kind)
+  sends-for s (Failure origin) = replies _ _ _ (lit< tt)
+  sends-for s (Request origin) = either (ltb 0 (s .stock)) (replies deliveryHours origin (Delivery origin) (lit< tt)) (replies requestHours (site .supplier) (Request origin) (lit< tt))
+  sends-for s (Delivery origin) = replies _ _ _ (lit< tt)
+  sends-for s (Restock quantity) = nothing
+  sends-for s Start = nothing
+  sends-for s Lvt = nothing
+  sends-for s Update = nothing
+
+  at-most-one : {l : List Message} → Sends site m l → length l ≤ 1
+  at-most-one nothing = omega arith
+  at-most-one (one x h k f) = omega arith
+
+  told : {l : List Message} → Sends site m l → (x : Message) → l ≡ x ∷ [] → (m .hour < x .hour) × (x .hour ≤ site .last) × (x .from ≡ site .own)
+  told nothing x e = absurd (let z : _≡_ {A = ℕ} 0 1 = cc in omega arith)
+  told (one y h k f) x e = let same : y ≡ x = cc in (rw same at h, rw same at k, rw same at f)
+
+pub sending : (site : Site) (s : State) (m : Message) → SendingLaws site s m
+unfolding sent
+sending site s m =
+    let sends = sends-for site m s (m .kind) in
+    record {
+      one = at-most-one site m sends;
+      later = λ x e. told site m sends x e .0;
+      inside = λ x e. told site m sends x e .1;
+      source = λ x e. told site m sends x e .2;
+    }

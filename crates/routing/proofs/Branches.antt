@@ -1,0 +1,71 @@
+-- The branches of the code as those of Figure 2.
+use mathlib.Core.Path.{_≡_, sym, _∙_, ap, subst}
+use mathlib.Core.Bool.{true, _&&_, and-false}
+use mathlib.Core.List.{List}
+use lib.Dec.{leb}
+use borrow.Author.Tests.{le-leb, lt-leb, lt-ltb, le-ltb}
+use Prim.Native.Nat.{ℕ, _+_, _*_, _-_, _/_, _^_, _≤_, _<_}
+use native.Mathlib.Omega.{arith}
+use Rattle.routing.specs.declared.Gateways.{Gateways}
+use Rattle.routing.specs.declared.Middles.{Middles}
+use Rattle.routing.specs.declared.Neighbours.{Neighbours}
+use Rattle.routing.specs.Figure2.{Row}
+use Rattle.routing.specs.Arcs.{from, to, mid0, mid1, arcCount, roundMessages}
+use Rattle.routing.specs.Answers.{gateways, midsOf, noNeighbours, neighboursOf, noTotals, totalsOf}
+use Rattle.routing.proofs.Shape.{From, To, Split}
+use Rattle.routing.proofs.Reading.{Fit, RowIs, mids, middles-are, from-is, to-is}
+use Rattle.routing.proofs.Theorems.{count-is, round-is}
+
+pub from-answer : {n own : ℕ} {m : Middles} {l : List ℕ} → m ≡ midsOf n → own < n → From n (m .mid0) (m .mid1) own l → gateways l ≡ gateways (from n own)
+from-answer {n} {own} {m} {l} e h g =
+    ap gateways (sym (from-is n own h (subst (λ (m : Middles). From n (m .mid0) (m .mid1) own l) e g)))
+
+pub to-answer : {n own : ℕ} {m : Middles} {l : List ℕ} → m ≡ midsOf n → own < n → To n (m .mid0) (m .mid1) own l → gateways l ≡ gateways (to n own)
+to-answer {n} {own} {m} {l} e h g =
+    ap gateways (sym (to-is n own h (subst (λ (m : Middles). To n (m .mid0) (m .mid1) own l) e g)))
+
+-- where the code's loop stops
+pub record Widened (n pen0 : ℕ) : Type 0 where
+  pub k : ℕ
+  pub power : pen0 + 1 ≡ 2 * 2 ^ k
+  pub reached : 2 ^ k ≤ (n - 1) / 2 + 1
+
+pub mids-answer : {n pen0 A B : ℕ} {r : Row} → 1 ≤ n → (w : Widened n pen0) → (n - 1) / 2 + 1 ≤ pen0 → RowIs n (pen0 / 2 + 1) A B r
+    → (_≡_ {A = Middles} (record { mid0 = A; mid1 = B }) (midsOf n)) × (A < n) × (B < n)
+mids-answer {n} {pen0} {A} {B} {r} h w e g =
+    let p : pen0 / 2 + 1 ≡ 2 ^ w .k = omega (arith, w .power) in
+    let are = middles-are n (w .k) h (record { low = omega (arith, w .reached); high = omega (arith, w .power) }) (subst (λ (P : ℕ). RowIs n P A B r) p g) in
+    let s = mids n 0 h .split in
+    ((λ i. record { mid0 = are .0 i; mid1 = are .1 i }), omega (arith, are, s), omega (arith, are, s))
+
+-- the numbers outside their ranges, and those within
+module _ (n own : ℕ) where
+  pub far : 65535 < n → noNeighbours ≡ neighboursOf n own
+  unfolding neighboursOf
+  far h = rw (le-leb 1 n (omega arith), lt-leb n 65535 h)
+
+  pub high : n ≤ 65535 → n ≤ own → noNeighbours ≡ neighboursOf n own
+  unfolding neighboursOf
+  high h k = rw (le-leb n 65535 h, le-ltb own n k, and-false (leb 1 n && true))
+
+  pub good : {m : Neighbours} → n ≤ 65535 → own < n → m ≡ record { answer = 0; from = gateways (from n own); to = gateways (to n own) } → m ≡ neighboursOf n own
+  unfolding neighboursOf
+  good h k e = rw (le-leb n 65535 h, lt-ltb own n k, le-leb 1 n (omega arith)) e
+
+pub no-far : (n : ℕ) → 65535 < n → noTotals ≡ totalsOf n
+unfolding totalsOf
+no-far n h = rw (le-leb 1 n (omega arith), lt-leb n 65535 h)
+
+pub no-zero : (n : ℕ) → n ≡ 0 → noTotals ≡ totalsOf n
+unfolding totalsOf
+no-zero n e = rw e
+
+pub counted : (n : ℕ) → 1 ≤ n → n ≤ 65535 → {m : ℕ} → m ≡ mid0 n → record { answer = 0; arcs = n - 1 + m / 2; messages = 2 * (n - 1 + m / 2) + n - 1 } ≡ totalsOf n
+unfolding totalsOf
+counted n h k {m} e = rw (le-leb 1 n h, le-leb n 65535 k) (λ i. record { answer = 0; arcs = arcs i; messages = messages i })
+  where
+    arcs : n - 1 + m / 2 ≡ arcCount n
+    arcs = omega (arith, count-is n h)
+
+    messages : 2 * (n - 1 + m / 2) + n - 1 ≡ roundMessages n
+    messages = omega (arith, count-is n h, round-is n h)

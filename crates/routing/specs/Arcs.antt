@@ -1,0 +1,100 @@
+-- The arcs of N gateways by Figure 2, their count, the messages of a round, and what holds of them.
+use mathlib.Core.Path.{_≡_}
+use mathlib.Core.Logic.{_↔_, _⊎_}
+use mathlib.Core.Bool.{true, cond}
+use mathlib.Core.List.{List, [], _∷_, _++_, map, List·Memᴰ}
+use Prim.Native.Nat.{ℕ, zero, suc, _+_, _*_, _-_, _^_, _≤_, _<_}
+use lib.Dec.{ltb}
+use lib.ListN.{length}
+use lib.IntN.{ℤ, pos, natAbs}
+use Rattle.routing.specs.Figure2.{Config, gvtcfg}
+
+infix 50 _∈_
+-- x is an element of xs.
+abbrev pub _∈_ : {A : Type 0} → A → List A → Type 0
+x ∈ xs = List·Memᴰ x xs
+
+-- Figure 2 at gateway i of N.
+abbrev pub figure2 : (N i : ℕ) → Config
+figure2 N i = gvtcfg (pos N) (pos i)
+
+-- The gateways that gateway i hears from, in Figure 2's order.
+unfoldable pub from : (N i : ℕ) → List ℕ
+from N i = map natAbs (figure2 N i .from)
+
+-- The gateways that gateway i tells, in Figure 2's order.
+unfoldable pub to : (N i : ℕ) → List ℕ
+to N i = map natAbs (figure2 N i .to)
+
+-- Figure 2's last values of Mid0 and Mid1, the same at every gateway.
+unfoldable pub mid0 : (N : ℕ) → ℕ
+mid0 N = natAbs (figure2 N 0 .row .Mid0)
+
+unfoldable pub mid1 : (N : ℕ) → ℕ
+mid1 N = natAbs (figure2 N 0 .row .Mid1)
+
+-- An arc goes from its first gateway to its second.
+abbrev pub Arc : Type 0
+Arc = ℕ × ℕ
+
+-- The arcs that leave the first n gateways, by from and then to.
+unfoldable pub arcsOfFirst : (N n : ℕ) → List Arc
+arcsOfFirst N zero = []
+arcsOfFirst N (suc i) = arcsOfFirst N i ++ map (λ (j : ℕ). (i, j)) (to N i)
+
+-- All arcs of N gateways.
+unfoldable pub arcs : ℕ → List Arc
+arcs N = arcsOfFirst N N
+
+-- f 0 + .. + f (n − 1)
+unfoldable pub sum : ℕ → (ℕ → ℕ) → ℕ
+sum zero f = 0
+sum (suc i) f = sum i f + f i
+
+-- The number of arcs.
+unfoldable pub arcCount : ℕ → ℕ
+arcCount N = sum N (λ (i : ℕ). length (to N i))
+
+-- To how many gateways i sends an Update: to 2i + 1 and 2i + 2 where below N.
+unfoldable pub updates : (N i : ℕ) → ℕ
+updates N i = cond (ltb (2 * i + 1) N) 1 0 + cond (ltb (2 * i + 2) N) 1 0
+
+-- The messages of a round: each gateway sends a Start along its to, an Lvt along its from, and its Updates.
+unfoldable pub roundMessages : ℕ → ℕ
+roundMessages N = sum N (λ (i : ℕ). length (to N i) + length (from N i) + updates N i)
+
+-- By from and then to.
+abbrev pub Before : Arc → Arc → Type 0
+Before a b = (a .0 < b .0) ⊎ ((a .0 ≡ b .0) × (a .1 < b .1))
+
+-- Each element stands before all that follow it; so none is there twice.
+pub data Ascending {A : Type 0} (R : A → A → Type 0) : List A → Type 0 where
+  none : Ascending R []
+  more : {x : A} {xs : List A} → ((y : A) → y ∈ xs → R x y) → Ascending R xs → Ascending R (x ∷ xs)
+
+-- What holds of the arcs of N gateways.
+pub record Laws (N : ℕ) : Type 0 where
+  -- Figure 2 gives no number below 0
+  pub natural : (i : ℕ) → i < N → (map pos (from N i) ≡ figure2 N i .from) × (map pos (to N i) ≡ figure2 N i .to)
+  -- i tells j exactly if j hears from i
+  pub symmetric : (i j : ℕ) → i < N → j < N → (j ∈ to N i) ↔ (i ∈ from N j)
+  -- each arc goes from a lower to a higher number, below N
+  pub upward : (i j : ℕ) → i < N → j ∈ to N i → (i < j) × (j < N)
+  pub upwardFrom : (i j : ℕ) → j < N → i ∈ from N j → i < j
+  -- no arc is there twice: to ascends and from descends
+  pub onceTo : (i : ℕ) → i < N → Ascending _<_ (to N i)
+  pub onceFrom : (i : ℕ) → i < N → Ascending (λ x y. y < x) (from N i)
+  -- the list of arcs has all of them, by from and then to
+  pub complete : (i j : ℕ) → ((i, j) ∈ arcs N) ↔ ((i < N) × (j ∈ to N i))
+  pub ordered : Ascending Before (arcs N)
+  -- only 0 hears from none, and only N − 1 tells none
+  pub first : (i : ℕ) → i < N → (from N i ≡ []) ↔ (i ≡ 0)
+  pub last : (i : ℕ) → i < N → (to N i ≡ []) ↔ (i + 1 ≡ N)
+  -- at most three arcs at a gateway
+  pub three : (i : ℕ) → i < N → length (from N i) + length (to N i) ≤ 3
+  -- the count is that of the list; a round takes an arc once each way and an Update to each gateway but 0, in all fewer than 4N
+  pub counted : arcCount N ≡ length (arcs N)
+  pub round : roundMessages N ≡ 2 * arcCount N + (N - 1)
+  pub bounded : roundMessages N < 4 * N
+  -- the trees share the bottom row exactly for N from 2^(k+1) − 1 to 3 × 2^k − 2
+  pub sharing : (i : ℕ) → (figure2 N i .row .shared ≡ true) ↔ ((k : ℕ) × (2 ^ (k + 1) ≤ N + 1) × (N + 2 ≤ 3 * 2 ^ k))

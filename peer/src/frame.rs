@@ -1,0 +1,296 @@
+//! Frames of document 01: one byte, the map; then the fields whose bit stands, in bit order.
+
+use crate::model::{Hour, Kind, Lamp, Message};
+
+/// The width in bytes of the field of each bit: kind, from, to, hour, origin, lamp, quantity, sense.
+const WIDTHS: [usize; 8] = [1, 1, 1, 4, 1, 18, 2, 1];
+
+/// The one map of each kind, without the sense.
+const MAPS: [u8; 7] = [63, 63, 63, 79, 7, 15, 15];
+
+const LAMP_BIT: u8 = 1 << 5;
+const SENSE_BIT: u8 = 1 << 7;
+
+/// What a frame says of its message. The numbers are those of the field; a plain message has none.
+#[derive(Clone, Copy, Debug, PartialEq, Eq)]
+pub enum Sense {
+    Plain = 0,
+    Cancel = 1,
+    Acknowledgment = 2,
+    AcknowledgmentOfCancel = 3,
+}
+
+/// A frame of a valid form.
+#[derive(Clone, Copy, Debug, PartialEq, Eq)]
+pub enum Frame {
+    /// Kinds 0 to 3.
+    Event { sense: Sense, message: Message },
+    /// Kind 4.
+    Start { from: u8, to: u8 },
+    /// Kind 5.
+    Lvt { from: u8, to: u8, hour: Hour },
+    /// Kind 6.
+    Update { from: u8, to: u8, hour: Hour },
+}
+
+/// The eight fields as numbers; a field that a frame lacks is zero.
+#[derive(Clone, Copy, Default)]
+struct Fields {
+    kind: u8,
+    from: u8,
+    to: u8,
+    hour: Hour,
+    origin: u8,
+    lamp: Lamp,
+    quantity: u16,
+    sense: u8,
+}
+
+/// Reads a frame; `None` (answer 1) if the bytes are not exactly one of the forms.
+pub fn read(bytes: &[u8]) -> Option<Frame> {
+    let (&map, rest) = bytes.split_first()?;
+    let fields = Fields::read(map, rest)?;
+    if map & !SENSE_BIT != *MAPS.get(usize::from(fields.kind))? {
+        return None;
+    }
+    let sense = match (map & SENSE_BIT != 0, fields.sense) {
+        (false, _) => Sense::Plain,
+        (true, _) if fields.kind > 2 => return None,
+        (true, 1) => Sense::Cancel,
+        (true, 2) => Sense::Acknowledgment,
+        (true, 3) => Sense::AcknowledgmentOfCancel,
+        (true, _) => return None,
+    };
+    let Fields { from, to, hour, .. } = fields;
+    match fields.kind {
+        4 => Some(Frame::Start { from, to }),
+        5 => Some(Frame::Lvt { from, to, hour }),
+        6 => Some(Frame::Update { from, to, hour }),
+        _ => Some(Frame::Event { sense, message: fields.message()? }),
+    }
+}
+
+/// The bytes of a frame.
+pub fn write(frame: &Frame) -> Vec<u8> {
+    let fields = Fields::of(frame);
+    let map = fields.map();
+    let mut bytes = vec![map];
+    for (bit, field) in fields.bytes().iter().enumerate() {
+        if map >> bit & 1 == 1 {
+            bytes.extend(field);
+        }
+    }
+    bytes
+}
+
+/// The fields in decimal: kind, from, to, hour, origin, quantity, sense; then the lamp or `-`.
+pub fn line(frame: &Frame) -> String {
+    let fields = Fields::of(frame);
+    let Fields { kind, from, to, hour, origin, lamp, quantity, sense } = fields;
+    let has_lamp = fields.map() & LAMP_BIT != 0;
+    let lamp = if has_lamp { String::from_utf8_lossy(&lamp) } else { "-".into() };
+    format!("{kind} {from} {to} {hour} {origin} {quantity} {sense} {lamp}")
+}
+
+impl Fields {
+    /// Takes the bytes behind the map apart; `None` if they are too few or too many.
+    fn read(map: u8, mut rest: &[u8]) -> Option<Fields> {
+        let mut parts: [&[u8]; 8] = [&[]; 8];
+        for (bit, &width) in WIDTHS.iter().enumerate() {
+            if map >> bit & 1 == 1 {
+                (parts[bit], rest) = rest.split_at_checked(width)?;
+            }
+        }
+        if !rest.is_empty() {
+            return None;
+        }
+        let [kind, from, to, hour, origin, lamp, quantity, sense] = parts;
+        Some(Fields {
+            kind: number(kind) as u8,
+            from: number(from) as u8,
+            to: number(to) as u8,
+            hour: number(hour),
+            origin: number(origin) as u8,
+            lamp: lamp.try_into().unwrap_or_default(),
+            quantity: number(quantity) as u16,
+            sense: number(sense) as u8,
+        })
+    }
+
+    fn of(frame: &Frame) -> Fields {
+        match *frame {
+            Frame::Event { sense, message } => {
+                let Message { hour, kind, origin, lamp, quantity, from, to } = message;
+                let (kind, sense) = (kind as u8, sense as u8);
+                Fields { kind, from, to, hour, origin, lamp, quantity, sense }
+            }
+            Frame::Start { from, to } => Fields { kind: 4, from, to, ..Fields::default() },
+            Frame::Lvt { from, to, hour } => {
+                Fields { kind: 5, from, to, hour, ..Fields::default() }
+            }
+            Frame::Update { from, to, hour } => {
+                Fields { kind: 6, from, to, hour, ..Fields::default() }
+            }
+        }
+    }
+
+    fn map(&self) -> u8 {
+        let sense_bit = if self.sense == 0 { 0 } else { SENSE_BIT };
+        MAPS[usize::from(self.kind)] | sense_bit
+    }
+
+    /// The bytes of each field, high byte first.
+    fn bytes(&self) -> [Vec<u8>; 8] {
+        [
+            vec![self.kind],
+            vec![self.from],
+            vec![self.to],
+            self.hour.to_be_bytes().to_vec(),
+            vec![self.origin],
+            self.lamp.to_vec(),
+            self.quantity.to_be_bytes().to_vec(),
+            vec![self.sense],
+        ]
+    }
+
+    /// The message of kinds 0 to 3, if its lamp and its gateways are valid.
+    fn message(&self) -> Option<Message> {
+        let Fields { from, to, hour, origin, lamp, quantity, .. } = *self;
+        let kind = match self.kind {
+            0 => Kind::Failure,
+            1 => Kind::Request,
+            2 => Kind::Delivery,
+            3 => Kind::Restock,
+            _ => return None,
+        };
+        let message = Message { hour, kind, origin, lamp, quantity, from, to };
+        let lamp_valid = kind == Kind::Restock || lamp.iter().all(|byte| (33..=126).contains(byte));
+        (lamp_valid && message.gateways_agree()).then_some(message)
+    }
+}
+
+/// The number that bytes give, high byte first; no bytes give zero.
+fn number(bytes: &[u8]) -> u32 {
+    bytes.iter().fold(0, |value, &byte| value << 8 | u32::from(byte))
+}
+
+#[cfg(test)]
+mod tests {
+    use super::*;
+
+    const LAMP: Lamp = *b"L00000000000000001";
+
+    fn request() -> Message {
+        let kind = Kind::Request;
+        Message { hour: 0x0102_0304, kind, origin: 7, lamp: LAMP, quantity: 0, from: 8, to: 9 }
+    }
+
+    fn request_bytes() -> Vec<u8> {
+        [&[63, 1, 8, 9, 1, 2, 3, 4, 7][..], &LAMP].concat()
+    }
+
+    fn with(mut bytes: Vec<u8>, at: usize, value: u8) -> Vec<u8> {
+        bytes[at] = value;
+        bytes
+    }
+
+    #[test]
+    fn plain_request() {
+        let frame = Frame::Event { sense: Sense::Plain, message: request() };
+        assert_eq!(write(&frame), request_bytes());
+        assert_eq!(read(&request_bytes()), Some(frame));
+        assert_eq!(line(&frame), "1 8 9 16909060 7 0 0 L00000000000000001");
+    }
+
+    #[test]
+    fn senses() {
+        let bytes = with([request_bytes(), vec![0]].concat(), 0, 63 + 128);
+        let senses = [Sense::Cancel, Sense::Acknowledgment, Sense::AcknowledgmentOfCancel];
+        for (sense, value) in senses.into_iter().zip(1..) {
+            let frame = Frame::Event { sense, message: request() };
+            assert_eq!(write(&frame), with(bytes.clone(), 27, value));
+            assert_eq!(read(&with(bytes.clone(), 27, value)), Some(frame));
+        }
+        assert_eq!(read(&bytes), None, "sense 0");
+        assert_eq!(read(&with(bytes, 27, 4)), None, "sense 4");
+    }
+
+    #[test]
+    fn the_other_kinds() {
+        let kind = Kind::Restock;
+        let message =
+            Message { hour: 5, kind, origin: 0, lamp: [0; 18], quantity: 258, from: 6, to: 6 };
+        let cases: [(&[u8], Frame, &str); 4] = [
+            (
+                &[79, 3, 6, 6, 0, 0, 0, 5, 1, 2],
+                Frame::Event { sense: Sense::Plain, message },
+                "3 6 6 5 0 258 0 -",
+            ),
+            (&[7, 4, 1, 2], Frame::Start { from: 1, to: 2 }, "4 1 2 0 0 0 0 -"),
+            (
+                &[15, 5, 2, 1, 255, 255, 255, 255],
+                Frame::Lvt { from: 2, to: 1, hour: 4_294_967_295 },
+                "5 2 1 4294967295 0 0 0 -",
+            ),
+            (
+                &[15, 6, 0, 2, 0, 0, 1, 0],
+                Frame::Update { from: 0, to: 2, hour: 256 },
+                "6 0 2 256 0 0 0 -",
+            ),
+        ];
+        for (bytes, frame, text) in cases {
+            assert_eq!(write(&frame), bytes);
+            assert_eq!(read(bytes), Some(frame));
+            assert_eq!(line(&frame), text);
+            let with_sense = [&[bytes[0] | 128], &bytes[1..], &[1]].concat();
+            assert_eq!(read(&with_sense), None, "kinds 3 to 6 have no sense");
+        }
+    }
+
+    #[test]
+    fn every_other_length_is_refused() {
+        let bytes = request_bytes();
+        for length in 0..bytes.len() {
+            assert_eq!(read(&bytes[..length]), None);
+        }
+        assert_eq!(read(&[&bytes[..], &[0]].concat()), None);
+    }
+
+    #[test]
+    fn every_other_map_and_kind_is_refused() {
+        for map in (0..=255).filter(|&map| map != 63) {
+            assert_eq!(read(&with(request_bytes(), 0, map)), None, "map {map}");
+        }
+        for kind in 3..=255 {
+            assert_eq!(read(&with(request_bytes(), 1, kind)), None, "kind {kind}");
+        }
+    }
+
+    #[test]
+    fn lamp_bytes_are_33_to_126() {
+        for at in 9..27 {
+            for value in 0..=255 {
+                let valid = read(&with(request_bytes(), at, value)).is_some();
+                assert_eq!(valid, (33..=126).contains(&value));
+            }
+        }
+    }
+
+    #[test]
+    fn gateways_must_agree() {
+        let read_with = |kind, from, to, origin| {
+            let head = [63, kind, from, to, 0, 0, 0, 1, origin];
+            read(&[&head[..], &LAMP].concat()).is_some()
+        };
+        assert!(read_with(0, 5, 5, 5));
+        assert!(!read_with(0, 6, 5, 5));
+        assert!(!read_with(0, 5, 6, 5));
+        assert!(!read_with(0, 5, 5, 6));
+        assert!(read_with(1, 255, 254, 0));
+        assert!(read_with(2, 6, 5, 5));
+        assert!(!read_with(2, 5, 5, 6));
+        assert!(!read_with(2, 6, 5, 6));
+        assert!(read(&[79, 3, 6, 6, 0, 0, 0, 5, 1, 2]).is_some());
+        assert!(read(&[79, 3, 6, 7, 0, 0, 0, 5, 1, 2]).is_none());
+    }
+}

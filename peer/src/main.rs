@@ -1,0 +1,61 @@
+//! The second program: the rules of document 01 written again from the papers, for comparison.
+
+mod arcs;
+mod frame;
+mod generator;
+mod model;
+mod routing;
+mod samples;
+mod stream;
+mod table;
+
+use std::io::{self, Read, Write};
+use std::process::ExitCode;
+
+const USAGE: &str = "usage: peer arcs | frames | order | model | sample-frames SEED COUNT";
+
+fn main() -> ExitCode {
+    let arguments: Vec<String> = std::env::args().skip(1).collect();
+    let words: Vec<&str> = arguments.iter().map(String::as_str).collect();
+    match run(&words) {
+        Ok(Some(output)) => finish(io::stdout().lock().write_all(&output)),
+        Ok(None) => {
+            eprintln!("{USAGE}");
+            ExitCode::from(2)
+        }
+        Err(error) => finish(Err(error)),
+    }
+}
+
+/// What the subcommand prints; `None` if there is no such subcommand.
+fn run(words: &[&str]) -> io::Result<Option<Vec<u8>>> {
+    Ok(match words {
+        ["arcs"] => Some(arcs::listing(&input(arcs::LONGEST_INPUT as u64 + 1)?).into_bytes()),
+        ["frames"] => Some(stream::frame_lines(&input(u64::MAX)?).into_bytes()),
+        ["order"] => Some(stream::order_lines(&input(u64::MAX)?).into_bytes()),
+        ["model"] => Some(table::lines().into_bytes()),
+        ["sample-frames", seed, count] => sample_frames(seed, count),
+        _ => None,
+    })
+}
+
+fn sample_frames(seed: &str, count: &str) -> Option<Vec<u8>> {
+    Some(samples::frames(seed.parse().ok()?, count.parse().ok()?))
+}
+
+/// Standard input, or its first bytes up to the limit.
+fn input(limit: u64) -> io::Result<Vec<u8>> {
+    let mut bytes = Vec::new();
+    io::stdin().lock().take(limit).read_to_end(&mut bytes)?;
+    Ok(bytes)
+}
+
+fn finish(result: io::Result<()>) -> ExitCode {
+    match result {
+        Ok(()) => ExitCode::SUCCESS,
+        Err(error) => {
+            eprintln!("peer: {error}");
+            ExitCode::FAILURE
+        }
+    }
+}
