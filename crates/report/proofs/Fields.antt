@@ -1,0 +1,107 @@
+-- Fields put one behind the other.
+use mathlib.Core.Path.{_≡_, refl, sym, _∙_, ap}
+use Prim.Native.Nat.{ℕ, _+_, _≤_, _<_}
+use native.Mathlib.Omega.{arith}
+use mathlib.Core.Bool.{Bool, true, false, cond}
+use mathlib.Core.List.{List, [], _∷_, _++_}
+use lib.Dec.{eqb, leb}
+use lib.ListN.{length, set}
+use borrow.Author.Tests.{le-leb, lt-leb}
+use Rattle.buffer.specs.Slice.{write, Puts}
+use Rattle.buffer.proofs.Putting.{puts-byte, puts-more, puts-length}
+use Rattle.text.specs.Decimal.{decimal}
+use Rattle.text.proofs.Putting.{length-within}
+use Rattle.model.specs.Messages.{kindNumber, originOf, quantityOf}
+use Rattle.model.specs.declared.Message.{Message}
+use Rattle.frame.specs.Kinds.{senseNumber}
+use Rattle.frame.specs.Lamps.{isGood}
+use Rattle.frame.specs.Reasons.{reading, formNumber}
+use Rattle.frame.specs.declared.Frame.{Frame}
+use Rattle.frame.specs.declared.Form.{Form}
+use Rattle.frame.specs.declared.Form.the-variants.{Good, TooShort, WrongMap, WrongLength, WrongSense, WrongLamp, WrongGateways}
+use Rattle.frame.specs.declared.Reading.{Reading}
+use Rattle.report.specs.Line.{field, route, content, lampText, frameText, line}
+
+-- a number has at most ten digits
+pub few-digits : (n : ℕ) → n < 4294967296 → length (decimal n) ≤ 10
+few-digits n h = length-within 9 n (omega arith) .1
+
+-- a number and a blank
+pub field-put : (at n : ℕ) (m : List ℕ) {p : ℕ} {now : List ℕ} → at + 11 ≤ length m → n < 4294967296
+    → (p ≡ at + length (decimal n)) × (now ≡ write at (decimal n) m) → Puts at (field n) m (set now p 32) (p + 1)
+unfolding field
+field-put at n m {p} {now} room h e =
+    let d = few-digits n h in
+    let digits : Puts at (decimal n) m now p = record { position = e .0; output = e .1 } in
+    let l = puts-length (omega arith) digits in
+    puts-more (omega arith) digits (puts-byte p 32 now (omega (arith, e .0)))
+
+-- a stretch that is no longer than a bound leaves the length, and more can be put behind it
+same : (at a : ℕ) (m : List ℕ) {xs m₁ : List ℕ} {p : ℕ} → at + a ≤ length m → Puts at xs m m₁ p → p ≤ at + a → length m₁ ≡ length m
+same at a m room x b = puts-length (omega (arith, x .position)) x
+
+two : (at a : ℕ) (m : List ℕ) {xs ys m₁ m₂ : List ℕ} {p q : ℕ} → at + a ≤ length m → Puts at xs m m₁ p → p ≤ at + a → Puts p ys m₁ m₂ q → Puts at (xs ++ ys) m m₂ q
+two at a m room x b y = puts-more (omega (arith, x .position)) x y
+
+three : (at a b : ℕ) (m : List ℕ) {xs ys zs m₁ m₂ m₃ : List ℕ} {p q r : ℕ} → at + (a + b) ≤ length m → Puts at xs m m₁ p → p ≤ at + a
+    → Puts p ys m₁ m₂ q → q ≤ p + b → Puts q zs m₂ m₃ r → Puts at (xs ++ (ys ++ zs)) m m₃ r
+three at a b m {m₁ = m₁} {p = p} room x h y k z =
+    let l = same at a m (omega arith) x h in
+    two at a m (omega arith) x h (two p b m₁ (omega arith) y k z)
+
+-- the stretches of the code, each with its bound
+module _ (at : ℕ) (m : List ℕ) {m₁ m₂ m₃ : List ℕ} {p q r : ℕ} where
+  pub route-put : (x : Message) {k : ℕ} {m₄ : List ℕ} {s : ℕ} → at + 44 ≤ length m → k ≡ kindNumber (x .kind)
+      → (Puts at (field k) m m₁ p) × (p ≤ at + 11) → (Puts p (field (x .from)) m₁ m₂ q) × (q ≤ p + 11)
+      → (Puts q (field (x .to)) m₂ m₃ r) × (r ≤ q + 11) → (Puts r (field (x .hour)) m₃ m₄ s) × (s ≤ r + 11) → Puts at (route x) m m₄ s
+  unfolding route
+  route-put x {k} room e a b c d =
+      let l = same at 11 m (omega arith) (a .0) (a .1) in
+      let first : Puts at (field (kindNumber (x .kind))) m m₁ p = rw e at (a .0) in
+      two at 11 m (omega arith) first (a .1) (three p 11 11 m₁ (omega (arith, a .1)) (b .0) (b .1) (c .0) (c .1) (d .0))
+
+  pub content-put : (f : Frame) {o w n : ℕ} → at + 33 ≤ length m → o ≡ originOf (f .message .kind)
+      → (Puts at (field o) m m₁ p) × (p ≤ at + 11) → w ≡ quantityOf (f .message .kind) → (Puts p (field w) m₁ m₂ q) × (q ≤ p + 11)
+      → n ≡ senseNumber (f .sense) → (Puts q (field n) m₂ m₃ r) × (r ≤ q + 11) → Puts at (content f) m m₃ r
+  unfolding content
+  content-put f {o} {w} {n} room e a g b h c =
+      let first : Puts at (field (originOf (f .message .kind))) m m₁ p = rw e at (a .0) in
+      let second : Puts p (field (quantityOf (f .message .kind))) m₁ m₂ q = rw g at (b .0) in
+      let third : Puts q (field (senseNumber (f .sense))) m₂ m₃ r = rw h at (c .0) in
+      three at 11 11 m (omega arith) first (a .1) second (b .1) third
+
+  pub frame-put : (f : Frame) → at + 100 ≤ length m → (Puts at (route (f .message)) m m₁ p) × (p ≤ at + 44)
+      → (Puts p (content f) m₁ m₂ q) × (q ≤ p + 33) → (Puts q (lampText (f .message)) m₂ m₃ r) × (r ≤ q + 18) → Puts at (frameText f) m m₃ r
+  unfolding frameText
+  frame-put f room a b c = three at 44 33 m (omega arith) (a .0) (a .1) (b .0) (b .1) (c .0)
+
+-- the lamp, or a dash
+module _ (at : ℕ) (m : List ℕ) (x : Message) {k : ℕ} where
+  pub lamp-put : {now : List ℕ} → length (x .lamp) ≡ 18 → k ≡ kindNumber (x .kind) → k ≤ 2 → now ≡ write at (x .lamp) m → Puts at (lampText x) m now (at + 18)
+  unfolding lampText
+  lamp-put l e h w = rw (le-leb (kindNumber (x .kind)) 2 (omega arith)) (record { position = omega arith; output = w })
+
+  pub dash-put : at < length m → k ≡ kindNumber (x .kind) → 2 < k → Puts at (lampText x) m (set m at 45) (at + 1)
+  unfolding lampText
+  dash-put room e h = rw (lt-leb (kindNumber (x .kind)) 2 (omega arith)) (puts-byte at 45 m room)
+
+-- a frame, or the refusal
+good-number : (form : Form) (b : Bool) → b ≡ isGood form → eqb (formNumber form) 0 ≡ b
+good-number Good b e = sym e
+good-number TooShort b e = sym e
+good-number WrongMap b e = sym e
+good-number WrongLength b e = sym e
+good-number WrongSense b e = sym e
+good-number WrongLamp b e = sym e
+good-number WrongGateways b e = sym e
+
+module _ (at : ℕ) (m s : List ℕ) (r : Reading) {b : Bool} (e : r ≡ reading s) (good : b ≡ isGood (r .form)) where
+  is-line : line s ≡ cond b (frameText (r .frame)) (49 ∷ [])
+  unfolding line
+  is-line = rw (← e, good-number (r .form) b good)
+
+  pub good-put : {now : List ℕ} {p : ℕ} → b ≡ true → Puts at (frameText (r .frame)) m now p → Puts at (line s) m now p
+  good-put h x = rw (is-line, h) x
+
+  pub refused-put : at < length m → b ≡ false → Puts at (line s) m (set m at 49) (at + 1)
+  refused-put room h = rw (is-line, h) (puts-byte at 49 m room)

@@ -1,0 +1,2 @@
+-- Laws of the text of a frame.
+pub mod Fields

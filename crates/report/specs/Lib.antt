@@ -1,0 +1,2 @@
+-- The text of a frame.
+pub mod Line

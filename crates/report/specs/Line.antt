@@ -1,0 +1,35 @@
+-- The line that the program frames prints of a byte string: kind, from, to, hour, origin, quantity, sense and lamp, or 1.
+use Prim.Native.Nat.{ℕ}
+use mathlib.Core.Bool.{cond}
+use mathlib.Core.List.{List, [], _∷_, _++_}
+use lib.Dec.{eqb, leb}
+use Rattle.text.specs.Decimal.{decimal}
+use Rattle.model.specs.Messages.{kindNumber, originOf, quantityOf}
+use Rattle.model.specs.declared.Message.{Message}
+use Rattle.frame.specs.Kinds.{senseNumber}
+use Rattle.frame.specs.Reasons.{reading, formNumber}
+use Rattle.frame.specs.declared.Frame.{Frame}
+use Rattle.frame.specs.declared.Reading.{Reading}
+
+-- a number and a blank
+unfoldable pub field : ℕ → List ℕ
+field n = decimal n ++ (32 ∷ [])
+
+-- kind, from, to and hour; a field that the kind lacks is 0
+unfoldable pub route : Message → List ℕ
+route m = field (kindNumber (m .kind)) ++ (field (m .from) ++ (field (m .to) ++ field (m .hour)))
+
+-- origin, quantity and sense, which is 0 for a plain message
+unfoldable pub content : Frame → List ℕ
+content f = field (originOf (f .message .kind)) ++ (field (quantityOf (f .message .kind)) ++ field (senseNumber (f .sense)))
+
+-- the lamp's eighteen characters, or a dash
+unfoldable pub lampText : Message → List ℕ
+lampText m = cond (leb (kindNumber (m .kind)) 2) (m .lamp) (45 ∷ [])
+
+unfoldable pub frameText : Frame → List ℕ
+frameText f = route (f .message) ++ (content f ++ lampText (f .message))
+
+-- the line of a byte string, without its line end
+unfoldable pub line : List ℕ → List ℕ
+line s = let r = reading s in cond (eqb (formNumber (r .form)) 0) (frameText (r .frame)) (49 ∷ [])

@@ -1,0 +1,120 @@
+// A frame as a line of text, for those who run the gateways: its fields, or the number with which it is refused.
+use buffer::copy;
+use check::same;
+use frame::Answer;
+use frame::Frame;
+use frame::reader::is_good;
+use frame::reader::read;
+use frame::writer::sense_number;
+use frame::writer::write;
+use model::Message;
+use model::kind_number;
+use model::origin_of;
+use model::quantity_of;
+use text::put_decimal;
+ghost use mathlib.Core.Path.{_≡_};
+ghost use Prim.Native.Nat.{_+_, _≤_};
+ghost use lib.ListN.{length};
+ghost use Rattle.buffer.specs.Slice.{Puts};
+ghost use Rattle.report.specs.Line.{field, route, content, lampText, frameText, line};
+
+// Whether a frame, read and written again, has other bytes than it had.
+pub fn differs(item: &[u8]) -> bool {
+    let reading = read(item);
+    let form = reading.form;
+    if !is_good(form) {
+        return false;
+    }
+    let frame = reading.frame;
+    let mut again = [0u8; 28];
+    !written_as(frame, item, &mut again)
+}
+
+// Whether a frame is written as that byte string, in a buffer lent for it.
+fn written_as(frame: Frame, item: &[u8], again: &mut [u8]) -> bool {
+    match write(again, frame) {
+        Answer::Written(count) => {
+            if count > again.len() {
+                return false;
+            }
+            same(item, &again[..count])
+        }
+        Answer::NoFrame => false,
+        Answer::NoRoom => false,
+    }
+}
+
+// Puts the line of a byte string, without a line end, and answers the position behind it.
+pub fn put_line(out: &mut [u8], at: usize, item: &[u8]) -> usize
+    requires { ⌜ at + 100 ≤ length (now out) ⌝ }
+    ensures { λ r. ⌜ (Puts at (line (now (item .entry))) (now (out .entry)) (now (out .exit)) r) × (r ≤ at + 100) ⌝ }
+{
+    let reading = read(item);
+    let form = reading.form;
+    if is_good(form) {
+        let frame = reading.frame;
+        return put_frame(out, at, frame);
+    }
+    out[at] = 49;
+    at + 1
+}
+
+fn put_frame(out: &mut [u8], at: usize, frame: Frame) -> usize
+    requires { ⌜ at + 100 ≤ length (now out) ⌝ }
+    ensures { λ r. ⌜ (Puts at (frameText frame) (now (out .entry)) (now (out .exit)) r) × (r ≤ at + 100) ⌝ }
+{
+    let message = frame.message;
+    let behind_route = put_route(out, at, message);
+    let behind_content = put_content(out, behind_route, frame);
+    put_lamp(out, behind_content, message)
+}
+
+// Kind, from, to and hour.
+fn put_route(out: &mut [u8], at: usize, message: Message) -> usize
+    requires { ⌜ at + 44 ≤ length (now out) ⌝ }
+    ensures { λ r. ⌜ (Puts at (route message) (now (out .entry)) (now (out .exit)) r) × (r ≤ at + 44) ⌝ }
+{
+    let kind = message.kind;
+    let behind_kind = put_field(out, at, kind_number(kind) as u32);
+    let behind_from = put_field(out, behind_kind, message.from as u32);
+    let behind_to = put_field(out, behind_from, message.to as u32);
+    put_field(out, behind_to, message.hour)
+}
+
+// Origin, quantity and sense.
+fn put_content(out: &mut [u8], at: usize, frame: Frame) -> usize
+    requires { ⌜ at + 33 ≤ length (now out) ⌝ }
+    ensures { λ r. ⌜ (Puts at (content frame) (now (out .entry)) (now (out .exit)) r) × (r ≤ at + 33) ⌝ }
+{
+    let message = frame.message;
+    let kind = message.kind;
+    let sense = frame.sense;
+    let behind_origin = put_field(out, at, origin_of(kind) as u32);
+    let behind_quantity = put_field(out, behind_origin, quantity_of(kind) as u32);
+    put_field(out, behind_quantity, sense_number(sense) as u32)
+}
+
+// The lamp, or a dash for a kind without one.
+fn put_lamp(out: &mut [u8], at: usize, message: Message) -> usize
+    requires { ⌜ at + 18 ≤ length (now out) ⌝ }
+    ensures { λ r. ⌜ (Puts at (lampText message) (now (out .entry)) (now (out .exit)) r) × (r ≤ at + 18) ⌝ }
+{
+    let kind = message.kind;
+    if kind_number(kind) <= 2 {
+        let lamp = message.lamp;
+        copy(out, at, &lamp);
+        return at + 18;
+    }
+    out[at] = 45;
+    at + 1
+}
+
+// A number and a blank.
+fn put_field(out: &mut [u8], at: usize, number: u32) -> usize
+    requires { ⌜ at + 11 ≤ length (now out) ⌝ }
+    ensures { λ r. ⌜ (Puts at (field number) (now (out .entry)) (now (out .exit)) r) × (r ≤ at + 11) ⌝ }
+{
+    let end = put_decimal(out, at, number);
+    out[end] = 32;
+    end + 1
+}
