@@ -3,3 +3,4 @@ pub mod Input
 pub mod Puts
 pub mod Lines
 pub mod Whole
+pub mod Theorems

@@ -1,7 +1,7 @@
 -- The lines of the listing: their lengths, and how they follow one another.
-use mathlib.Core.Path.{_≡_, refl, sym, _∙_, ap, subst}
+use mathlib.Core.Path.{_≡_, refl, sym, _∙_, ap}
 use mathlib.Core.List.{List, [], _∷_, _++_, map, append-assoc, append-nil}
-use Prim.Native.Nat.{ℕ, zero, suc, _+_, _*_, _-_, _≤_, _<_}
+use Prim.Native.Nat.{ℕ, zero, suc, _+_, _-_, _≤_, _<_}
 use native.Mathlib.Nat.{add-zero}
 use native.Mathlib.Numerals.{add-one}
 use native.Mathlib.Omega.{arith}
@@ -9,12 +9,12 @@ use native.Mathlib.Decide.{ℕ-discrete}
 use lib.ListN.{length, getD, take, set, length-append}
 use Rattle.buffer.specs.Slice.{write}
 use Rattle.routing.specs.declared.Gateways.{Gateways}
-use Rattle.routing.specs.Arcs.{Arc, arcs, arcsOfFirst, to, mid0, mid1}
+use Rattle.routing.specs.Arcs.{Arc, arcs, arcsOfFirst, to}
 use Rattle.routing.specs.Answers.{gateways}
 use Rattle.routing.proofs.Shape.{To}
 use Rattle.routing.proofs.Theorems.{to-case}
 use Rattle.text.specs.Decimal.{decimal}
-use Rattle.listing.specs.Output.{nodesWord, arcsWord, roundWord, blank, lineEnd, firstLine, arcLine, arcLines, linesFrom}
+use Rattle.listing.specs.Output.{nodesWord, arcsWord, roundWord, firstLine, arcLine, arcLines, linesFrom}
 use Rattle.listing.proofs.Puts.{then, then-byte, put-nothing}
 
 pub length-arcLine : (i j : ℕ) → length (arcLine (i, j)) ≡ length (decimal i) + length (decimal j) + 2

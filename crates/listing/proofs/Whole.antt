@@ -1,7 +1,7 @@
 -- The whole listing, and what is answered with it.
-use mathlib.Core.Path.{_≡_, refl, sym, _∙_, ap, subst}
+use mathlib.Core.Path.{_≡_, refl, sym, _∙_, ap}
 use mathlib.Core.List.{List, [], _∷_, _++_}
-use Prim.Native.Nat.{ℕ, zero, suc, _+_, _*_, _-_, _≤_, _<_}
+use Prim.Native.Nat.{ℕ, zero, suc, _+_, _≤_, _<_}
 use native.Mathlib.Omega.{arith}
 use native.Mathlib.Decide.{decLe}
 use lib.ListN.{length, set, length-append}
@@ -12,7 +12,7 @@ use Rattle.routing.specs.Arcs.{arcs, arcCount, roundMessages}
 use Rattle.routing.specs.Answers.{totalsOf}
 use Rattle.listing.specs.declared.Rendered.{Rendered}
 use Rattle.listing.specs.Output.{firstLine, arcLines, listing, numberIn, printed, Rendering, rendered, rendering}
-use Rattle.listing.proofs.Puts.{then, then-byte, put-nothing}
+use Rattle.listing.proofs.Puts.{then-byte, put-nothing}
 
 -- the two answers
 module _ (bytes m : List ℕ) where

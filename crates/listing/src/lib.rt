@@ -5,7 +5,7 @@ ghost use Prim.Native.Nat.{_+_, _*_, _≤_, _<_};
 ghost use lib.ListN.{length, take};
 ghost use Rattle.buffer.specs.Slice.{write};
 ghost use Rattle.text.specs.Decimal.{decimal};
-ghost use Rattle.routing.specs.Arcs.{arcs, arcsOfFirst};
+ghost use Rattle.routing.specs.Arcs.{arcs};
 ghost use Rattle.routing.specs.Answers.{midsOf};
 ghost use Rattle.listing.specs.Output.{firstLine, arcLine, arcLines, linesFrom, listing, withoutEnd, numberIn, rendered, rendering};
 use routing::Gateways;

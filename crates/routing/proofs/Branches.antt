@@ -1,19 +1,18 @@
 -- The branches of the code as those of Figure 2.
-use mathlib.Core.Path.{_≡_, sym, _∙_, ap, subst}
+use mathlib.Core.Path.{_≡_, sym, ap, subst}
 use mathlib.Core.Bool.{true, _&&_, and-false}
 use mathlib.Core.List.{List}
 use lib.Dec.{leb}
 use borrow.Author.Tests.{le-leb, lt-leb, lt-ltb, le-ltb}
 use Prim.Native.Nat.{ℕ, _+_, _*_, _-_, _/_, _^_, _≤_, _<_}
 use native.Mathlib.Omega.{arith}
-use Rattle.routing.specs.declared.Gateways.{Gateways}
 use Rattle.routing.specs.declared.Middles.{Middles}
 use Rattle.routing.specs.declared.Neighbours.{Neighbours}
 use Rattle.routing.specs.Figure2.{Row}
 use Rattle.routing.specs.Arcs.{from, to, mid0, mid1, arcCount, roundMessages}
 use Rattle.routing.specs.Answers.{gateways, midsOf, noNeighbours, neighboursOf, noTotals, totalsOf}
-use Rattle.routing.proofs.Shape.{From, To, Split}
-use Rattle.routing.proofs.Reading.{Fit, RowIs, mids, middles-are, from-is, to-is}
+use Rattle.routing.proofs.Shape.{From, To}
+use Rattle.routing.proofs.Reading.{RowIs, mids, middles-are, from-is, to-is}
 use Rattle.routing.proofs.Theorems.{count-is, round-is}
 
 pub from-answer : {n own : ℕ} {m : Middles} {l : List ℕ} → m ≡ midsOf n → own < n → From n (m .mid0) (m .mid1) own l → gateways l ≡ gateways (from n own)

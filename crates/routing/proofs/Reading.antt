@@ -6,12 +6,11 @@ use Prim.Native.Nat.{ℕ, zero, suc, _+_, _*_, _-_, _/_, _%_, _^_, _≤_, _<_}
 use native.Mathlib.Omega.{arith}
 use native.Mathlib.Nat.{two-pow-succ, one-le-pow, pow-le-pow-right}
 use native.Mathlib.Decide.{decLt, decLe, ℕ-discrete}
-use lib.Dec.{leb, ltb, eqb}
 use lib.IntN.{ℤ, pos, natAbs, _+ℤ_, _-ℤ_, _*ℤ_}
-use lib.Signed.{ltZ, leZ, quotZ}
+use lib.Signed.{quotZ}
 use borrow.Author.Tests.{lt-ltb, le-ltb, eq-eqb, ne-eqb}
 use Rattle.routing.specs.Figure2.{Row, widen, share, setFrom, setTo, gvtcfg, odd}
-use Rattle.routing.specs.Arcs.{figure2, from, to, mid0, mid1}
+use Rattle.routing.specs.Arcs.{figure2, loopEnd, from, to, mid0, mid1}
 use Rattle.routing.proofs.Difference.{Diff, diff-as, diff-pos, diff-plus, diff-minus, diff-from, diff-double, diff-is, le-yes, le-no, eq-yes, eq-no}
 use Rattle.routing.proofs.Shape.{Split, From, To}
 
@@ -100,15 +99,27 @@ start1 N h {z} e = go (ℕ-discrete (N % 2) 1)
     go (yes o) = rw (eq-eqb (N % 2) 1 o, e) (ap pos (omega arith))
     go (no o) = rw (ne-eqb (N % 2) 1 o, e) (ap pos (omega arith))
 
+-- where the loop stops, whatever the turns beyond N
+loop-ends : (N turns : ℕ) → 1 ≤ N → N ≤ turns → (k : ℕ) × (loopEnd N turns ≡ pos (2 * 2 ^ k - 1)) × Fit N (2 ^ k)
+loop-ends N turns h enough =
+    let ends = widen-ends turns ((N - 1) / 2) 0 (omega arith) (omega arith) in
+    (ends .0, ap (λ (z : ℤ). widen turns z (pos 1)) (start0 N h) ∙ ends .1, record { low = omega (arith, ends .2); high = omega (arith, ends .3) })
+
+pub loop-ended : (N more : ℕ) → 1 ≤ N → loopEnd N (N + more) ≡ loopEnd N N
+loop-ended N more h =
+    let a = loop-ends N (N + more) h (omega arith) in
+    let b = loop-ends N N h (omega arith) in
+    a .1 ∙ ap (λ (k : ℕ). pos (2 * 2 ^ k - 1)) (one-fit (a .0) (b .0) (a .2) (b .2)) ∙ sym (b .1)
+
 pub row-is : (N i : ℕ) → 1 ≤ N → Found N (figure2 N i .row)
 unfolding gvtcfg
 row-is N i h =
-    let ends = widen-ends N ((N - 1) / 2) 0 (omega arith) (omega arith) in
+    let ends = loop-ends N N h (omega arith) in
     let k : ℕ = ends .0 in
-    let w : widen N (quotZ (pos N -ℤ pos 1) (pos 2)) (pos 1) ≡ pos (2 * 2 ^ k - 1) = ap (λ (z : ℤ). widen N z (pos 1)) (start0 N h) ∙ ends .1 in
-    let fit : Fit N (2 ^ k) = record { low = omega (arith, ends .2); high = omega (arith, ends .3) } in
+    let w : loopEnd N N ≡ pos (2 * 2 ^ k - 1) = ends .1 in
+    let fit : Fit N (2 ^ k) = ends .2 in
     let half : Diff (2 ^ k) 2 (quotZ (pos (2 * 2 ^ k - 1)) (pos 2) -ℤ pos 1) = diff-as (2 ^ k) 2 (diff-minus (diff-pos ((2 * 2 ^ k - 1) / 2)) 1) (omega (arith, positive k)) in
-    let d0 : Diff (2 ^ k) 2 (quotZ (widen N (quotZ (pos N -ℤ pos 1) (pos 2)) (pos 1)) (pos 2) -ℤ pos 1) =
+    let d0 : Diff (2 ^ k) 2 (quotZ (loopEnd N N) (pos 2) -ℤ pos 1) =
     subst (λ (z : ℤ). Diff (2 ^ k) 2 (quotZ z (pos 2) -ℤ pos 1)) (sym w) half in
     let row = share-is N (2 ^ k) fit d0 (diff-as (N + 1) (2 ^ k) (diff-minus (diff-from N d0) 1) (omega arith)) (start0 N h) (start1 N h (start0 N h)) in
     record { k = k; A = row .0; B = row .1; fit = fit; is = row .2 }

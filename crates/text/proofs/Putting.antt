@@ -1,13 +1,13 @@
 -- How the digits of a number are put one behind the other, and how many there are.
 use mathlib.Core.Path.{_≡_, sym, _∙_, ap}
-use mathlib.Core.List.{List, [], _∷_, _++_}
-use Prim.Native.Nat.{ℕ, suc, zero, _+_, _*_, _/_, _%_, _^_, _≤_, _<_}
+use mathlib.Core.List.{List, [], _∷_}
+use Prim.Native.Nat.{ℕ, suc, zero, _+_, _/_, _%_, _^_, _≤_, _<_}
 use native.Mathlib.Omega.{arith}
 use native.Mathlib.Nat.{pow-succ'}
 use native.Mathlib.Decide.{decLt}
 use lib.ListN.{length, set, length-append}
 use Rattle.buffer.specs.Slice.{write}
-use Rattle.buffer.proofs.Writes.{set-write, write-snoc, length-write}
+use Rattle.buffer.proofs.Writes.{set-write, write-snoc}
 use Rattle.text.specs.Decimal.{decimal, digit}
 use Rattle.text.proofs.Digits.{decimal-small, decimal-more}
 

@@ -1,4 +1,5 @@
 // Decimal text: numbers put as digits, and the number that a text spells.
+// put_decimal asks its caller for the room; decimal_length says how much that is.
 ghost use mathlib.Core.Path.{_≡_};
 ghost use Prim.Native.Nat.{_+_, _≤_};
 ghost use lib.ListN.{length};
