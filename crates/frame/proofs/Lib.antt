@@ -1,0 +1,10 @@
+-- Laws of frames.
+pub mod Entries
+pub mod Between
+pub mod Agreement
+pub mod Branches
+pub mod Walking
+pub mod Places
+pub mod Turning
+pub mod Output
+pub mod Accepted
