@@ -6,6 +6,7 @@ use Prim.Native.Nat.{ℕ, zero, suc, _+_, _*_, _-_, _/_, _%_, _^_, _≤_, _<_}
 use native.Mathlib.Omega.{arith}
 use native.Mathlib.Nat.{two-pow-succ, one-le-pow, pow-le-pow-right}
 use native.Mathlib.Decide.{decLt, decLe, ℕ-discrete}
+use lib.Dec.{ltb}
 use lib.IntN.{ℤ, pos, natAbs, _+ℤ_, _-ℤ_, _*ℤ_}
 use lib.Signed.{quotZ}
 use borrow.Author.Tests.{lt-ltb, le-ltb, eq-eqb, ne-eqb}
@@ -34,13 +35,10 @@ one-fit {N} j k f g = go (decLt j k) (decLt k j)
     go (no p) (yes h) = absurd (omega (arith, twice-power k, pow-le-pow-right {n = 2} (omega arith) h))
     go (no p) (no q) = omega arith
 
-widen-on : (t M p : ℕ) → p < M + 1 → widen (suc t) (pos M) (pos p) ≡ widen t (pos M) (pos (2 * p + 1))
+-- a turn, by its test
+widen-turn : (t M p : ℕ) {b : Bool} → ltb p (M + 1) ≡ b → widen (suc t) (pos M) (pos p) ≡ elim b as (λ x. ℤ) [ true ↦ widen t (pos M) (pos (2 * p + 1)) | false ↦ pos p ]
 unfolding widen
-widen-on t M p h = ap (λ (b : Bool). elim b as (λ x. ℤ) [ true ↦ widen t (pos M) (pos (2 * p + 1)) | false ↦ pos p ]) (lt-ltb p (M + 1) h)
-
-widen-off : (t M p : ℕ) → M + 1 ≤ p → widen (suc t) (pos M) (pos p) ≡ pos p
-unfolding widen
-widen-off t M p h = ap (λ (b : Bool). elim b as (λ x. ℤ) [ true ↦ widen t (pos M) (pos (2 * p + 1)) | false ↦ pos p ]) (le-ltb p (M + 1) h)
+widen-turn t M p e = ap (λ (b : Bool). elim b as (λ x. ℤ) [ true ↦ widen t (pos M) (pos (2 * p + 1)) | false ↦ pos p ]) e
 
 widen-ends : (turns M k : ℕ) → 2 ^ k ≤ M + 1 → M + 1 < 2 * 2 ^ k + turns
     → (j : ℕ) × (widen turns (pos M) (pos (2 * 2 ^ k - 1)) ≡ pos (2 * 2 ^ j - 1)) × (2 ^ j ≤ M + 1) × (M + 1 < 2 * 2 ^ j)
@@ -53,8 +51,8 @@ widen-ends (suc t) M k low enough = go (decLt (2 * 2 ^ k - 1) (M + 1)) (widen-en
         → (j : ℕ) × (widen (suc t) (pos M) (pos (2 * 2 ^ k - 1)) ≡ pos (2 * 2 ^ j - 1)) × (2 ^ j ≤ M + 1) × (M + 1 < 2 * 2 ^ j)
     go (yes h) next =
         let e : 2 * (2 * 2 ^ k - 1) + 1 ≡ 2 * 2 ^ suc k - 1 = omega (arith, twice-power k, positive k) in
-        rw (widen-on t M (2 * 2 ^ k - 1) h, e) (next (omega (arith, twice-power k)) (omega (arith, twice-power k, positive k)))
-    go (no h) next = (k, widen-off t M (2 * 2 ^ k - 1) (omega arith), low, omega (arith, positive k))
+        rw (widen-turn t M (2 * 2 ^ k - 1) (lt-ltb (2 * 2 ^ k - 1) (M + 1) h), e) (next (omega (arith, twice-power k)) (omega (arith, twice-power k, positive k)))
+    go (no h) next = (k, widen-turn t M (2 * 2 ^ k - 1) (le-ltb (2 * 2 ^ k - 1) (M + 1) (omega arith)), low, omega (arith, positive k))
 
 -- the middles: one row shared by both trees, or a bottom row for each
 pub data RowIs (N P A B : ℕ) : Row → Type 0 where
