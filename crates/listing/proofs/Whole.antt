@@ -10,6 +10,7 @@ use Rattle.buffer.specs.Slice.{write}
 use Rattle.routing.specs.declared.Totals.{Totals}
 use Rattle.routing.specs.Arcs.{arcs, arcCount, roundMessages}
 use Rattle.routing.specs.Answers.{totalsOf}
+use Rattle.routing.proofs.Branches.{totals-are}
 use Rattle.listing.specs.declared.Rendered.{Rendered}
 use Rattle.listing.specs.Output.{firstLine, arcLines, listing, numberIn, printed, Rendering, rendered, rendering}
 use Rattle.buffer.proofs.Putting.{puts-byte, puts-more}
@@ -43,12 +44,8 @@ listing-is zero h = absurd (omega arith)
 listing-is (suc n) h = refl
 
 module _ (n : ℕ) (low : 1 ≤ n) (high : n ≤ 65535) {t : Totals} (e : t ≡ totalsOf n) where
-  right : totalsOf n ≡ record { answer = 0; arcs = arcCount n; messages = roundMessages n }
-  unfolding totalsOf
-  right = rw (le-leb 1 n low, le-leb n 65535 high)
-
   pub listing-of : listing n ≡ firstLine n (t .arcs) (t .messages) ++ arcLines (arcs n)
-  listing-of = listing-is n low ∙ ap (λ (t : Totals). firstLine n (t .arcs) (t .messages) ++ arcLines (arcs n)) (sym (e ∙ right))
+  listing-of = listing-is n low ∙ ap (λ (t : Totals). firstLine n (t .arcs) (t .messages) ++ arcLines (arcs n)) (sym (e ∙ totals-are n low high))
 
   pub listing-length : length (listing n) ≡ length (firstLine n (t .arcs) (t .messages)) + length (arcLines (arcs n))
   listing-length = ap length listing-of ∙ length-append (firstLine n (t .arcs) (t .messages)) (arcLines (arcs n))
