@@ -1,5 +1,5 @@
 -- The laws of the listing.
 pub mod Input
-pub mod Puts
 pub mod Lines
 pub mod Whole
+pub mod Theorems

@@ -1,21 +1,21 @@
 -- The lines of the listing: their lengths, and how they follow one another.
-use mathlib.Core.Path.{_≡_, refl, sym, _∙_, ap, subst}
+use mathlib.Core.Path.{_≡_, refl, sym, _∙_, ap}
 use mathlib.Core.List.{List, [], _∷_, _++_, map, append-assoc, append-nil}
-use Prim.Native.Nat.{ℕ, zero, suc, _+_, _*_, _-_, _≤_, _<_}
+use Prim.Native.Nat.{ℕ, zero, suc, _+_, _-_, _≤_, _<_}
 use native.Mathlib.Nat.{add-zero}
 use native.Mathlib.Numerals.{add-one}
 use native.Mathlib.Omega.{arith}
 use native.Mathlib.Decide.{ℕ-discrete}
 use lib.ListN.{length, getD, take, set, length-append}
-use Rattle.buffer.specs.Slice.{write}
+use Rattle.buffer.specs.Slice.{Puts}
 use Rattle.routing.specs.declared.Gateways.{Gateways}
-use Rattle.routing.specs.Arcs.{Arc, arcs, arcsOfFirst, to, mid0, mid1}
+use Rattle.routing.specs.Arcs.{Arc, arcs, arcsOfFirst, to}
 use Rattle.routing.specs.Answers.{gateways}
 use Rattle.routing.proofs.Shape.{To}
 use Rattle.routing.proofs.Theorems.{to-case}
 use Rattle.text.specs.Decimal.{decimal}
-use Rattle.listing.specs.Output.{nodesWord, arcsWord, roundWord, blank, lineEnd, firstLine, arcLine, arcLines, linesFrom}
-use Rattle.listing.proofs.Puts.{then, then-byte, put-nothing}
+use Rattle.listing.specs.Output.{nodesWord, arcsWord, roundWord, firstLine, arcLine, arcLines, linesFrom}
+use Rattle.buffer.proofs.Putting.{puts-nothing, puts-byte, puts-more, puts-length}
 
 pub length-arcLine : (i j : ℕ) → length (arcLine (i, j)) ≡ length (decimal i) + length (decimal j) + 2
 unfolding arcLine
@@ -66,20 +66,15 @@ module _ (own k : ℕ) (xs : List ℕ) where
 
   -- those lines put
   module _ (at : ℕ) (m : List ℕ) where
-    pub none-put : k ≡ 0 → (at ≡ at + length (linesFrom own (take k xs))) × (m ≡ write at (linesFrom own (take k xs)) m)
-    none-put e = rw (no-line e) (put-nothing at m)
+    pub none-put : k ≡ 0 → Puts at (linesFrom own (take k xs)) m m at
+    none-put e = rw (no-line e) (puts-nothing at m)
 
-    pub one-put : {p : ℕ} {now : List ℕ} → k ≡ 1 → 1 ≤ length xs
-        → (p ≡ at + length (arcLine (own, getD xs 0 0))) × (now ≡ write at (arcLine (own, getD xs 0 0)) m)
-        → (p ≡ at + length (linesFrom own (take k xs))) × (now ≡ write at (linesFrom own (take k xs)) m)
+    pub one-put : {p : ℕ} {now : List ℕ} → k ≡ 1 → 1 ≤ length xs → Puts at (arcLine (own, getD xs 0 0)) m now p → Puts at (linesFrom own (take k xs)) m now p
     one-put e h a = rw (one-line e h) a
 
     pub two-put : {p q : ℕ} {now later : List ℕ} → k ≡ 2 → 2 ≤ length xs → at + length (linesFrom own (take k xs)) ≤ length m
-        → (p ≡ at + length (arcLine (own, getD xs 0 0))) × (now ≡ write at (arcLine (own, getD xs 0 0)) m)
-        → (q ≡ p + length (arcLine (own, getD xs 1 0))) × (later ≡ write p (arcLine (own, getD xs 1 0)) now)
-        → (q ≡ at + length (linesFrom own (take k xs))) × (later ≡ write at (linesFrom own (take k xs)) m)
-    two-put e h room a b =
-        rw (two-lines e h) (then at (arcLine (own, getD xs 0 0)) m (arcLine (own, getD xs 1 0)) (omega (arith, two-length e h)) a b)
+        → Puts at (arcLine (own, getD xs 0 0)) m now p → Puts p (arcLine (own, getD xs 1 0)) now later q → Puts at (linesFrom own (take k xs)) m later q
+    two-put e h room a b = rw (two-lines e h) (puts-more (omega (arith, two-length e h)) a b)
 
 -- the lines of one gateway more
 pub lines-next : (n i : ℕ) → arcLines (arcsOfFirst n (i + 1)) ≡ arcLines (arcsOfFirst n i) ++ linesFrom i (to n i)
@@ -115,34 +110,30 @@ module _ (n i : ℕ) (h : i < n) {g : Gateways} (e : g ≡ gateways (to n i)) wh
 
 -- a whole line put
 pub arc-put : (at i j : ℕ) (m : List ℕ) {p q : ℕ} {now later : List ℕ} → at + length (arcLine (i, j)) ≤ length m
-    → (p ≡ at + length (decimal i)) × (now ≡ write at (decimal i) m) → (q ≡ p + 1 + length (decimal j)) × (later ≡ write (p + 1) (decimal j) (set now p 32))
-    → (q + 1 ≡ at + length (arcLine (i, j))) × (set later q 10 ≡ write at (arcLine (i, j)) m)
+    → Puts at (decimal i) m now p → Puts (p + 1) (decimal j) (set now p 32) later q → Puts at (arcLine (i, j)) m (set later q 10) (q + 1)
 unfolding arcLine
-arc-put at i j m room a b =
+arc-put at i j m {p} {q} {now} {later} room a b =
     let l : length (arcLine (i, j)) ≡ length (decimal i) + length (decimal j) + 2 = length-arcLine i j in
     let one : length (decimal i ++ (32 ∷ [])) ≡ length (decimal i) + 1 = length-append (decimal i) (32 ∷ []) in
     let two : length (decimal i ++ (32 ∷ []) ++ decimal j) ≡ length (decimal i ++ (32 ∷ [])) + length (decimal j) = length-append (decimal i ++ (32 ∷ [])) (decimal j) in
-    then-byte at (decimal i ++ (32 ∷ []) ++ decimal j) m 10 (omega arith)
-    (then at (decimal i ++ (32 ∷ [])) m (decimal j) (omega arith) (then-byte at (decimal i) m 32 (omega arith) a) b)
+    let first : at + length (decimal i) ≤ length m = omega arith in
+    let both : at + length (decimal i ++ (32 ∷ []) ++ decimal j) ≤ length m = omega arith in
+    let put = puts-more (omega arith) (puts-more first a (puts-byte p 32 now (omega (arith, puts-length first a)))) b in
+    puts-more both put (puts-byte q 10 later (omega (arith, puts-length both put)))
 
 -- the first line put
-module _ (n arcs messages : ℕ) (m : List ℕ) (room : length (firstLine n arcs messages) ≤ length m) where
-  pub first-put : {p q r : ℕ} {now later last : List ℕ}
-      → (p ≡ 0 + length (nodesWord ++ decimal n)) × (now ≡ write 0 (nodesWord ++ decimal n) m)
-      → (q ≡ p + length (arcsWord ++ decimal arcs)) × (later ≡ write p (arcsWord ++ decimal arcs) now)
-      → (r ≡ q + length (roundWord ++ decimal messages)) × (last ≡ write q (roundWord ++ decimal messages) later)
-      → (r + 1 ≡ length (firstLine n arcs messages)) × (set last r 10 ≡ write 0 (firstLine n arcs messages) m)
-  unfolding firstLine
-  first-put a b c =
-      let all : length (firstLine n arcs messages) ≡ 20 + length (decimal n) + length (decimal arcs) + length (decimal messages) = length-firstLine n arcs messages in
-      let one : length (nodesWord ++ decimal n) ≡ 6 + length (decimal n) = length-append nodesWord (decimal n) in
-      let two : length ((nodesWord ++ decimal n) ++ (arcsWord ++ decimal arcs)) ≡ 12 + length (decimal n) + length (decimal arcs) = simp length-append (omega arith) in
-      let three : length ((nodesWord ++ decimal n) ++ (arcsWord ++ decimal arcs) ++ (roundWord ++ decimal messages)) ≡ 19 + length (decimal n) + length (decimal arcs) + length (decimal messages) = simp length-append (omega arith) in
-      let put =
-      then-byte 0 ((nodesWord ++ decimal n) ++ (arcsWord ++ decimal arcs) ++ (roundWord ++ decimal messages)) m 10 (omega arith)
-      (then 0 ((nodesWord ++ decimal n) ++ (arcsWord ++ decimal arcs)) m (roundWord ++ decimal messages) (omega arith)
-      (then 0 (nodesWord ++ decimal n) m (arcsWord ++ decimal arcs) (omega arith) a b) c) in
-      (omega (arith, put .0), put .1)
+pub first-put : (n arcs messages : ℕ) (m : List ℕ) {p q r : ℕ} {now later last : List ℕ} → length (firstLine n arcs messages) ≤ length m
+    → Puts 0 (nodesWord ++ decimal n) m now p → Puts p (arcsWord ++ decimal arcs) now later q → Puts q (roundWord ++ decimal messages) later last r
+    → Puts 0 (firstLine n arcs messages) m (set last r 10) (r + 1)
+unfolding firstLine
+first-put n arcs messages m {p} {q} {r} {now} {later} {last} room a b c =
+    let all : length (firstLine n arcs messages) ≡ 20 + length (decimal n) + length (decimal arcs) + length (decimal messages) = length-firstLine n arcs messages in
+    let one : length (nodesWord ++ decimal n) ≡ 6 + length (decimal n) = length-append nodesWord (decimal n) in
+    let two : length ((nodesWord ++ decimal n) ++ (arcsWord ++ decimal arcs)) ≡ 12 + length (decimal n) + length (decimal arcs) = simp length-append (omega arith) in
+    let three : length ((nodesWord ++ decimal n) ++ (arcsWord ++ decimal arcs) ++ (roundWord ++ decimal messages)) ≡ 19 + length (decimal n) + length (decimal arcs) + length (decimal messages) = simp length-append (omega arith) in
+    let fits : 0 + length ((nodesWord ++ decimal n) ++ (arcsWord ++ decimal arcs) ++ (roundWord ++ decimal messages)) ≤ length m = omega arith in
+    let put = puts-more (omega arith) (puts-more (omega arith) a b) c in
+    puts-more fits put (puts-byte r 10 last (omega (arith, puts-length fits put)))
 
 -- the lines of the first gateways are within those of more
 lines-grow : (n i d : ℕ) → length (arcLines (arcsOfFirst n i)) ≤ length (arcLines (arcsOfFirst n (i + d)))
@@ -164,8 +155,8 @@ pub no-lines : (n : ℕ) → arcLines (arcsOfFirst n 0) ≡ []
 unfolding arcLines arcsOfFirst
 no-lines n = refl
 
-pub no-lines-put : (n at : ℕ) (m : List ℕ) → (at ≡ at + length (arcLines (arcsOfFirst n 0))) × (m ≡ write at (arcLines (arcsOfFirst n 0)) m)
-no-lines-put n at m = rw (no-lines n) (put-nothing at m)
+pub no-lines-put : (n at : ℕ) (m : List ℕ) → Puts at (arcLines (arcsOfFirst n 0)) m m at
+no-lines-put n at m = rw (no-lines n) (puts-nothing at m)
 
 -- one gateway's lines more, as the code holds its to
 module _ (n i : ℕ) (h : i < n) {g : Gateways} (e : g ≡ gateways (to n i)) where
@@ -176,9 +167,6 @@ module _ (n i : ℕ) (h : i < n) {g : Gateways} (e : g ≡ gateways (to n i)) wh
       ∙ ap (λ (l : List ℕ). length (arcLines (arcsOfFirst n i)) + length l) (sym (to-held n i h e))
 
   pub lines-turn : (at : ℕ) (m : List ℕ) {p q : ℕ} {now later : List ℕ} → at + length (arcLines (arcs n)) ≤ length m
-      → (p ≡ at + length (arcLines (arcsOfFirst n i))) × (now ≡ write at (arcLines (arcsOfFirst n i)) m)
-      → (q ≡ p + length (linesFrom i (take (g .count) (g .number)))) × (later ≡ write p (linesFrom i (take (g .count) (g .number))) now)
-      → (q ≡ at + length (arcLines (arcsOfFirst n (i + 1)))) × (later ≡ write at (arcLines (arcsOfFirst n (i + 1))) m)
+      → Puts at (arcLines (arcsOfFirst n i)) m now p → Puts p (linesFrom i (take (g .count) (g .number))) now later q → Puts at (arcLines (arcsOfFirst n (i + 1))) m later q
   lines-turn at m room a b =
-      rw (lines-next n i)
-      (then at (arcLines (arcsOfFirst n i)) m (linesFrom i (to n i)) (omega (arith, lines-within n i (omega arith))) a (rw (to-held n i h e) at b))
+      rw (lines-next n i) (puts-more (omega (arith, lines-within n i (omega arith))) a (rw (to-held n i h e) at b))

@@ -1,18 +1,19 @@
 -- The whole listing, and what is answered with it.
-use mathlib.Core.Path.{_≡_, refl, sym, _∙_, ap, subst}
+use mathlib.Core.Path.{_≡_, refl, sym, _∙_, ap}
 use mathlib.Core.List.{List, [], _∷_, _++_}
-use Prim.Native.Nat.{ℕ, zero, suc, _+_, _*_, _-_, _≤_, _<_}
+use Prim.Native.Nat.{ℕ, zero, suc, _+_, _≤_, _<_}
 use native.Mathlib.Omega.{arith}
 use native.Mathlib.Decide.{decLe}
-use lib.ListN.{length, set, length-append}
+use lib.ListN.{length, set, length-append, length-set}
 use borrow.Author.Tests.{le-leb, lt-leb}
 use Rattle.buffer.specs.Slice.{write}
 use Rattle.routing.specs.declared.Totals.{Totals}
 use Rattle.routing.specs.Arcs.{arcs, arcCount, roundMessages}
 use Rattle.routing.specs.Answers.{totalsOf}
+use Rattle.routing.proofs.Branches.{totals-are}
 use Rattle.listing.specs.declared.Rendered.{Rendered}
 use Rattle.listing.specs.Output.{firstLine, arcLines, listing, numberIn, printed, Rendering, rendered, rendering}
-use Rattle.listing.proofs.Puts.{then, then-byte, put-nothing}
+use Rattle.buffer.proofs.Putting.{puts-byte, puts-more}
 
 -- the two answers
 module _ (bytes m : List ℕ) where
@@ -28,7 +29,9 @@ module _ (bytes m : List ℕ) where
 -- 8 alone
 pub refusal-put : (m : List ℕ) → 2 ≤ length m → record { answer = record { answer = 0; length = 2 }; out = set (set m 0 56) 1 10 } ≡ rendered (listing 0) m
 unfolding listing
-refusal-put m h = put-whole (56 ∷ 10 ∷ []) m h refl (then-byte 0 (56 ∷ []) m 10 h (then-byte 0 [] m 56 (omega arith) (put-nothing 0 m)) .1)
+refusal-put m h =
+    put-whole (56 ∷ 10 ∷ []) m h refl
+    (puts-more {xs = 56 ∷ []} (omega arith) (puts-byte 0 56 m (omega arith)) (puts-byte 1 10 (set m 0 56) (rw (length-set m 0 56) h)) .output)
 
 pub refusal-short : (m : List ℕ) → length m < 2 → record { answer = record { answer = 5; length = 0 }; out = m } ≡ rendered (listing 0) m
 unfolding listing
@@ -41,12 +44,8 @@ listing-is zero h = absurd (omega arith)
 listing-is (suc n) h = refl
 
 module _ (n : ℕ) (low : 1 ≤ n) (high : n ≤ 65535) {t : Totals} (e : t ≡ totalsOf n) where
-  right : totalsOf n ≡ record { answer = 0; arcs = arcCount n; messages = roundMessages n }
-  unfolding totalsOf
-  right = rw (le-leb 1 n low, le-leb n 65535 high)
-
   pub listing-of : listing n ≡ firstLine n (t .arcs) (t .messages) ++ arcLines (arcs n)
-  listing-of = listing-is n low ∙ ap (λ (t : Totals). firstLine n (t .arcs) (t .messages) ++ arcLines (arcs n)) (sym (e ∙ right))
+  listing-of = listing-is n low ∙ ap (λ (t : Totals). firstLine n (t .arcs) (t .messages) ++ arcLines (arcs n)) (sym (e ∙ totals-are n low high))
 
   pub listing-length : length (listing n) ≡ length (firstLine n (t .arcs) (t .messages)) + length (arcLines (arcs n))
   listing-length = ap length listing-of ∙ length-append (firstLine n (t .arcs) (t .messages)) (arcLines (arcs n))

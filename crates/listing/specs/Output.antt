@@ -1,7 +1,8 @@
 -- What the program arcs prints for each input, byte by byte.
-use mathlib.Core.Bool.{Bool, true, false, cond}
+use mathlib.Core.Path.{_≡_}
+use mathlib.Core.Bool.{cond}
 use mathlib.Core.List.{List, [], _∷_, _++_, map}
-use Prim.Native.Nat.{ℕ, zero, suc, _-_}
+use Prim.Native.Nat.{ℕ, zero, suc, _-_, _≤_}
 use lib.Dec.{leb, eqb}
 use lib.ListN.{length, getD, take}
 use Rattle.buffer.specs.Slice.{write}
@@ -83,3 +84,17 @@ rendered bytes out =
 -- What render does with an input.
 unfoldable pub rendering : (input out : List ℕ) → Rendering
 rendering input out = rendered (printed input) out
+
+-- What holds of the output.
+pub record Laws : Type 0 where
+  -- a number from 1 to 65,535 in decimal without leading zeros, with at most one line end after it, gives its listing
+  pub listed : (N : ℕ) → 1 ≤ N → N ≤ 65535
+      → (printed (decimal N) ≡ listing N) × (printed (decimal N ++ (lineEnd ∷ [])) ≡ listing N)
+  -- every other input gives 8 alone
+  pub refused : (input : List ℕ)
+      → ((N : ℕ) → 1 ≤ N → N ≤ 65535 → (input ≡ decimal N → ⊥) × (input ≡ decimal N ++ (lineEnd ∷ []) → ⊥))
+      → printed input ≡ 56 ∷ lineEnd ∷ []
+  -- sixteen bytes of the input tell as much as all
+  pub sixteen : (input : List ℕ) → printed (take 16 input) ≡ printed input
+  -- 1,100,000 bytes hold all that is ever printed
+  pub held : (input : List ℕ) → length (printed input) ≤ 1100000

@@ -3,9 +3,9 @@ ghost use mathlib.Core.Path.{_≡_};
 ghost use mathlib.Core.List.{_++_};
 ghost use Prim.Native.Nat.{_+_, _*_, _≤_, _<_};
 ghost use lib.ListN.{length, take};
-ghost use Rattle.buffer.specs.Slice.{write};
+ghost use Rattle.buffer.specs.Slice.{write, Puts};
 ghost use Rattle.text.specs.Decimal.{decimal};
-ghost use Rattle.routing.specs.Arcs.{arcs, arcsOfFirst};
+ghost use Rattle.routing.specs.Arcs.{arcs};
 ghost use Rattle.routing.specs.Answers.{midsOf};
 ghost use Rattle.listing.specs.Output.{firstLine, arcLine, arcLines, linesFrom, listing, withoutEnd, numberIn, rendered, rendering};
 use routing::Gateways;
@@ -90,7 +90,7 @@ fn arcs_length(n: u32, m: Middles) -> usize
 // Puts a word and a number from position at on, and answers the position behind them.
 fn put_field(out: &mut [u8], at: usize, word: &[u8], n: u32) -> usize
     requires { ⌜ at + length (now word) + length (decimal n) ≤ length (now out) ⌝ }
-    ensures { λ r. ⌜ (r ≡ at + length (now (word .entry) ++ decimal n)) × (now (out .exit) ≡ write at (now (word .entry) ++ decimal n) (now (out .entry))) ⌝ }
+    ensures { λ r. ⌜ Puts at (now (word .entry) ++ decimal n) (now (out .entry)) (now (out .exit)) r ⌝ }
 {
     buffer::copy(out, at, word);
     text::put_decimal(out, at + word.len(), n)
@@ -99,7 +99,7 @@ fn put_field(out: &mut [u8], at: usize, word: &[u8], n: u32) -> usize
 // Puts the first line, and answers its length.
 fn put_first_line(out: &mut [u8], n: u32, arcs: u32, messages: u32) -> usize
     requires { ⌜ length (firstLine n arcs messages) ≤ length (now out) ⌝ }
-    ensures { λ r. ⌜ (r ≡ length (firstLine n arcs messages)) × (now (out .exit) ≡ write 0 (firstLine n arcs messages) (now (out .entry))) ⌝ }
+    ensures { λ r. ⌜ Puts 0 (firstLine n arcs messages) (now (out .entry)) (now (out .exit)) r ⌝ }
 {
     let nodes_end = put_field(out, 0, b"nodes ", n);
     let arcs_end = put_field(out, nodes_end, b" arcs ", arcs);
@@ -111,7 +111,7 @@ fn put_first_line(out: &mut [u8], n: u32, arcs: u32, messages: u32) -> usize
 // Puts the line of an arc from position at on, and answers the position behind it.
 fn put_arc(out: &mut [u8], at: usize, from: u32, to: u32) -> usize
     requires { ⌜ at + length (arcLine (from, to)) ≤ length (now out) ⌝ }
-    ensures { λ r. ⌜ (r ≡ at + length (arcLine (from, to))) × (now (out .exit) ≡ write at (arcLine (from, to)) (now (out .entry))) ⌝ }
+    ensures { λ r. ⌜ Puts at (arcLine (from, to)) (now (out .entry)) (now (out .exit)) r ⌝ }
 {
     let middle = text::put_decimal(out, at, from);
     out[middle] = 32;
@@ -123,7 +123,7 @@ fn put_arc(out: &mut [u8], at: usize, from: u32, to: u32) -> usize
 // Puts the lines of the arcs from one gateway from position at on, and answers the position behind them.
 fn put_lines(out: &mut [u8], at: usize, own: u32, to: Gateways) -> usize
     requires { ⌜ (to .count ≤ 2) × (length (to .number) ≡ 2) × (at + length (linesFrom own (take (to .count) (to .number))) ≤ length (now out)) ⌝ }
-    ensures { λ r. ⌜ (r ≡ at + length (linesFrom own (take (to .count) (to .number)))) × (now (out .exit) ≡ write at (linesFrom own (take (to .count) (to .number))) (now (out .entry))) ⌝ }
+    ensures { λ r. ⌜ Puts at (linesFrom own (take (to .count) (to .number))) (now (out .entry)) (now (out .exit)) r ⌝ }
 {
     if to.count == 0 {
         return at;

@@ -6,12 +6,12 @@ use Prim.Native.Nat.{ℕ, zero, suc, _+_, _*_, _-_, _/_, _%_, _^_, _≤_, _<_}
 use native.Mathlib.Omega.{arith}
 use native.Mathlib.Nat.{two-pow-succ, one-le-pow, pow-le-pow-right}
 use native.Mathlib.Decide.{decLt, decLe, ℕ-discrete}
-use lib.Dec.{leb, ltb, eqb}
+use lib.Dec.{ltb}
 use lib.IntN.{ℤ, pos, natAbs, _+ℤ_, _-ℤ_, _*ℤ_}
-use lib.Signed.{ltZ, leZ, quotZ}
+use lib.Signed.{quotZ}
 use borrow.Author.Tests.{lt-ltb, le-ltb, eq-eqb, ne-eqb}
 use Rattle.routing.specs.Figure2.{Row, widen, share, setFrom, setTo, gvtcfg, odd}
-use Rattle.routing.specs.Arcs.{figure2, from, to, mid0, mid1}
+use Rattle.routing.specs.Arcs.{figure2, loopEnd, from, to, mid0, mid1}
 use Rattle.routing.proofs.Difference.{Diff, diff-as, diff-pos, diff-plus, diff-minus, diff-from, diff-double, diff-is, le-yes, le-no, eq-yes, eq-no}
 use Rattle.routing.proofs.Shape.{Split, From, To}
 
@@ -35,13 +35,10 @@ one-fit {N} j k f g = go (decLt j k) (decLt k j)
     go (no p) (yes h) = absurd (omega (arith, twice-power k, pow-le-pow-right {n = 2} (omega arith) h))
     go (no p) (no q) = omega arith
 
-widen-on : (t M p : ℕ) → p < M + 1 → widen (suc t) (pos M) (pos p) ≡ widen t (pos M) (pos (2 * p + 1))
+-- a turn, by its test
+widen-turn : (t M p : ℕ) {b : Bool} → ltb p (M + 1) ≡ b → widen (suc t) (pos M) (pos p) ≡ elim b as (λ x. ℤ) [ true ↦ widen t (pos M) (pos (2 * p + 1)) | false ↦ pos p ]
 unfolding widen
-widen-on t M p h = ap (λ (b : Bool). elim b as (λ x. ℤ) [ true ↦ widen t (pos M) (pos (2 * p + 1)) | false ↦ pos p ]) (lt-ltb p (M + 1) h)
-
-widen-off : (t M p : ℕ) → M + 1 ≤ p → widen (suc t) (pos M) (pos p) ≡ pos p
-unfolding widen
-widen-off t M p h = ap (λ (b : Bool). elim b as (λ x. ℤ) [ true ↦ widen t (pos M) (pos (2 * p + 1)) | false ↦ pos p ]) (le-ltb p (M + 1) h)
+widen-turn t M p e = ap (λ (b : Bool). elim b as (λ x. ℤ) [ true ↦ widen t (pos M) (pos (2 * p + 1)) | false ↦ pos p ]) e
 
 widen-ends : (turns M k : ℕ) → 2 ^ k ≤ M + 1 → M + 1 < 2 * 2 ^ k + turns
     → (j : ℕ) × (widen turns (pos M) (pos (2 * 2 ^ k - 1)) ≡ pos (2 * 2 ^ j - 1)) × (2 ^ j ≤ M + 1) × (M + 1 < 2 * 2 ^ j)
@@ -54,8 +51,8 @@ widen-ends (suc t) M k low enough = go (decLt (2 * 2 ^ k - 1) (M + 1)) (widen-en
         → (j : ℕ) × (widen (suc t) (pos M) (pos (2 * 2 ^ k - 1)) ≡ pos (2 * 2 ^ j - 1)) × (2 ^ j ≤ M + 1) × (M + 1 < 2 * 2 ^ j)
     go (yes h) next =
         let e : 2 * (2 * 2 ^ k - 1) + 1 ≡ 2 * 2 ^ suc k - 1 = omega (arith, twice-power k, positive k) in
-        rw (widen-on t M (2 * 2 ^ k - 1) h, e) (next (omega (arith, twice-power k)) (omega (arith, twice-power k, positive k)))
-    go (no h) next = (k, widen-off t M (2 * 2 ^ k - 1) (omega arith), low, omega (arith, positive k))
+        rw (widen-turn t M (2 * 2 ^ k - 1) (lt-ltb (2 * 2 ^ k - 1) (M + 1) h), e) (next (omega (arith, twice-power k)) (omega (arith, twice-power k, positive k)))
+    go (no h) next = (k, widen-turn t M (2 * 2 ^ k - 1) (le-ltb (2 * 2 ^ k - 1) (M + 1) (omega arith)), low, omega (arith, positive k))
 
 -- the middles: one row shared by both trees, or a bottom row for each
 pub data RowIs (N P A B : ℕ) : Row → Type 0 where
@@ -100,15 +97,27 @@ start1 N h {z} e = go (ℕ-discrete (N % 2) 1)
     go (yes o) = rw (eq-eqb (N % 2) 1 o, e) (ap pos (omega arith))
     go (no o) = rw (ne-eqb (N % 2) 1 o, e) (ap pos (omega arith))
 
+-- where the loop stops, whatever the turns beyond N
+loop-ends : (N turns : ℕ) → 1 ≤ N → N ≤ turns → (k : ℕ) × (loopEnd N turns ≡ pos (2 * 2 ^ k - 1)) × Fit N (2 ^ k)
+loop-ends N turns h enough =
+    let ends = widen-ends turns ((N - 1) / 2) 0 (omega arith) (omega arith) in
+    (ends .0, ap (λ (z : ℤ). widen turns z (pos 1)) (start0 N h) ∙ ends .1, record { low = omega (arith, ends .2); high = omega (arith, ends .3) })
+
+pub loop-ended : (N more : ℕ) → 1 ≤ N → loopEnd N (N + more) ≡ loopEnd N N
+loop-ended N more h =
+    let a = loop-ends N (N + more) h (omega arith) in
+    let b = loop-ends N N h (omega arith) in
+    a .1 ∙ ap (λ (k : ℕ). pos (2 * 2 ^ k - 1)) (one-fit (a .0) (b .0) (a .2) (b .2)) ∙ sym (b .1)
+
 pub row-is : (N i : ℕ) → 1 ≤ N → Found N (figure2 N i .row)
 unfolding gvtcfg
 row-is N i h =
-    let ends = widen-ends N ((N - 1) / 2) 0 (omega arith) (omega arith) in
+    let ends = loop-ends N N h (omega arith) in
     let k : ℕ = ends .0 in
-    let w : widen N (quotZ (pos N -ℤ pos 1) (pos 2)) (pos 1) ≡ pos (2 * 2 ^ k - 1) = ap (λ (z : ℤ). widen N z (pos 1)) (start0 N h) ∙ ends .1 in
-    let fit : Fit N (2 ^ k) = record { low = omega (arith, ends .2); high = omega (arith, ends .3) } in
+    let w : loopEnd N N ≡ pos (2 * 2 ^ k - 1) = ends .1 in
+    let fit : Fit N (2 ^ k) = ends .2 in
     let half : Diff (2 ^ k) 2 (quotZ (pos (2 * 2 ^ k - 1)) (pos 2) -ℤ pos 1) = diff-as (2 ^ k) 2 (diff-minus (diff-pos ((2 * 2 ^ k - 1) / 2)) 1) (omega (arith, positive k)) in
-    let d0 : Diff (2 ^ k) 2 (quotZ (widen N (quotZ (pos N -ℤ pos 1) (pos 2)) (pos 1)) (pos 2) -ℤ pos 1) =
+    let d0 : Diff (2 ^ k) 2 (quotZ (loopEnd N N) (pos 2) -ℤ pos 1) =
     subst (λ (z : ℤ). Diff (2 ^ k) 2 (quotZ z (pos 2) -ℤ pos 1)) (sym w) half in
     let row = share-is N (2 ^ k) fit d0 (diff-as (N + 1) (2 ^ k) (diff-minus (diff-from N d0) 1) (omega arith)) (start0 N h) (start1 N h (start0 N h)) in
     record { k = k; A = row .0; B = row .1; fit = fit; is = row .2 }

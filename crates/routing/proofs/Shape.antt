@@ -59,22 +59,12 @@ to-some N A B i h = go (ℕ-discrete (i + 1) N) (decLe B i) (decLe (2 * i + 2) A
 first-is : {x a : ℕ} {l : List ℕ} → x ≡ a → x ∈ (a ∷ l)
 first-is e = here e
 
-second-is : {x a b : ℕ} {l : List ℕ} → x ≡ b → x ∈ (a ∷ b ∷ l)
-second-is e = there (here e)
-
-either : {x a b : ℕ} → a ≤ x + 1 → x ≤ a → a ≡ b + 1 → x ∈ (a ∷ b ∷ [])
-either {x} {a} {b} p q e = go (ℕ-discrete x a)
+either : {x a b : ℕ} {l : List ℕ} → ((x ≡ a → ⊥) → x ≡ b) → x ∈ (a ∷ b ∷ l)
+either {x} {a} {b} {l} other = go (ℕ-discrete x a)
   where
-    go : Dec (x ≡ a) → x ∈ (a ∷ b ∷ [])
+    go : Dec (x ≡ a) → x ∈ (a ∷ b ∷ l)
     go (yes h) = here h
-    go (no h) = second-is (omega arith)
-
-either′ : {x a b : ℕ} → a ≤ x → x ≤ a + 1 → b ≡ a + 1 → x ∈ (a ∷ b ∷ [])
-either′ {x} {a} {b} p q e = go (ℕ-discrete x a)
-  where
-    go : Dec (x ≡ a) → x ∈ (a ∷ b ∷ [])
-    go (yes h) = here h
-    go (no h) = second-is (omega arith)
+    go (no h) = there (here (other h))
 
 -- none, one or two elements, by two conditions
 pub data Sized (none two : Type 0) : ℕ → Type 0 where
@@ -111,7 +101,7 @@ module _ {N A B : ℕ} (s : Split N A B) where
   joined-to (parent p q) (down a b c) = absurd (omega arith)
   joined-to (parent p q) (up a b c d) = first-is (omega arith)
   joined-to (parent p q) (over a b c d) = absurd (omega arith)
-  joined-to (two p q r) (down a b c) = either′ (omega arith) (omega arith) (omega arith)
+  joined-to (two p q r) (down a b c) = either (omega arith)
   joined-to (two p q r) (up a b c d) = absurd (omega arith)
   joined-to (two p q r) (over a b c d) = absurd (omega arith)
   joined-to (one p q r) (down a b c) = first-is (omega arith)
@@ -129,7 +119,7 @@ module _ {N A B : ℕ} (s : Split N A B) where
   joined-from (parent p q) (up a b c d) = absurd (omega arith)
   joined-from (parent p q) (over a b c d) = absurd (omega arith)
   joined-from (two o p q) (down a b c) = absurd (omega arith)
-  joined-from (two o p q) (up a b c d) = either (omega arith) (omega arith) (omega arith)
+  joined-from (two o p q) (up a b c d) = either (omega arith)
   joined-from (two o p q) (over a b c d) = absurd (omega arith)
   joined-from (one o p q) (down a b c) = absurd (omega arith)
   joined-from (one o p q) (up a b c d) = first-is (omega arith)

@@ -1,19 +1,18 @@
 -- The laws of the arcs, for every N from 1.
 use mathlib.Core.Path.{_≡_, refl, sym, _∙_, ap, subst}
 use mathlib.Core.Logic.{_↔_, _⊎_, inl, inr, ⊎-elim}
-use mathlib.Core.Bool.{true, false, true≢false, false≢true}
-use mathlib.Core.List.{List, [], _∷_, _++_, map, List·Memᴰ·head as here, List·Memᴰ·tail as there, List·Memᴰ·not-nil, Memᴰ·append-left, Memᴰ·append-right, List·Memᴰ·append-cases, cons-ne-nil}
+use mathlib.Core.Bool.{true, false≢true}
+use mathlib.Core.List.{List, [], _∷_, _++_, map, List·Memᴰ·head as here, List·Memᴰ·tail as there, Memᴰ·append-left, Memᴰ·append-right, List·Memᴰ·append-cases, cons-ne-nil}
 use Prim.Native.Nat.{ℕ, zero, suc, _+_, _*_, _-_, _/_, _^_, _≤_, _<_}
 use native.Mathlib.Omega.{arith}
 use native.Mathlib.Numerals.{add-one}
-use native.Mathlib.Decide.{decLt, ℕ-discrete}
+use native.Mathlib.Decide.{decLt}
 use lib.ListN.{length, length-append, length-map}
-use lib.IntN.{ℤ, pos}
 use Rattle.routing.specs.Figure2.{Row}
-use Rattle.routing.specs.Arcs.{_∈_, figure2, from, to, mid0, mid1, Arc, arcsOfFirst, arcs, sum, arcCount, updates, roundMessages, Before, Ascending, none, more, Laws}
-use Rattle.routing.proofs.Shape.{Split, From, To, Joined, Sized, from-some, to-some, to-joined, from-joined, joined-to, joined-from, joined-up, to-size, from-size, three, to-ascends, from-descends}
+use Rattle.routing.specs.Arcs.{_∈_, from, to, mid0, mid1, Arc, arcsOfFirst, arcs, sum, arcCount, updates, roundMessages, Before, Ascending, none, more, Laws}
+use Rattle.routing.proofs.Shape.{Split, From, To, Sized, from-some, to-some, to-joined, from-joined, joined-to, joined-from, joined-up, to-size, from-size, three, to-ascends, from-descends}
 use Rattle.routing.proofs.Counting.{sum-plus, to-sum, from-sum, updates-sum}
-use Rattle.routing.proofs.Reading.{twice-power, one-fit, Fit, RowIs, one-row, two-rows, Mids, mids, figure-from, figure-to, from-is, to-is}
+use Rattle.routing.proofs.Reading.{loop-ended, twice-power, one-fit, Fit, RowIs, one-row, two-rows, mids, figure-from, figure-to, from-is, to-is}
 
 -- two ascending lists one behind the other
 ascending-append : {A : Type 0} {R : A → A → Type 0} {xs ys : List A} → Ascending R xs → Ascending R ys
@@ -94,9 +93,6 @@ module _ (N : ℕ) (some : 1 ≤ N) where
   from-has : (i : ℕ) → i < N → Sized (i ≡ 0) (mid1 N + N + 1 ≤ 2 * i) (length (from N i))
   from-has i h = from-size split (from-case i h)
 
-  starts : ℕ
-  starts = sum N (λ (i : ℕ). length (to N i))
-
   lvts : ℕ
   lvts = sum N (λ (i : ℕ). length (from N i))
 
@@ -138,6 +134,7 @@ module _ (N : ℕ) (some : 1 ≤ N) where
   unfolding arcs arcCount
   laws =
       record {
+        ended = λ more. loop-ended N more some;
         natural = λ i h. (sym (figure-from N i h (from-case i h)), sym (figure-to N i h (to-case i h)));
         symmetric = λ i j hi hj. (λ m. joined-from split (from-case j hj) (to-joined split (to-case i hi) m), λ m. joined-to split (to-case i hi) (from-joined split hj (from-case j hj) m));
         upward = λ i j h m. joined-up split (to-joined split (to-case i h) m);

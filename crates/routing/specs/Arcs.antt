@@ -6,8 +6,9 @@ use mathlib.Core.List.{List, [], _∷_, _++_, map, List·Memᴰ}
 use Prim.Native.Nat.{ℕ, zero, suc, _+_, _*_, _-_, _^_, _≤_, _<_}
 use lib.Dec.{ltb}
 use lib.ListN.{length}
-use lib.IntN.{ℤ, pos, natAbs}
-use Rattle.routing.specs.Figure2.{Config, gvtcfg}
+use lib.IntN.{ℤ, pos, natAbs, _-ℤ_}
+use lib.Signed.{quotZ}
+use Rattle.routing.specs.Figure2.{Config, widen, gvtcfg}
 
 infix 50 _∈_
 -- x is an element of xs.
@@ -25,6 +26,10 @@ from N i = map natAbs (figure2 N i .from)
 -- The gateways that gateway i tells, in Figure 2's order.
 unfoldable pub to : (N i : ℕ) → List ℕ
 to N i = map natAbs (figure2 N i .to)
+
+-- Figure 2's pen0 after its loop, for at most so many turns.
+abbrev pub loopEnd : (N turns : ℕ) → ℤ
+loopEnd N turns = widen turns (quotZ (pos N -ℤ pos 1) (pos 2)) (pos 1)
 
 -- Figure 2's last values of Mid0 and Mid1, the same at every gateway.
 unfoldable pub mid0 : (N : ℕ) → ℕ
@@ -74,6 +79,8 @@ pub data Ascending {A : Type 0} (R : A → A → Type 0) : List A → Type 0 whe
 
 -- What holds of the arcs of N gateways.
 pub record Laws (N : ℕ) : Type 0 where
+  -- N turns are enough for Figure 2's loop: more change nothing
+  pub ended : (more : ℕ) → loopEnd N (N + more) ≡ loopEnd N N
   -- Figure 2 gives no number below 0
   pub natural : (i : ℕ) → i < N → (map pos (from N i) ≡ figure2 N i .from) × (map pos (to N i) ≡ figure2 N i .to)
   -- i tells j exactly if j hears from i

@@ -34,7 +34,7 @@ share pen0 pen1 Mid0 Mid1 =
     (record { shared = true; Mid0 = pen1 -ℤ pos 1; Mid1 = pen0 +ℤ pos 1 })
     (record { shared = false; Mid0 = Mid0; Mid1 = Mid1 })
 
--- the first numFrom elements of from
+-- if ( myNum == 0 ) and its else branches: the first numFrom elements of from
 unfoldable pub setFrom : (myNum Mid0 Mid1 OutFrom In0 In1 myInv : ℤ) → List ℤ
 setFrom myNum Mid0 Mid1 OutFrom In0 In1 myInv =
     cond (eqZ myNum (pos 0)) []
@@ -43,7 +43,7 @@ setFrom myNum Mid0 Mid1 OutFrom In0 In1 myInv =
     (cond (eqZ Mid1 In0) (In0 ∷ [])
     (myInv ∷ []))))
 
--- the first numTo elements of to
+-- if ( myNum == numNodes - 1 ) and its else branches: the first numTo elements of to
 unfoldable pub setTo : (numNodes myNum Mid0 Mid1 InTo Out0 Out1 myInv : ℤ) → List ℤ
 setTo numNodes myNum Mid0 Mid1 InTo Out0 Out1 myInv =
     cond (eqZ myNum (numNodes -ℤ pos 1)) []

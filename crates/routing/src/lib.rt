@@ -1,5 +1,6 @@
 // Routing: the gateways that a gateway hears from and tells in a round, by Figure 2 of document 000.
-// Figure 2's signed tests are rearranged so that no value is below 0.
+// Figure 2's signed tests are rearranged so that no value is below 0. neighbours_of and totals_of take any numbers; the functions
+// between them ask their callers, in this repository, for numbers in range.
 ghost use mathlib.Core.Path.{_≡_};
 ghost use mathlib.Core.List.{[], _∷_};
 ghost use Prim.Native.Nat.{_≤_, _<_};
@@ -59,7 +60,7 @@ fn two(first: u32, second: u32) -> Gateways
     }
 }
 
-// Figure 2 up to its first `if`. Its pen0 is half - 1 below, and its pen1 is n - half.
+// Figure 2's middles, for a caller that then asks for many gateways of one n. Its pen0 is half - 1 here, and its pen1 n - half.
 pub fn mids_of(n: u32) -> Middles
     requires { ⌜ (1 ≤ n) × (n ≤ 65535) ⌝ }
     ensures { λ r. ⌜ (r ≡ midsOf n) × (r .mid0 < n) × (r .mid1 < n) ⌝ }
@@ -80,7 +81,7 @@ pub fn mids_of(n: u32) -> Middles
     }
 }
 
-// Figure 2's from, by its middles.
+// Figure 2's from, by the middles of n.
 pub fn from_of(m: Middles, n: u32, own: u32) -> Gateways
     requires { ⌜ (m ≡ midsOf n) × (m .mid1 < n) × (own < n) × (n ≤ 65535) ⌝ }
     ensures { λ r. ⌜ r ≡ gateways (from n own) ⌝ }
@@ -101,7 +102,7 @@ pub fn from_of(m: Middles, n: u32, own: u32) -> Gateways
     one(n - own - 1)
 }
 
-// Figure 2's to, by its middles.
+// Figure 2's to, by the middles of n.
 pub fn to_of(m: Middles, n: u32, own: u32) -> Gateways
     requires { ⌜ (m ≡ midsOf n) × (own < n) × (n ≤ 65535) ⌝ }
     ensures { λ r. ⌜ r ≡ gateways (to n own) ⌝ }

@@ -1,28 +1,29 @@
 -- The laws of decimal text: how it grows by a digit, its value, and that a text of digits without a leading zero is the decimal text of its value.
 use mathlib.Core.Path.{_≡_, refl, sym, _∙_, ap, ap₂, subst}
 use mathlib.Core.Logic.{_↔_, _⊎_, inl, inr, ⊎-elim}
-use mathlib.Core.Bool.{Bool, true, false, cond, _&&_, false≢true}
+use mathlib.Core.Bool.{Bool, true, false, false≢true}
 use mathlib.Core.List.{List, [], _∷_, _++_, append-assoc, append-nil}
 use Prim.Native.Nat.{ℕ, zero, suc, _+_, _*_, _-_, _/_, _%_, _≤_, _<_}
 use native.Mathlib.Omega.{arith}
 use native.Mathlib.Decide.{decLt, decLe, ℕ-discrete}
-use lib.Dec.{leb, ltb, eqb}
-use lib.ListN.{length, getD, take, drop, length-append}
+use lib.Dec.{ltb}
 use borrow.Author.Tests.{lt-ltb, le-ltb, eq-eqb, ne-eqb, le-leb, lt-leb}
-use Rattle.text.specs.declared.Spelled.{Spelled}
 use Rattle.text.specs.declared.Spelled.the-variants.{Number, Nothing}
 use Rattle.text.specs.Decimal.{digit, digits, decimal, valueFrom, value, same, spelled, Laws}
+
+-- a digit more, by its test
+digits-turn : (most n : ℕ) {b : Bool} → ltb n 10 ≡ b → digits (suc most) n ≡ elim b as (λ x. List ℕ) [ true ↦ digit n ∷ [] | false ↦ digits most (n / 10) ++ (digit (n % 10) ∷ []) ]
+unfolding digits
+digits-turn most n e =
+    ap (λ (b : Bool). elim b as (λ x. List ℕ) [ true ↦ digit n ∷ [] | false ↦ digits most (n / 10) ++ (digit (n % 10) ∷ []) ]) e
 
 digits-small : (most n : ℕ) → n < 10 → digits most n ≡ digit n ∷ []
 unfolding digits
 digits-small zero n h = ap (λ (d : ℕ). digit d ∷ []) (omega arith)
-digits-small (suc most) n h =
-    ap (λ (b : Bool). elim b as (λ x. List ℕ) [ true ↦ digit n ∷ [] | false ↦ digits most (n / 10) ++ (digit (n % 10) ∷ []) ]) (lt-ltb n 10 h)
+digits-small (suc most) n h = digits-turn most n (lt-ltb n 10 h)
 
 digits-more : (most n : ℕ) → 10 ≤ n → digits (suc most) n ≡ digits most (n / 10) ++ (digit (n % 10) ∷ [])
-unfolding digits
-digits-more most n h =
-    ap (λ (b : Bool). elim b as (λ x. List ℕ) [ true ↦ digit n ∷ [] | false ↦ digits most (n / 10) ++ (digit (n % 10) ∷ []) ]) (le-ltb n 10 h)
+digits-more most n h = digits-turn most n (le-ltb n 10 h)
 
 -- any bound of at least n gives all digits
 enough : (most n : ℕ) → n ≤ most → (more : ℕ) → n ≤ more → digits most n ≡ digits more n

@@ -1,7 +1,7 @@
 -- What the reading of a text finds, at each of its returns.
 use mathlib.Core.Path.{_≡_, refl, sym, _∙_, ap, subst}
 use mathlib.Core.List.{List, [], _∷_, _++_}
-use Prim.Native.Nat.{ℕ, zero, suc, _+_, _*_, _-_, _/_, _%_, _≤_, _<_}
+use Prim.Native.Nat.{ℕ, zero, suc, _+_, _*_, _-_, _≤_, _<_}
 use native.Mathlib.Numerals.{add-one}
 use native.Mathlib.Omega.{arith}
 use lib.ListN.{length, getD, take, drop, take-append-drop}
@@ -10,12 +10,12 @@ use Rattle.text.specs.declared.Spelled.the-variants.{Number, Nothing}
 use Rattle.text.specs.Decimal.{decimal, valueFrom, value, spelled}
 use Rattle.text.proofs.Digits.{Digits, Plain, nought, from, none, decimal-plain, decimal-small, plain-decimal, value-append, value-decimal, valueFrom-grows, digits-append, one-digit, is-spelled, not-spelled}
 
-digit-at : {l : List ℕ} → Digits l → (i : ℕ) → i < length l → (48 ≤ getD l i 0) × (getD l i 0 ≤ 57)
+pub digit-at : {l : List ℕ} → Digits l → (i : ℕ) → i < length l → (48 ≤ getD l i 0) × (getD l i 0 ≤ 57)
 digit-at none i h = absurd (omega arith)
 digit-at (Digits.more p q d) zero h = (p, q)
 digit-at (Digits.more p q d) (suc i) h = digit-at d i (omega arith)
 
-plain-digits : {l : List ℕ} → Plain l → Digits l
+pub plain-digits : {l : List ℕ} → Plain l → Digits l
 plain-digits nought = one-digit (omega arith) (omega arith)
 plain-digits (from {b = b} p q d) = Digits.more {b = b} (omega arith) q d
 
@@ -23,7 +23,7 @@ plain-lead : {l : List ℕ} → Plain l → getD l 0 0 ≡ 48 → length l ≡ 1
 plain-lead nought e = refl
 plain-lead (from p q d) e = absurd (omega arith)
 
-plain-some : {l : List ℕ} → Plain l → 1 ≤ length l
+pub plain-some : {l : List ℕ} → Plain l → 1 ≤ length l
 plain-some nought = omega arith
 plain-some (from p q d) = omega arith
 

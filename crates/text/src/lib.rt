@@ -1,8 +1,9 @@
 // Decimal text: numbers put as digits, and the number that a text spells.
+// put_decimal asks its caller for the room; decimal_length says how much that is.
 ghost use mathlib.Core.Path.{_≡_};
 ghost use Prim.Native.Nat.{_+_, _≤_};
 ghost use lib.ListN.{length};
-ghost use Rattle.buffer.specs.Slice.{write};
+ghost use Rattle.buffer.specs.Slice.{Puts};
 ghost use Rattle.text.specs.Decimal.{decimal, spelled};
 
 // What a text spells.
@@ -27,7 +28,7 @@ pub fn decimal_length(n: u32) -> usize
 // Puts the digits of n from position at on, and answers the position behind them.
 pub fn put_decimal(out: &mut [u8], at: usize, n: u32) -> usize
     requires { ⌜ at + length (decimal n) ≤ length (now out) ⌝ }
-    ensures { λ r. ⌜ (r ≡ at + length (decimal n)) × (now (out .exit) ≡ write at (decimal n) (now (out .entry))) ⌝ }
+    ensures { λ r. ⌜ Puts at (decimal n) (now (out .entry)) (now (out .exit)) r ⌝ }
 {
     if n < 10 {
         out[at] = 48 + n as u8;

@@ -1,5 +1,4 @@
 -- `number_in` reads what the input spells before its line end.
-use native.Mathlib.Omega.{arith}
 use mathlib.Core.Path.{sym}
 use lib.Seq.{length-take-le}
 use Rattle.listing.proofs.Input.{some-number, no-number}

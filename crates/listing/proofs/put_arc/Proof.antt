@@ -10,19 +10,19 @@ put-decimal-requires : tie.Need-put-decimal-requires
 put-decimal-requires c κs = omega (arith, length-arcLine (c .before .before .args .from) (c .before .before .args .to))
 
 slice-write-out : tie.Need-slice-write-out
-slice-write-out c = omega (arith, length-arcLine (c .before .before .before .before .before .args .from) (c .before .before .before .before .before .args .to), c .before .before .put-decimal .ensures .0, c .before .before .put-decimal .kept .0)
+slice-write-out c = omega (arith, length-arcLine (c .before .before .before .before .before .args .from) (c .before .before .before .before .before .args .to), c .before .before .put-decimal .ensures .position, c .before .before .put-decimal .kept .0)
 
 add-put-decimal : tie.Need-add-put-decimal
-add-put-decimal c = omega (arith, length-arcLine (c .before .before .before .before .before .before .args .from) (c .before .before .before .before .before .before .args .to), c .before .before .before .put-decimal .ensures .0)
+add-put-decimal c = omega (arith, length-arcLine (c .before .before .before .before .before .before .args .from) (c .before .before .before .before .before .before .args .to), c .before .before .before .put-decimal .ensures .position)
 
 put-decimal-requires-2 : tie.Need-put-decimal-requires-2
-put-decimal-requires-2 c κs = simp length-set (omega (arith, length-arcLine (c .before .before .before .before .before .before .args .from) (c .before .before .before .before .before .before .args .to), c .before .before .before .put-decimal .ensures .0, c .before .before .before .put-decimal .kept .0))
+put-decimal-requires-2 c κs = simp length-set (omega (arith, length-arcLine (c .before .before .before .before .before .before .args .from) (c .before .before .before .before .before .before .args .to), c .before .before .before .put-decimal .ensures .position, c .before .before .before .put-decimal .kept .0))
 
 slice-write-out-2 : tie.Need-slice-write-out-2
-slice-write-out-2 c = omega (arith, length-arcLine (c .before .before .before .before .before .before .before .before .before .args .from) (c .before .before .before .before .before .before .before .before .before .args .to), c .before .before .before .before .before .before .put-decimal .ensures .0, c .before .before .put-decimal2 .ensures .0, (simp length-set at (c .before .before .put-decimal2 .kept .0)), c .before .before .before .before .before .before .put-decimal .kept .0)
+slice-write-out-2 c = omega (arith, length-arcLine (c .before .before .before .before .before .before .before .before .before .args .from) (c .before .before .before .before .before .before .before .before .before .args .to), c .before .before .before .before .before .before .put-decimal .ensures .position, c .before .before .put-decimal2 .ensures .position, (simp length-set at (c .before .before .put-decimal2 .kept .0)), c .before .before .before .before .before .before .put-decimal .kept .0)
 
 add-result : tie.Need-add-result
-add-result c = omega (arith, length-arcLine (c .before .before .before .before .before .before .before .before .before .args .from) (c .before .before .before .before .before .before .before .before .before .args .to), c .before .before .before .before .before .before .put-decimal .ensures .0, c .before .before .put-decimal2 .ensures .0)
+add-result c = omega (arith, length-arcLine (c .before .before .before .before .before .before .before .before .before .args .from) (c .before .before .before .before .before .before .before .before .before .args .to), c .before .before .before .before .before .before .put-decimal .ensures .position, c .before .before .put-decimal2 .ensures .position)
 
 same-length : tie.Need-same-length
 same-length c = simp length-set ((simp length-set at (c .before .before .put-decimal2 .kept .0)) ∙ c .before .before .before .before .before .before .put-decimal .kept .0)

@@ -1,7 +1,7 @@
 -- `put_field` puts a word and then a number.
 use native.Mathlib.Omega.{arith}
-use mathlib.Core.Path.{refl, _∙_}
-use Rattle.listing.proofs.Puts.{then}
+use mathlib.Core.Path.{refl}
+use Rattle.buffer.proofs.Putting.{puts-more}
 use borrow.Author.Needs.{needs}
 use Rattle.listing.proofs.put_field.Statement.{statement}
 use Rattle.listing.proofs.put_field.Tie as tie
@@ -13,7 +13,7 @@ put-decimal-requires : tie.Need-put-decimal-requires
 put-decimal-requires c κs = omega (arith, c .before .before .before .copy .kept .0)
 
 returns : tie.Need-returns
-returns c = then _ _ _ _ (omega arith) (refl, c .before .before .before .before .before .before .copy .ensures) (c .before .before .put-decimal .ensures)
+returns c = puts-more (omega arith) (record { position = refl; output = c .before .before .before .before .before .before .copy .ensures }) (c .before .before .put-decimal .ensures)
 
 pub put-field-spec : {M : Type 1} → statement M
 put-field-spec =

@@ -13,16 +13,16 @@ put-field-requires : tie.Need-put-field-requires
 put-field-requires c κs = omega (arith, length-firstLine (c .before .before .before .args .n) (c .before .before .before .args .arcs) (c .before .before .before .args .messages), length-append nodesWord (decimal (c .before .before .before .args .n)), length-append arcsWord (decimal (c .before .before .before .args .arcs)), length-append roundWord (decimal (c .before .before .before .args .messages)))
 
 put-field-requires-2 : tie.Need-put-field-requires-2
-put-field-requires-2 c κs = omega (arith, length-firstLine (c .before .before .before .before .before .before .before .before .args .n) (c .before .before .before .before .before .before .before .before .args .arcs) (c .before .before .before .before .before .before .before .before .args .messages), length-append nodesWord (decimal (c .before .before .before .before .before .before .before .before .args .n)), length-append arcsWord (decimal (c .before .before .before .before .before .before .before .before .args .arcs)), length-append roundWord (decimal (c .before .before .before .before .before .before .before .before .args .messages)), c .before .before .before .before .put-field .ensures .0, c .before .before .before .before .put-field .kept .0)
+put-field-requires-2 c κs = omega (arith, length-firstLine (c .before .before .before .before .before .before .before .before .args .n) (c .before .before .before .before .before .before .before .before .args .arcs) (c .before .before .before .before .before .before .before .before .args .messages), length-append nodesWord (decimal (c .before .before .before .before .before .before .before .before .args .n)), length-append arcsWord (decimal (c .before .before .before .before .before .before .before .before .args .arcs)), length-append roundWord (decimal (c .before .before .before .before .before .before .before .before .args .messages)), c .before .before .before .before .put-field .ensures .position, c .before .before .before .before .put-field .kept .0)
 
 put-field-requires-3 : tie.Need-put-field-requires-3
-put-field-requires-3 c κs = omega (arith, length-firstLine (c .before .before .before .before .before .before .before .before .before .before .before .before .before .args .n) (c .before .before .before .before .before .before .before .before .before .before .before .before .before .args .arcs) (c .before .before .before .before .before .before .before .before .before .before .before .before .before .args .messages), length-append nodesWord (decimal (c .before .before .before .before .before .before .before .before .before .before .before .before .before .args .n)), length-append arcsWord (decimal (c .before .before .before .before .before .before .before .before .before .before .before .before .before .args .arcs)), length-append roundWord (decimal (c .before .before .before .before .before .before .before .before .before .before .before .before .before .args .messages)), c .before .before .before .before .before .before .before .before .before .put-field .ensures .0, c .before .before .before .before .before .before .before .before .before .put-field .kept .0, c .before .before .before .before .put-field2 .ensures .0, c .before .before .before .before .put-field2 .kept .0)
+put-field-requires-3 c κs = omega (arith, length-firstLine (c .before .before .before .before .before .before .before .before .before .before .before .before .before .args .n) (c .before .before .before .before .before .before .before .before .before .before .before .before .before .args .arcs) (c .before .before .before .before .before .before .before .before .before .before .before .before .before .args .messages), length-append nodesWord (decimal (c .before .before .before .before .before .before .before .before .before .before .before .before .before .args .n)), length-append arcsWord (decimal (c .before .before .before .before .before .before .before .before .before .before .before .before .before .args .arcs)), length-append roundWord (decimal (c .before .before .before .before .before .before .before .before .before .before .before .before .before .args .messages)), c .before .before .before .before .before .before .before .before .before .put-field .ensures .position, c .before .before .before .before .before .before .before .before .before .put-field .kept .0, c .before .before .before .before .put-field2 .ensures .position, c .before .before .before .before .put-field2 .kept .0)
 
 slice-write-out : tie.Need-slice-write-out
-slice-write-out c = omega (arith, length-firstLine (c .before .before .before .before .before .before .before .before .before .before .before .before .before .before .before .before .args .n) (c .before .before .before .before .before .before .before .before .before .before .before .before .before .before .before .before .args .arcs) (c .before .before .before .before .before .before .before .before .before .before .before .before .before .before .before .before .args .messages), length-append nodesWord (decimal (c .before .before .before .before .before .before .before .before .before .before .before .before .before .before .before .before .args .n)), length-append arcsWord (decimal (c .before .before .before .before .before .before .before .before .before .before .before .before .before .before .before .before .args .arcs)), length-append roundWord (decimal (c .before .before .before .before .before .before .before .before .before .before .before .before .before .before .before .before .args .messages)), c .before .before .before .before .before .before .before .before .before .before .before .before .put-field .ensures .0, c .before .before .before .before .before .before .before .before .before .before .before .before .put-field .kept .0, c .before .before .before .before .before .before .before .put-field2 .ensures .0, c .before .before .before .before .before .before .before .put-field2 .kept .0, c .before .before .put-field3 .ensures .0, c .before .before .put-field3 .kept .0)
+slice-write-out c = omega (arith, length-firstLine (c .before .before .before .before .before .before .before .before .before .before .before .before .before .before .before .before .args .n) (c .before .before .before .before .before .before .before .before .before .before .before .before .before .before .before .before .args .arcs) (c .before .before .before .before .before .before .before .before .before .before .before .before .before .before .before .before .args .messages), length-append nodesWord (decimal (c .before .before .before .before .before .before .before .before .before .before .before .before .before .before .before .before .args .n)), length-append arcsWord (decimal (c .before .before .before .before .before .before .before .before .before .before .before .before .before .before .before .before .args .arcs)), length-append roundWord (decimal (c .before .before .before .before .before .before .before .before .before .before .before .before .before .before .before .before .args .messages)), c .before .before .before .before .before .before .before .before .before .before .before .before .put-field .ensures .position, c .before .before .before .before .before .before .before .before .before .before .before .before .put-field .kept .0, c .before .before .before .before .before .before .before .put-field2 .ensures .position, c .before .before .before .before .before .before .before .put-field2 .kept .0, c .before .before .put-field3 .ensures .position, c .before .before .put-field3 .kept .0)
 
 add-result : tie.Need-add-result
-add-result c = omega (arith, length-firstLine (c .before .before .before .before .before .before .before .before .before .before .before .before .before .before .before .before .args .n) (c .before .before .before .before .before .before .before .before .before .before .before .before .before .before .before .before .args .arcs) (c .before .before .before .before .before .before .before .before .before .before .before .before .before .before .before .before .args .messages), length-append nodesWord (decimal (c .before .before .before .before .before .before .before .before .before .before .before .before .before .before .before .before .args .n)), length-append arcsWord (decimal (c .before .before .before .before .before .before .before .before .before .before .before .before .before .before .before .before .args .arcs)), length-append roundWord (decimal (c .before .before .before .before .before .before .before .before .before .before .before .before .before .before .before .before .args .messages)), c .before .before .before .before .before .before .before .before .before .before .before .before .put-field .ensures .0, c .before .before .before .before .before .before .before .put-field2 .ensures .0, c .before .before .put-field3 .ensures .0)
+add-result c = omega (arith, length-firstLine (c .before .before .before .before .before .before .before .before .before .before .before .before .before .before .before .before .args .n) (c .before .before .before .before .before .before .before .before .before .before .before .before .before .before .before .before .args .arcs) (c .before .before .before .before .before .before .before .before .before .before .before .before .before .before .before .before .args .messages), length-append nodesWord (decimal (c .before .before .before .before .before .before .before .before .before .before .before .before .before .before .before .before .args .n)), length-append arcsWord (decimal (c .before .before .before .before .before .before .before .before .before .before .before .before .before .before .before .before .args .arcs)), length-append roundWord (decimal (c .before .before .before .before .before .before .before .before .before .before .before .before .before .before .before .before .args .messages)), c .before .before .before .before .before .before .before .before .before .before .before .before .put-field .ensures .position, c .before .before .before .before .before .before .before .put-field2 .ensures .position, c .before .before .put-field3 .ensures .position)
 
 same-length : tie.Need-same-length
 same-length c = simp length-set (c .before .before .put-field3 .kept .0 ∙ c .before .before .before .before .before .before .before .put-field2 .kept .0 ∙ c .before .before .before .before .before .before .before .before .before .before .before .before .put-field .kept .0)

@@ -15,7 +15,7 @@ returns-2 : tie.Need-returns-2
 returns-2 c = one-put (c .before .before .before .before .before .before .before .before .args .own) (c .before .before .before .before .before .before .before .before .args .t4 .count) (c .before .before .before .before .before .before .before .before .args .t4 .number) _ _ (c .if2 .taken) (omega arith) (c .before .before .before .put-arc .ensures)
 
 put-arc-requires-2 : tie.Need-put-arc-requires-2
-put-arc-requires-2 c κs = omega (arith, two-length (c .before .before .before .before .before .before .before .before .before .before .args .own) (c .before .before .before .before .before .before .before .before .before .before .args .t4 .count) (c .before .before .before .before .before .before .before .before .before .before .args .t4 .number) (omega arith) (omega arith), c .before .before .before .before .before .put-arc .ensures .0, c .before .before .before .before .before .put-arc .kept .0)
+put-arc-requires-2 c κs = omega (arith, two-length (c .before .before .before .before .before .before .before .before .before .before .args .own) (c .before .before .before .before .before .before .before .before .before .before .args .t4 .count) (c .before .before .before .before .before .before .before .before .before .before .args .t4 .number) (omega arith) (omega arith), c .before .before .before .before .before .put-arc .ensures .position, c .before .before .before .before .before .put-arc .kept .0)
 
 returns-3 : tie.Need-returns-3
 returns-3 c = two-put (c .before .before .before .before .before .before .before .before .before .before .before .before .before .args .own) (c .before .before .before .before .before .before .before .before .before .before .before .before .before .args .t4 .count) (c .before .before .before .before .before .before .before .before .before .before .before .before .before .args .t4 .number) _ _ (omega arith) (omega arith) (c .before .before .before .before .before .before .before .before .before .before .before .before .before .pre .2) (c .before .before .before .before .before .before .before .before .put-arc .ensures) (c .before .before .put-arc2 .ensures)

@@ -10,7 +10,7 @@ returns : tie.Need-returns
 returns c = c .no-neighbours .ensures ∙ far _ _ (search needs)
 
 returns-2 : tie.Need-returns-2
-returns-2 c = c .no-neighbours2 .ensures ∙ high _ _ (search needs) (search needs)
+returns-2 c = c .no-neighbours2 .ensures ∙ high _ _ (search needs)
 
 returns-3 : tie.Need-returns-3
 returns-3 c = good _ _ (omega arith) (omega arith) (cc)

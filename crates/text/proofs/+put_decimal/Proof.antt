@@ -39,16 +39,16 @@ put-decimal-put-decimal-requires : (t : ℕ) → put-decimal-lts.Need-put-decima
 put-decimal-put-decimal-requires t c κs = (omega arith, omega (arith, length-more (c .before .before .before .args .n) (omega arith)))
 
 put-decimal-slice-write-out-2 : (t : ℕ) → put-decimal-lts.Need-slice-write-out-2 (put-decimal-below t, put-decimal.Post) (put-decimal-at t) put-decimal.Post
-put-decimal-slice-write-out-2 t c = omega (arith, length-more (c .before .before .before .before .before .before .args .n) (omega arith), c .before .before .put-decimal .ensures .0, c .before .before .put-decimal .kept .0)
+put-decimal-slice-write-out-2 t c = omega (arith, length-more (c .before .before .before .before .before .before .args .n) (omega arith), c .before .before .put-decimal .ensures .position, c .before .before .put-decimal .kept .0)
 
 put-decimal-add-result-2 : (t : ℕ) → put-decimal-lts.Need-add-result-2 (put-decimal-below t, put-decimal.Post) (put-decimal-at t) put-decimal.Post
-put-decimal-add-result-2 t c = omega (arith, length-more (c .before .before .before .before .before .before .args .n) (omega arith), c .before .before .put-decimal .ensures .0)
+put-decimal-add-result-2 t c = omega (arith, length-more (c .before .before .before .before .before .before .args .n) (omega arith), c .before .before .put-decimal .ensures .position)
 
 put-decimal-same-length-2 : (t : ℕ) → put-decimal-lts.Need-same-length-2 (put-decimal-below t, put-decimal.Post) (put-decimal-at t) put-decimal.Post
 put-decimal-same-length-2 t c = simp length-set (c .before .before .put-decimal .kept .0)
 
 put-decimal-returns-2 : (t : ℕ) → put-decimal-lts.Need-returns-2 (put-decimal-below t, put-decimal.Post) (put-decimal-at t) put-decimal.Post
-put-decimal-returns-2 t c = put-more _ _ _ (c .before .before .before .before .before .before .pre .1) (omega arith) (c .before .before .put-decimal .ensures .0) (c .before .before .put-decimal .ensures .1)
+put-decimal-returns-2 t c = put-more _ _ _ (c .before .before .before .before .before .before .pre .1) (omega arith) (c .before .before .put-decimal .ensures)
 
 pub +put-decimal-spec : {M : Type 1} → statement M
 +put-decimal-spec = close μ-put-decimal λ t. put-decimal-lts.spec (put-decimal-below t, put-decimal.Post)
