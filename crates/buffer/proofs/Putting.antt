@@ -21,7 +21,7 @@ module _ {at p : ℕ} {xs m now : List ℕ} where
   puts-more {ys} room a b =
       record {
         position = omega (arith, length-append xs ys);
-        output = b .output ∙ (λ i. write (a .position i) ys (a .output i)) ∙ write-join at xs ys m room
+        output = b .output ∙ (λ i. write (a .position i) ys (a .output i)) ∙ write-join at xs ys m room;
       }
 
   -- the length stays

@@ -2,6 +2,7 @@
 // for each: the fields of the frame that it is, or the number with which it is refused. What is cut short is refused.
 use libc::STDIN_FILENO;
 use libc::STDOUT_FILENO;
+ghost use mathlib.Core.Path.{_≡_};
 ghost use Prim.Native.Nat.{_+_, _≤_};
 ghost use lib.ListN.{length};
 
@@ -23,13 +24,29 @@ fn main() {
             break;
         }
         at = put_item(&mut out, at, &item, next);
-        if at > 65000 {
-            io::write_all(STDOUT_FILENO, &out[..at]);
-            at = 0;
-        }
+        at = with_room(&out, at);
         turns -= 1;
     }
+    print(&out, at);
+}
+
+// Prints the first at bytes.
+fn print(out: &[u8], at: usize)
+    requires { ⌜ at ≤ length (now out) ⌝ }
+{
     io::write_all(STDOUT_FILENO, &out[..at]);
+}
+
+// Prints what has been put if there is little room left, and answers where to go on.
+fn with_room(out: &[u8], at: usize) -> usize
+    requires { ⌜ at ≤ length (now out) ⌝ }
+    ensures { λ r. ⌜ r ≤ 65000 ⌝ }
+{
+    if at > 65000 {
+        print(out, at);
+        return 0;
+    }
+    at
 }
 
 fn next_item(item: &mut [u8]) -> Item
@@ -44,13 +61,19 @@ fn next_item(item: &mut [u8]) -> Item
             size: 0,
         };
     }
-    let size = head[0] as usize;
+    let size = wide(head[0]);
     let got = io::read_full(STDIN_FILENO, &mut item[..size]);
     Item {
         some: true,
         whole: got == size,
         size,
     }
+}
+
+fn wide(byte: u8) -> usize
+    ensures { λ r. ⌜ r ≤ 255 ⌝ }
+{
+    byte as usize
 }
 
 // Puts the line of an item, and answers the position behind it.
