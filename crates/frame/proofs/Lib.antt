@@ -8,3 +8,4 @@ pub mod Places
 pub mod Turning
 pub mod Output
 pub mod Accepted
+pub mod Cutting
