@@ -28,7 +28,7 @@ joined-cut at map (w ∷ ws) s e = by (odd map) e (λ n. joined-cut (at + n) (ma
     by true e rest = ap (λ (l : List ℕ). take w (drop at s) ++ l) (rest w (omega arith) ∙ sym (drop-drop w at s)) ∙ take-append-drop w (drop at s)
     by false e rest = rest 0 (omega arith) ∙ rw add-zero
 
-bytes-part : (s : List ℕ) (at n : ℕ) → Bytes s → Bytes (part s at n)
+pub bytes-part : (s : List ℕ) (at n : ℕ) → Bytes s → Bytes (part s at n)
 unfolding part
 bytes-part s at n b i = by (decLt i n)
   where

@@ -9,3 +9,6 @@ pub mod Turning
 pub mod Output
 pub mod Accepted
 pub mod Cutting
+pub mod ReadFirst
+pub mod WriteFirst
+pub mod Laws
