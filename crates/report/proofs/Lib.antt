@@ -1,0 +1,2 @@
+-- Laws of the lines of the program frames.
+pub mod Text

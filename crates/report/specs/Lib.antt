@@ -1,0 +1,2 @@
+-- The line that the program frames prints for an item.
+pub mod Lines
