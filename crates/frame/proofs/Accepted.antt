@@ -77,9 +77,14 @@ either : (a b : Bool) → (a || b) ≡ true → (a ≡ true) ⊎ (b ≡ true)
 either true b e = inl refl
 either false b e = inr e
 
-first : (a b : Bool) → (a && b) ≡ true → a ≡ true
+-- both parts of a test
+pub first : (a b : Bool) → (a && b) ≡ true → a ≡ true
 first true b e = refl
 first false b e = e
+
+pub second : (a b : Bool) → (a && b) ≡ true → b ≡ true
+second true b e = e
+second false b e = absurd (false≢true e)
 
 with-lamp : (map kind : ℕ) → kind ≤ 2 → (eqb map 63 || eqb map 191) ≡ true → Table map kind
 with-lamp map kind h e = ⊎-elim (λ p. plain (eqb-true map 63 p) h) (λ p. sensed (eqb-true map 191 p) h) (either (eqb map 63) (eqb map 191) e)
@@ -141,10 +146,6 @@ lamp-inside s e =
     let p : Passes s = accepted s (good-form (reading s .form) (first _ _ e)) in
     by p (table (getD s 0 0) (getD s 1 0) (p .map)) (leb-true _ 2 (second (isGood (reading s .form)) _ e))
   where
-    second : (a b : Bool) → (a && b) ≡ true → b ≡ true
-    second true b q = q
-    second false b q = absurd (false≢true q)
-
     kind : (p : Passes s) → getD s 1 0 < 7 → kindNumber (reading s .frame .message .kind) ≡ getD s 1 0
     kind p h = ap (λ (f : Frame). kindNumber (f .message .kind)) (p .frame) ∙ kind-back (fieldsOf s .kind) _ _ (rw (kind-byte s p) h) ∙ kind-byte s p
 

@@ -8,3 +8,7 @@ pub mod Places
 pub mod Turning
 pub mod Output
 pub mod Accepted
+pub mod Cutting
+pub mod ReadFirst
+pub mod WriteFirst
+pub mod Laws

@@ -179,10 +179,10 @@ by-kind hour from to Lvt lamp sense = rw hour-shape (simp (append-assoc, append-
 by-kind hour from to Update lamp sense = rw hour-shape (simp (append-assoc, append-nil))
 
 module _ (f : Frame) where
-  written-parts : written f ≡ headBytes (mapOf f) (f .message) ++ (bodyBytes (f .message) ++ senseBytes (senseNumber (f .sense)))
+  pub written-parts : written f ≡ headBytes (mapOf f) (f .message) ++ (bodyBytes (f .message) ++ senseBytes (senseNumber (f .sense)))
   written-parts = by-kind (f .message .hour) (f .message .from) (f .message .to) (f .message .kind) (f .message .lamp) (f .sense)
 
-  written-size : length (written f) ≡ 4 + (length (bodyBytes (f .message)) + length (senseBytes (senseNumber (f .sense))))
+  pub written-size : length (written f) ≡ 4 + (length (bodyBytes (f .message)) + length (senseBytes (senseNumber (f .sense))))
   written-size = ap length written-parts ∙ simp length-append (rw length-head)
 
   module _ (at : ℕ) (m : List ℕ) (room : at + length (written f) ≤ length m) where
@@ -244,7 +244,7 @@ joined-size map (p ∷ ps) = by (odd map) (joined-size (map / 2) ps)
     by true e = length-append p _ ∙ rw e
     by false e = e
 
-contents-sizes : (f : Frame) → length (f .message .lamp) ≡ 18 → mapped length (contents f) ≡ widths
+pub contents-sizes : (f : Frame) → length (f .message .lamp) ≡ 18 → mapped length (contents f) ≡ widths
 unfolding contents
 contents-sizes f e = simp (length-bytesOf, e)
 
