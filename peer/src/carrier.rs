@@ -1,5 +1,6 @@
 //! Carriers: a fixed order of calls that always brings the oldest frame, and random orders.
 
+use crate::frame::Frame;
 use crate::generator::Generator;
 use crate::model::NOTHING_DUE;
 use crate::run::{Run, Wrong, AMPLE};
@@ -73,13 +74,24 @@ enum Choice {
     Any,
 }
 
+#[derive(Clone, Copy)]
+enum Slow {
+    None,
+    /// The frames of the round, so that much happens in a round.
+    Rounds,
+    /// The other frames, so that many are under way in a round.
+    Messages,
+    /// The frames to one gateway.
+    To(u8),
+}
+
 /// What a random carrier prefers.
 struct Habits {
     /// Each call as often as it is preferred.
     calls: Vec<Call>,
     choice: Choice,
-    /// A gateway to which frames are seldom brought.
-    slow: u8,
+    /// The frames that are seldom brought.
+    slow: Slow,
     /// Output lengths to choose from.
     rooms: &'static [usize],
 }
@@ -109,9 +121,14 @@ fn draw_habits(nodes: u8, generator: &mut Generator) -> Habits {
     Habits {
         calls,
         choice: generator.pick(&[Choice::Oldest, Choice::Newest, Choice::Any, Choice::Any]),
-        slow: generator.below(nodes + 3),
+        slow: draw_slow(nodes, generator),
         rooms: generator.pick(&ROOMS),
     }
+}
+
+fn draw_slow(nodes: u8, generator: &mut Generator) -> Slow {
+    let gateway = Slow::To(generator.below(nodes));
+    generator.pick(&[Slow::None, Slow::Rounds, Slow::Rounds, Slow::Messages, gateway])
 }
 
 fn call(run: &mut Run, habits: &Habits, generator: &mut Generator) -> Result<(), Wrong> {
@@ -140,9 +157,18 @@ fn bring(
         Choice::Newest => count - 1,
         Choice::Any => usize::from(generator.half()) % count,
     };
-    let late = run.addressee(place) == habits.slow && generator.below(8) != 0;
-    if late {
+    if is_slow(&run.frame(place), habits.slow) && generator.below(16) != 0 {
         return Ok(());
     }
     run.bring(place, room)
+}
+
+fn is_slow(frame: &Frame, slow: Slow) -> bool {
+    let is_message = matches!(frame, Frame::Event { .. });
+    match slow {
+        Slow::None => false,
+        Slow::Rounds => !is_message,
+        Slow::Messages => is_message,
+        Slow::To(gateway) => frame.addressee() == gateway,
+    }
 }

@@ -5,19 +5,17 @@ use crate::gateway::{self, Setup};
 use crate::generator::Generator;
 use crate::model::{Hour, Kind, Lamp, Message, MAX_LAST_HOUR};
 
-/// Places with which no forecast here can get stuck.
+/// The most places that a gateway can have, for the queue and for what is outstanding.
 pub const MOST_PLACES: u32 = 512;
 
 /// The first two are alike in sixteen characters and more.
 const LAMPS: [&Lamp; 3] = [b"L00000000000000001", b"L00000000000000002", b"~!L000000000000001"];
 
 /// Hours from the first to the last of a random forecast.
-const SPANS: [Hour; 6] = [0, 5, 30, 30, 60, LONG_SPAN];
+const SPANS: [Hour; 6] = [0, 5, 30, 60, LONG_SPAN, LONG_SPAN];
 
-/// A span in which a fitted lamp fails again. Its forecasts have stock enough for every Request,
-/// as one that is passed on hour by hour makes tens of thousands of events.
+/// A span in which a fitted lamp fails again.
 const LONG_SPAN: Hour = 44_000;
-const LONG_STOCK: u32 = 20;
 
 const STOCKS: [u32; 6] = [0, 0, 0, 1, 2, 3];
 const QUANTITIES: [u16; 4] = [0, 1, 2, 65_535];
@@ -50,8 +48,10 @@ pub fn draw(generator: &mut Generator) -> Vec<Setup> {
     }
     let mut setups = Vec::new();
     for (own, opening) in (0..nodes).zip(&openings) {
-        let supplier = generator.below(nodes);
-        let stock = if span == LONG_SPAN { LONG_STOCK } else { generator.pick(&STOCKS) };
+        let (supplier, stock) = match span {
+            LONG_SPAN => long_supply(nodes, own, generator),
+            _ => (generator.below(nodes), generator.pick(&STOCKS)),
+        };
         let mut setup = setup(nodes, own, supplier, stock, first + span, opening);
         if !many_places {
             limit_places(&mut setup, opening.len() as u32, generator);
@@ -59,6 +59,16 @@ pub fn draw(generator: &mut Generator) -> Vec<Setup> {
         setups.push(setup);
     }
     setups
+}
+
+/// Supplier and stock for a long span: every Request soon comes to a gateway with stock, as one that
+/// is passed on hour by hour makes tens of thousands of events.
+fn long_supply(nodes: u8, own: u8, generator: &mut Generator) -> (u8, u32) {
+    let behind = nodes - 1 - own;
+    if behind == 0 {
+        return (own, 100);
+    }
+    (own + 1 + generator.below(behind), generator.pick(&STOCKS))
 }
 
 /// A set-up with the most places.

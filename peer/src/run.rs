@@ -82,8 +82,8 @@ impl Run {
         self.under_way.len()
     }
 
-    pub fn addressee(&self, place: usize) -> u8 {
-        self.under_way[place].frame.addressee()
+    pub fn frame(&self, place: usize) -> Frame {
+        self.under_way[place].frame
     }
 
     pub fn agreed(&self, own: u8) -> Hour {
@@ -285,5 +285,94 @@ impl Run {
             self.agreed[own] = agreed;
         }
         Ok(())
+    }
+}
+
+#[cfg(test)]
+mod tests {
+    use super::*;
+    use crate::carrier::{self, End};
+    use crate::forecast::{failure, setup};
+
+    const LAMP_2: [u8; 18] = *b"L00000000000000002";
+    const LAMP_3: [u8; 18] = *b"L00000000000000003";
+
+    /// The given gateways work and all frames but the held ones are brought, until nothing is left.
+    fn settle(run: &mut Run, working: &[u8], held: impl Fn(&Frame) -> bool) {
+        let mut written = usize::MAX;
+        while written != run.tally.written {
+            written = run.tally.written;
+            for &own in working {
+                run.work(own, 100, AMPLE).unwrap();
+            }
+            while let Some(place) = run.under_way.iter().position(|carried| !held(&carried.frame)) {
+                run.bring(place, AMPLE).unwrap();
+            }
+        }
+    }
+
+    fn is_message(frame: &Frame) -> bool {
+        matches!(frame, Frame::Event { .. })
+    }
+
+    /// Gateway 1 gives its one lamp to gateway 0, though an earlier Request of gateway 2 is still to
+    /// come. The Failure that follows from it at 43,830 is then cancelled while gateway 0 notes, and
+    /// that cancel is the earliest message under way when the round closes.
+    #[test]
+    fn a_cancel_sent_during_the_round_counts() {
+        let setups = [
+            setup(3, 0, 1, 0, 43_840, &[failure(0, 5, LAMP_2)]),
+            setup(3, 1, 2, 1, 43_840, &[]),
+            setup(3, 2, 1, 10, 43_840, &[failure(2, 3, LAMP_3)]),
+        ];
+        let own_cancel = |frame: &Frame| {
+            let &Frame::Event { sense, message } = frame else { return false };
+            sense == Sense::Cancel && (message.from, message.to) == (0, 0)
+        };
+        let mut run = Run::new(&setups).unwrap();
+        settle(&mut run, &[0, 1], |_| false);
+        run.start(0, AMPLE).unwrap();
+        settle(&mut run, &[0, 1, 2], |frame| !is_message(frame) || own_cancel(frame));
+        settle(&mut run, &[], is_message);
+        assert_eq!(run.agreed, [43_830; 3]);
+        assert!(run.under_way.iter().any(|carried| own_cancel(&carried.frame)));
+
+        assert_eq!(carrier::finish(&mut run), Ok(End::Finished));
+        assert!(run.agrees());
+    }
+
+    /// Equal frames count as brought in the order in which they were written.
+    #[test]
+    fn of_equal_frames_the_oldest_is_brought() {
+        let mut run = Run::new(&crate::forecast::example()).unwrap();
+        for _ in 0..2 {
+            run.start(0, AMPLE).unwrap();
+            run.bring(run.under_way.len() - 1, AMPLE).unwrap();
+            run.bring(run.under_way.len() - 1, AMPLE).unwrap();
+        }
+        let rounds = |run: &Run| -> Vec<_> { run.under_way.iter().map(|at| at.round).collect() };
+        assert_eq!(run.under_way[0].frame, run.under_way[1].frame, "two equal Updates");
+        assert_eq!(rounds(&run), [Some(0), Some(1)]);
+        run.bring(1, AMPLE).unwrap();
+        assert_eq!((rounds(&run), run.tally.rounds), (vec![Some(1)], 1));
+    }
+
+    /// Rounds over all forms of the graph, those that share the bottom row among them.
+    #[test]
+    fn forecasts_of_many_gateways() {
+        for nodes in 1..=40 {
+            let supplier = |own: u8| (own + 1) % nodes;
+            let opening = |own: u8| match own % 3 {
+                0 => vec![failure(own, own.into(), LAMP_2), failure(own, 3, LAMP_3)],
+                _ => vec![],
+            };
+            let stock = |own: u8| u32::from(own % 4 == 1);
+            let setup = |own| setup(nodes, own, supplier(own), stock(own), 60, &opening(own));
+            let setups: Vec<_> = (0..nodes).map(setup).collect();
+            let mut run = Run::new(&setups).unwrap();
+            assert_eq!(carrier::finish(&mut run), Ok(End::Finished), "{nodes} gateways");
+            assert!(run.agrees());
+            assert!(run.tally.rounds > 1 && run.rounds.iter().all(|round| round.closed));
+        }
     }
 }
