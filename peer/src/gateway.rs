@@ -445,6 +445,43 @@ mod tests {
     }
 
     #[test]
+    fn an_unacknowledged_cancel_lowers_the_agreed_time() {
+        let mut gateways = [gateway(0, 0, &[]), gateway(1, 0, &[])];
+        let message = request(5, LAMP_1, 0, 1);
+        take(&mut gateways[1], plain(message)).unwrap();
+        let Frame::Event { message: sent, .. } = gateways[1].work(1, AMPLE).output[0] else {
+            panic!("a Request is passed on");
+        };
+        take(&mut gateways[1], event(Sense::Acknowledgment, sent)).unwrap();
+        assert_eq!(round_of_two(&mut gateways.clone()), NOTHING_DUE);
+        take(&mut gateways[1], event(Sense::Cancel, message)).unwrap();
+        assert_eq!(round_of_two(&mut gateways), 6);
+    }
+
+    #[test]
+    fn the_note_is_taken_at_the_start() {
+        let mut gateway = gateway(0, 0, &[failure(0, 4, LAMP_1)]);
+        gateway.work(1, AMPLE);
+        gateway.start(AMPLE).unwrap();
+        let acknowledgment = event(Sense::Acknowledgment, request(5, LAMP_1, 0, 1));
+        take(&mut gateway, acknowledgment).unwrap();
+        take(&mut gateway, Frame::Lvt { from: 1, to: 0, hour: NOTHING_DUE }).unwrap();
+        assert_eq!(gateway.agreed(), 5, "it was outstanding at the start");
+    }
+
+    #[test]
+    fn the_value_is_taken_at_the_first_lvt() {
+        let setup = setup(4, 0, 1, 0, 100, &[failure(0, 4, LAMP_1)]);
+        let mut gateway = Gateway::set_up(&setup).unwrap();
+        let lvt = |from| Frame::Lvt { from, to: 0, hour: NOTHING_DUE };
+        gateway.start(AMPLE).unwrap();
+        take(&mut gateway, lvt(1)).unwrap();
+        gateway.work(1, AMPLE);
+        take(&mut gateway, lvt(2)).unwrap();
+        assert_eq!(gateway.agreed(), 4, "it was unprocessed at the stop");
+    }
+
+    #[test]
     fn events_below_the_agreed_time_commit() {
         let mut gateway = gateway(1, 0, &[failure(1, 12, LAMP_1), failure(1, 11, LAMP_1)]);
         assert_eq!(gateway.work(9, AMPLE).count, 2);

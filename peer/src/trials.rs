@@ -46,13 +46,16 @@ fn trial(seed: u32) -> Result<(End, String), Wrong> {
     let mut generator = Generator::new(seed);
     let setups = forecast::draw(&mut generator);
 
+    let many_places = setups.iter().all(has_most_places);
+
     let mut in_turns = Run::new(&setups)?;
-    if end(&mut in_turns)? == End::Stuck && setups.iter().all(has_most_places) {
-        return Err("stuck with the most places and the oldest frame first".into());
+    if end(&mut in_turns)? == End::Stuck && many_places {
+        return Err("stuck in turns with the most places".into());
     }
     let mut run = Run::new(&setups)?;
     carrier::random(&mut run, &mut generator, RANDOM_CALLS)?;
-    Ok((end(&mut run)?, summary(&run)))
+    let places = if many_places { "512 places" } else { "few places" };
+    Ok((end(&mut run)?, format!("{places}, {}", summary(&run))))
 }
 
 /// Brings a run to its end; finished, it must have the records of the single queue.
