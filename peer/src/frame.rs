@@ -70,6 +70,24 @@ pub fn read(bytes: &[u8]) -> Option<Frame> {
     }
 }
 
+/// The frames that stand one behind the other in a list; `None` for one that is of no valid form
+/// or cut.
+pub fn list(mut bytes: &[u8]) -> Vec<Option<Frame>> {
+    let mut frames = Vec::new();
+    while let Some(&map) = bytes.first() {
+        let split = bytes.split_at_checked(length(map));
+        frames.push(split.and_then(|(first, _)| read(first)));
+        bytes = split.map_or(&[], |(_, rest)| rest);
+    }
+    frames
+}
+
+/// The whole length of a frame with this map.
+fn length(map: u8) -> usize {
+    let fields = WIDTHS.iter().enumerate().filter(|(bit, _)| map >> bit & 1 == 1);
+    1 + fields.map(|(_, width)| width).sum::<usize>()
+}
+
 /// The bytes of a frame.
 pub fn write(frame: &Frame) -> Vec<u8> {
     let fields = Fields::of(frame);
@@ -90,6 +108,23 @@ pub fn line(frame: &Frame) -> String {
     let has_lamp = fields.map() & LAMP_BIT != 0;
     let lamp = if has_lamp { String::from_utf8_lossy(&lamp) } else { "-".into() };
     format!("{kind} {from} {to} {hour} {origin} {quantity} {sense} {lamp}")
+}
+
+impl Frame {
+    /// The gateway that the carrier brings it to. An acknowledgment goes back to its from.
+    pub fn addressee(&self) -> u8 {
+        match *self {
+            Frame::Event { sense: Sense::Plain | Sense::Cancel, message } => message.to,
+            Frame::Event { message, .. } => message.from,
+            Frame::Start { to, .. } | Frame::Lvt { to, .. } | Frame::Update { to, .. } => to,
+        }
+    }
+
+    /// The largest gateway number in it.
+    pub fn largest_number(&self) -> u8 {
+        let Fields { from, to, origin, .. } = Fields::of(self);
+        from.max(to).max(origin)
+    }
 }
 
 impl Fields {
@@ -245,6 +280,26 @@ mod tests {
             let with_sense = [&[bytes[0] | 128], &bytes[1..], &[1]].concat();
             assert_eq!(read(&with_sense), None, "kinds 3 to 6 have no sense");
         }
+    }
+
+    #[test]
+    fn frames_of_a_list() {
+        let start = Frame::Start { from: 1, to: 2 };
+        let request = Frame::Event { sense: Sense::Plain, message: request() };
+        let bytes = [&request_bytes()[..], &[7, 4, 1, 2]].concat();
+        assert_eq!(list(&bytes), [Some(request), Some(start)]);
+        assert_eq!(list(&bytes[..30]), [Some(request), None], "a cut tail");
+        assert_eq!(list(&[0, 7, 4, 1, 2]), [None, Some(start)], "a map of no field");
+        assert_eq!(list(&[]), []);
+    }
+
+    #[test]
+    fn an_acknowledgment_is_addressed_to_from() {
+        let addressee = |sense| Frame::Event { sense, message: request() }.addressee();
+        assert_eq!((addressee(Sense::Plain), addressee(Sense::Cancel)), (9, 9));
+        assert_eq!(addressee(Sense::Acknowledgment), 8);
+        assert_eq!(addressee(Sense::AcknowledgmentOfCancel), 8);
+        assert_eq!(Frame::Update { from: 1, to: 2, hour: 0 }.addressee(), 2);
     }
 
     #[test]

@@ -1,18 +1,28 @@
 //! The second program: the rules of document 01 written again from the papers, for comparison.
 
 mod arcs;
+mod carrier;
+mod examples;
+mod forecast;
 mod frame;
+mod gateway;
 mod generator;
 mod model;
+mod queue;
+mod record;
+mod round;
 mod routing;
+mod run;
 mod samples;
 mod stream;
 mod table;
+mod trials;
 
 use std::io::{self, Read, Write};
 use std::process::ExitCode;
 
-const USAGE: &str = "usage: peer arcs | frames | order | model | sample-frames SEED COUNT";
+const USAGE: &str = "usage: peer arcs | frames | order | model | examples | \
+                     sample-frames SEED COUNT | run SEED COUNT";
 
 fn main() -> ExitCode {
     let arguments: Vec<String> = std::env::args().skip(1).collect();
@@ -34,13 +44,28 @@ fn run(words: &[&str]) -> io::Result<Option<Vec<u8>>> {
         ["frames"] => Some(stream::frame_lines(&input(u64::MAX)?).into_bytes()),
         ["order"] => Some(stream::order_lines(&input(u64::MAX)?).into_bytes()),
         ["model"] => Some(table::lines().into_bytes()),
+        ["examples"] => Some(examples::lines().map_err(io::Error::other)?.into_bytes()),
         ["sample-frames", seed, count] => sample_frames(seed, count),
+        ["run", seed, count] => return trials(seed, count),
         _ => None,
     })
 }
 
 fn sample_frames(seed: &str, count: &str) -> Option<Vec<u8>> {
     Some(samples::frames(seed.parse().ok()?, count.parse().ok()?))
+}
+
+/// Prints the report of the trials; an error if something went wrong in one.
+fn trials(seed: &str, count: &str) -> io::Result<Option<Vec<u8>>> {
+    let (Ok(seed), Ok(count)) = (seed.parse(), count.parse()) else {
+        return Ok(None);
+    };
+    let report = trials::report(seed, count);
+    if report.good {
+        return Ok(Some(report.text.into_bytes()));
+    }
+    io::stdout().lock().write_all(report.text.as_bytes())?;
+    Err(io::Error::other("a trial went wrong"))
 }
 
 /// Standard input, or its first bytes up to the limit.

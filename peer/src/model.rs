@@ -6,8 +6,11 @@ pub type Hour = u32;
 /// A lamp identifier; eighteen zeros where a kind has no lamp.
 pub type Lamp = [u8; 18];
 
-/// The largest last hour that a forecast may have; the hour after it means nothing due.
-pub const MAX_LAST_HOUR: Hour = Hour::MAX - 1;
+/// The hour that means nothing due.
+pub const NOTHING_DUE: Hour = Hour::MAX;
+
+/// The largest last hour that a forecast may have.
+pub const MAX_LAST_HOUR: Hour = NOTHING_DUE - 1;
 
 /// The kinds of messages that are events, in the order of their numbers.
 #[derive(Clone, Copy, Debug, PartialEq, Eq, PartialOrd, Ord)]
@@ -40,8 +43,15 @@ pub struct State {
     pub short: u32,
 }
 
+/// An event that was done and the state of its gateway after it.
+#[derive(Clone, Copy, Debug, PartialEq, Eq)]
+pub struct Done {
+    pub message: Message,
+    pub after: State,
+}
+
 /// The settings of a gateway that doing a message needs.
-#[derive(Clone, Copy, Debug)]
+#[derive(Clone, Copy, Debug, PartialEq, Eq)]
 pub struct Settings {
     pub own: u8,
     pub supplier: u8,
@@ -103,8 +113,6 @@ pub fn perform(settings: Settings, state: State, message: &Message) -> (State, O
 #[cfg(test)]
 mod tests {
     use super::*;
-    use std::cmp::Reverse;
-    use std::collections::BinaryHeap;
 
     const LAMP_1: Lamp = *b"L00000000000000001";
     const LAMP_2: Lamp = *b"L00000000000000002";
@@ -207,28 +215,5 @@ mod tests {
                 assert_eq!(earlier.cmp(later), i.cmp(&j), "{i} against {j}");
             }
         }
-    }
-
-    /// Document 01's last example, by a single queue.
-    #[test]
-    fn two_failures_and_one_lamp_in_stock() {
-        let mut states = [State::default(), State { stock: 1, ..State::default() }];
-        let mut records: [Vec<(Message, State)>; 2] = Default::default();
-        let opening = [failure(0, 10, LAMP_1), failure(0, 10, LAMP_2)];
-        let mut queue: BinaryHeap<_> = opening.into_iter().map(Reverse).collect();
-        while let Some(Reverse(message)) = queue.pop() {
-            let own = usize::from(message.to);
-            let settings = Settings { own: message.to, supplier: 1, last_hour: 100 };
-            let (after, sent) = perform(settings, states[own], &message);
-            states[own] = after;
-            records[own].push((message, after));
-            queue.extend(sent.map(Reverse));
-        }
-        assert_eq!(records[0].len(), 3);
-        assert_eq!(records[1].len(), 91);
-        assert_eq!(states[1].short, 90);
-        let (fitted, after) = records[0][2];
-        assert_eq!((fitted.kind, fitted.hour, fitted.lamp), (Kind::Delivery, 35, LAMP_1));
-        assert_eq!(after, State { failed: 2, fitted: 1, ..State::default() });
     }
 }

@@ -16,7 +16,6 @@ struct Middle {
     Mid0: i32,
     Mid1: i32,
     /// The two trees share the bottom row.
-    #[cfg_attr(not(test), allow(dead_code))]
     shared: bool,
 }
 
@@ -38,6 +37,11 @@ pub fn arcs(nodes: i32) -> Option<Vec<(i32, i32)>> {
     }
     arcs.sort_unstable();
     Some(arcs)
+}
+
+/// The two trees of `nodes` gateways share the bottom row.
+pub fn shared(nodes: i32) -> bool {
+    middle(nodes).shared
 }
 
 /// Messages of one round: a Start and an Lvt on each arc, an Update to each gateway but 0.
@@ -141,19 +145,19 @@ mod tests {
         assert_eq!(from(10, 3), [1]);
         assert_eq!(to(10, 3), [7]);
         assert_eq!(to(11, 3), [7]);
-        assert!(middle(10).shared);
-        assert!(!middle(11).shared);
+        assert!(shared(10));
+        assert!(!shared(11));
         let Middle { Mid0, Mid1, .. } = middle(11);
         assert_eq!((Mid1, Mid0), (5, 5), "only gateway 5 is in both trees");
     }
 
     #[test]
     fn shared_rows_are_those_of_document_01() {
-        assert!(middle(22).shared);
-        assert!(!middle(23).shared);
+        assert!(shared(22));
+        assert!(!shared(23));
         for nodes in 1..=MAX_NODES {
             let expected = (0..16).any(|k| (2 << k) - 1 <= nodes && nodes <= 3 * (1 << k) - 2);
-            assert_eq!(middle(nodes).shared, expected, "{nodes} gateways");
+            assert_eq!(shared(nodes), expected, "{nodes} gateways");
         }
     }
 

@@ -1,0 +1,55 @@
+//! The single queue of document 01: one list of messages for all gateways, done in event order.
+
+use crate::frame::{self, Frame};
+use crate::gateway::Setup;
+use crate::model::{self, Done, Settings, State};
+use std::cmp::Reverse;
+use std::collections::BinaryHeap;
+
+/// The whole record of each gateway, from the settings and opening lists of accepted set-ups.
+pub fn records(setups: &[Setup]) -> Vec<Vec<Done>> {
+    let mut states: Vec<State> = setups.iter().map(opening_state).collect();
+    let mut records = vec![Vec::new(); setups.len()];
+    let mut list = BinaryHeap::new();
+    for frame in setups.iter().flat_map(|setup| frame::list(&setup.opening)) {
+        if let Some(Frame::Event { message, .. }) = frame {
+            list.push(Reverse(message));
+        }
+    }
+    while let Some(Reverse(message)) = list.pop() {
+        let own = usize::from(message.to);
+        let (after, sent) = model::perform(settings(&setups[own]), states[own], &message);
+        states[own] = after;
+        records[own].push(Done { message, after });
+        list.extend(sent.map(Reverse));
+    }
+    records
+}
+
+fn opening_state(setup: &Setup) -> State {
+    State { stock: setup.stock as u16, ..State::default() }
+}
+
+fn settings(setup: &Setup) -> Settings {
+    let &Setup { own, supplier, last_hour, .. } = setup;
+    Settings { own: own as u8, supplier: supplier as u8, last_hour }
+}
+
+#[cfg(test)]
+mod tests {
+    use super::*;
+    use crate::forecast;
+    use crate::model::Kind;
+
+    /// Document 01's last example.
+    #[test]
+    fn two_failures_and_one_lamp_in_stock() {
+        let records = records(&forecast::example());
+        assert_eq!((records[0].len(), records[1].len()), (3, 91));
+        assert_eq!(records[1][90].after.short, 90);
+        let Done { message, after } = records[0][2];
+        assert_eq!((message.kind, message.hour), (Kind::Delivery, 35));
+        assert_eq!(&message.lamp, b"L00000000000000001");
+        assert_eq!(after, State { failed: 2, fitted: 1, ..State::default() });
+    }
+}
