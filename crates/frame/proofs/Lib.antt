@@ -1,0 +1,4 @@
+-- Laws of frames.
+pub mod Entries
+pub mod Between
+pub mod Agreement

@@ -1,0 +1,16 @@
+-- `frame::tables::map_of_kind` meets its contract.
+use borrow.Author.Needs.{needs}
+use mathlib.Core.Path.{refl}
+use Rattle.frame.specs.Kinds.{mapOfKind}
+use Rattle.frame.proofs.tables.map_of_kind.Statement.{statement}
+use Rattle.frame.proofs.tables.map_of_kind.Tie as tie
+
+array-read-result : tie.Need-array-read-result
+array-read-result c = search needs
+
+returns : tie.Need-returns
+unfolding mapOfKind
+returns c = refl
+
+pub map-of-kind-spec : {M : Type 1} → statement M
+map-of-kind-spec = tie.close (tie.spec array-read-result returns)

@@ -1,0 +1,105 @@
+-- What a byte string is: a frame, or refused for the first reason that holds.
+use Prim.Native.Nat.{ℕ, _+_}
+use mathlib.Core.Bool.{Bool, true, false, cond, _&&_, _||_}
+use mathlib.Core.List.{List, [], _∷_}
+use lib.Dec.{leb, ltb, eqb}
+use lib.ListN.{length, getD, replicate}
+use Rattle.buffer.specs.Number.{numberOf}
+use Rattle.model.specs.Messages.{kindOf}
+use Rattle.model.specs.declared.Kind.the-variants.{Start}
+use Rattle.frame.specs.Layout.{widths, lampWidth, wholeLength, cut}
+use Rattle.frame.specs.Kinds.{hasLamp, mapOfKind, senseBit, senseOf}
+use Rattle.frame.specs.Writing.{lampFits, gatewaysAgree}
+use Rattle.frame.specs.declared.Sense.the-variants.{Plain}
+use Rattle.frame.specs.declared.Frame.{Frame}
+use Rattle.frame.specs.declared.Form.{Form}
+use Rattle.frame.specs.declared.Form.the-variants.{Good, TooShort, WrongMap, WrongLength, WrongSense, WrongLamp, WrongGateways}
+use Rattle.frame.specs.declared.Reading.{Reading}
+use Rattle.frame.specs.declared.reader.Fields.{Fields}
+
+-- a lamp's bytes; eighteen zeros where there is none
+abbrev pub lampOf : List ℕ → List ℕ
+lampOf [] = replicate lampWidth 0
+lampOf (b ∷ bs) = b ∷ bs
+
+-- the fields by their bytes, bit 0 first; one that has no bytes is zero
+unfoldable pub valuesOf : List (List ℕ) → Fields
+valuesOf parts = record {
+  kind = numberOf (getD parts 0 []);
+  from = numberOf (getD parts 1 []);
+  to = numberOf (getD parts 2 []);
+  hour = numberOf (getD parts 3 []);
+  origin = numberOf (getD parts 4 []);
+  lamp = lampOf (getD parts 5 []);
+  quantity = numberOf (getD parts 6 []);
+  sense = numberOf (getD parts 7 []);
+}
+
+-- the fields of a byte string whose first byte is the map
+unfoldable pub fieldsOf : List ℕ → Fields
+unfolding cut valuesOf
+fieldsOf s = valuesOf (cut 1 (getD s 0 0) widths s)
+
+-- the frame with those fields
+abbrev pub frameOf : Fields → Frame
+frameOf v = record {
+  message = record { hour = v .hour; from = v .from; to = v .to; kind = kindOf (v .kind) (v .origin) (v .quantity); lamp = v .lamp };
+  sense = senseOf (v .sense);
+}
+
+-- the map is that of the kind, with bit 7 only for a kind with a lamp
+unfoldable pub mapFits : ℕ → ℕ → Bool
+unfolding mapOfKind
+mapFits map kind = ltb kind 7 && (eqb map (mapOfKind kind) || (hasLamp kind && eqb map (mapOfKind kind + senseBit)))
+
+-- the sense is 1 to 3 where bit 7 stands
+abbrev pub senseFits : ℕ → ℕ → Bool
+senseFits map sense = cond (leb senseBit map) (leb 1 sense && leb sense 3) true
+
+-- a reason, unless the test passes: then what is found after it
+abbrev pub unless : Bool → Form → Form → Form
+unless true reason after = after
+unless false reason after = reason
+
+-- why a byte string is refused: the first reason in this order, or Good
+unfoldable pub formOf : List ℕ → Form
+unfolding mapFits fieldsOf lampFits wholeLength
+formOf s =
+    let map = getD s 0 0 in
+    let f = frameOf (fieldsOf s) in
+    unless (leb 2 (length s)) TooShort
+    (unless (mapFits map (getD s 1 0)) WrongMap
+    (unless (eqb (length s) (wholeLength map)) WrongLength
+    (unless (senseFits map (fieldsOf s .sense)) WrongSense
+    (unless (lampFits (f .message)) WrongLamp
+    (unless (gatewaysAgree (f .message .from) (f .message .to) (f .message .kind)) WrongGateways
+    Good)))))
+
+-- this paper's number of a reason: each is 1
+abbrev pub formNumber : Form → ℕ
+formNumber Good = 0
+formNumber TooShort = 1
+formNumber WrongMap = 1
+formNumber WrongLength = 1
+formNumber WrongSense = 1
+formNumber WrongLamp = 1
+formNumber WrongGateways = 1
+
+-- what stands for the frame of a byte string that is refused
+abbrev pub blank : Frame
+blank = record { message = record { hour = 0; from = 0; to = 0; kind = Start; lamp = replicate lampWidth 0 }; sense = Plain }
+
+-- a reading with that form; only a good one has the frame
+abbrev pub readAs : Form → Frame → Reading
+readAs Good f = record { form = Good; frame = f }
+readAs TooShort f = record { form = TooShort; frame = blank }
+readAs WrongMap f = record { form = WrongMap; frame = blank }
+readAs WrongLength f = record { form = WrongLength; frame = blank }
+readAs WrongSense f = record { form = WrongSense; frame = blank }
+readAs WrongLamp f = record { form = WrongLamp; frame = blank }
+readAs WrongGateways f = record { form = WrongGateways; frame = blank }
+
+-- what reading a byte string gives
+unfoldable pub reading : List ℕ → Reading
+unfolding formOf fieldsOf
+reading s = readAs (formOf s) (frameOf (fieldsOf s))

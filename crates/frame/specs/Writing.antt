@@ -1,0 +1,92 @@
+-- What a frame is written as, and which values are frames.
+use Prim.Native.Nat.{ℕ, _+_, _<_, _≤_}
+use mathlib.Core.Bool.{Bool, true, false, cond, _&&_, _||_}
+use mathlib.Core.List.{List, [], _∷_}
+use lib.Dec.{leb, eqb}
+use lib.ListN.{length}
+use Rattle.buffer.specs.Slice.{write}
+use Rattle.buffer.specs.Number.{bytesOf}
+use Rattle.model.specs.Messages.{kindNumber, originOf, quantityOf}
+use Rattle.model.specs.declared.Kind.{Kind}
+use Rattle.model.specs.declared.Kind.the-variants.{Failure, Request, Delivery, Restock, Start, Lvt, Update}
+use Rattle.model.specs.declared.Message.{Message}
+use Rattle.frame.specs.Layout.{gatewayWidth, standing, joined}
+use Rattle.frame.specs.Kinds.{hasLamp, mapOf, senseNumber}
+use Rattle.frame.specs.declared.Frame.{Frame}
+use Rattle.frame.specs.declared.Answer.{Answer}
+use Rattle.frame.specs.declared.Answer.the-variants.{Written, NoFrame, NoRoom}
+
+-- the bytes of every field, bit 0 first: kind, from, to, hour, origin, lamp, quantity, sense; numbers high byte first
+unfoldable pub contents : Frame → List (List ℕ)
+contents f =
+    bytesOf 1 (kindNumber (f .message .kind))
+    ∷ bytesOf gatewayWidth (f .message .from)
+    ∷ bytesOf gatewayWidth (f .message .to)
+    ∷ bytesOf 4 (f .message .hour)
+    ∷ bytesOf gatewayWidth (originOf (f .message .kind))
+    ∷ f .message .lamp
+    ∷ bytesOf 2 (quantityOf (f .message .kind))
+    ∷ bytesOf 1 (senseNumber (f .sense))
+    ∷ []
+
+-- the bytes that a frame is written as: its map, then the fields whose bit stands
+unfoldable pub written : Frame → List ℕ
+unfolding contents
+written f = mapOf f ∷ joined (standing (mapOf f) (contents f))
+
+-- every byte lies between the two
+unfoldable pub allBetween : ℕ → ℕ → List ℕ → Bool
+allBetween low high [] = true
+allBetween low high (b ∷ bs) = leb low b && leb b high && allBetween low high bs
+
+-- a lamp's bytes are 33 to 126; where the kind has no lamp they are zero
+unfoldable pub lampFits : Message → Bool
+lampFits m = cond (hasLamp (kindNumber (m .kind))) (allBetween 33 126 (m .lamp)) (allBetween 0 0 (m .lamp))
+
+-- a Failure has from = to = origin, a Delivery has to = origin, a Restock has from = to
+abbrev pub gatewaysAgree : ℕ → ℕ → Kind → Bool
+gatewaysAgree from to (Failure origin) = eqb from to && eqb to origin
+gatewaysAgree from to (Request origin) = true
+gatewaysAgree from to (Delivery origin) = eqb to origin
+gatewaysAgree from to (Restock quantity) = eqb from to
+gatewaysAgree from to Start = true
+gatewaysAgree from to Lvt = true
+gatewaysAgree from to Update = true
+
+-- only a kind with a lamp has a sense
+abbrev pub senseAllowed : ℕ → ℕ → Bool
+senseAllowed kind sense = hasLamp kind || eqb sense 0
+
+-- a Start has no hour, which then is zero
+abbrev pub hourFits : ℕ → ℕ → Bool
+hourFits kind hour = cond (eqb kind 4) (eqb hour 0) true
+
+-- whether a value is one of the forms above, given that its numbers fit their fields
+unfoldable pub wellFormed : Frame → Bool
+unfolding lampFits
+wellFormed f =
+    senseAllowed (kindNumber (f .message .kind)) (senseNumber (f .sense))
+    && hourFits (kindNumber (f .message .kind)) (f .message .hour)
+    && lampFits (f .message)
+    && gatewaysAgree (f .message .from) (f .message .to) (f .message .kind)
+
+-- this paper's number of an answer: 1 no frame, 5 no room
+abbrev pub answerNumber : Answer → ℕ
+answerNumber (Written count) = 0
+answerNumber NoFrame = 1
+answerNumber NoRoom = 5
+
+-- an answer and the output afterwards
+pub record Outcome : Type 0 where
+  pub answer : Answer
+  pub output : List ℕ
+
+-- a frame written at the start of an output: refused, nothing is written; else the bytes past it stay
+unfoldable pub writing : Frame → List ℕ → Outcome
+unfolding wellFormed written
+writing f m =
+    cond (wellFormed f)
+    (cond (leb (length (written f)) (length m))
+    (record { answer = Written (length (written f)); output = write 0 (written f) m })
+    (record { answer = NoRoom; output = m }))
+    (record { answer = NoFrame; output = m })

@@ -1,0 +1,54 @@
+// What a message of each kind has to keep to, for the reader and the writer.
+use model::Kind;
+use model::Message;
+use model::kind_number;
+ghost use mathlib.Core.Path.{_≡_};
+ghost use Rattle.frame.specs.Writing.{allBetween, lampFits, gatewaysAgree};
+
+// Whether a lamp's bytes are 33 to 126, or zero where the kind has no lamp.
+pub fn lamp_fits(message: Message) -> bool
+    ensures { λ r. ⌜ r ≡ lampFits message ⌝ }
+{
+    let lamp = message.lamp;
+    let kind = message.kind;
+    if kind_number(kind) <= 2 {
+        return all_between(lamp, 33, 126);
+    }
+    all_between(lamp, 0, 0)
+}
+
+// Whether from, to and origin agree as the kind asks.
+pub fn gateways_agree(from: u8, to: u8, kind: Kind) -> bool
+    ensures { λ r. ⌜ r ≡ gatewaysAgree from to kind ⌝ }
+{
+    match kind {
+        Kind::Failure { origin } => {
+            if from != to {
+                return false;
+            }
+            to == origin
+        }
+        Kind::Request { origin: _ } => true,
+        Kind::Delivery { origin } => to == origin,
+        Kind::Restock { quantity: _ } => from == to,
+        Kind::Start => true,
+        Kind::Lvt => true,
+        Kind::Update => true,
+    }
+}
+
+fn all_between(lamp: [u8; 18], low: u8, high: u8) -> bool
+    ensures { λ r. ⌜ r ≡ allBetween low high lamp ⌝ }
+{
+    let mut i = 0;
+    while i < 18 {
+        if lamp[i] < low {
+            return false;
+        }
+        if lamp[i] > high {
+            return false;
+        }
+        i += 1;
+    }
+    true
+}
