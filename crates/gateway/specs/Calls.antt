@@ -59,32 +59,30 @@ unfolding leaving
 onSound call memory output =
     cond (sound memory) (leaving (call (length output) (decode memory)) memory output) (refusedWith 10 memory output)
 
--- hours below the agreed time are refused with 9: a plain message's, a cancel's and an Lvt's
-abbrev pub belowAgreed : Gateway → Frame → Bool
-belowAgreed g f = ltb (f .message .hour) (g .agreed)
+-- an hour below the agreed time is refused with 9 before the call looks further
+abbrev pub unlessBelow : ℕ → Gateway → Outcome → Outcome
+unlessBelow hour g r = cond (ltb hour (g .agreed)) (refused 9 g) r
 
--- taking a frame that is one of the forms and passes 2 and 3, by its sense and kind
+-- taking what has no sense, by its kind
+abbrev pub takeByKind : ℕ → Message → Gateway → Kind → Outcome
+takeByKind room m g (Failure origin) = unlessBelow (m .hour) g (settled room g (takePlain m g))
+takeByKind room m g (Request origin) = unlessBelow (m .hour) g (settled room g (takePlain m g))
+takeByKind room m g (Delivery origin) = unlessBelow (m .hour) g (settled room g (takePlain m g))
+takeByKind room m g (Restock quantity) = refused 1 g
+takeByKind room m g Start = takeStart room (m .from) g
+takeByKind room m g Lvt = unlessBelow (m .hour) g (takeLvt room (m .from) (m .hour) g)
+takeByKind room m g Update = takeUpdate room (m .from) (m .hour) g
+
+-- taking a message by its sense
+abbrev pub takeBySense : ℕ → Message → Gateway → Sense → Outcome
+takeBySense room m g Plain = takeByKind room m g (m .kind)
+takeBySense room m g Cancel = unlessBelow (m .hour) g (settled room g (takeCancel m g))
+takeBySense room m g Acknowledgment = takeAcknowledgment false m g
+takeBySense room m g CancelAcknowledgment = takeAcknowledgment true m g
+
+-- taking a frame that is one of the forms and passes 2 and 3
 unfoldable pub takeFrame : ℕ → Frame → Gateway → Outcome
-takeFrame room f g = by-sense (f .sense)
-  where
-    -- 9 comes before what the call would do
-    unlessBelow : Outcome → Outcome
-    unlessBelow r = cond (belowAgreed g f) (refused 9 g) r
-
-    by-kind : Kind → Outcome
-    by-kind (Failure origin) = unlessBelow (settled room g (takePlain (f .message) g))
-    by-kind (Request origin) = unlessBelow (settled room g (takePlain (f .message) g))
-    by-kind (Delivery origin) = unlessBelow (settled room g (takePlain (f .message) g))
-    by-kind (Restock quantity) = refused 1 g
-    by-kind Start = takeStart room (f .message .from) g
-    by-kind Lvt = unlessBelow (takeLvt room (f .message .from) (f .message .hour) g)
-    by-kind Update = takeUpdate room (f .message .from) (f .message .hour) g
-
-    by-sense : Sense → Outcome
-    by-sense Plain = by-kind (f .message .kind)
-    by-sense Cancel = unlessBelow (settled room g (takeCancel (f .message) g))
-    by-sense Acknowledgment = takeAcknowledgment false (f .message) g
-    by-sense CancelAcknowledgment = takeAcknowledgment true (f .message) g
+takeFrame room f g = takeBySense room (f .message) g (f .sense)
 
 -- taking a byte string: 1 for what is no frame or not taken in this call, then 2 and 3, then the rest
 unfoldable pub takeBytes : List ℕ → ℕ → Gateway → Outcome

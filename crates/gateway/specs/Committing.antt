@@ -18,16 +18,16 @@ use Rattle.gateway.specs.Taking.{withoutFirst}
 unfoldable pub recordOf : Entry → List ℕ
 recordOf e = written (frameIf false (e .message)) ++ stateBytes (after (e .before) (e .message .kind))
 
--- any event at the agreed hour stays: a message of that very hour may still come
+-- committing the oldest of the processed events, if there is one; any event at the agreed hour stays, as a message of that
+-- very hour may still come
+abbrev pub commitOldest : ℕ → Gateway → List Entry → Outcome
+commitOldest room g [] = refused 6 g
+commitOldest room g (e ∷ es) =
+    cond (ltb (e .message .hour) (g .agreed))
+    (cond (leb (length (recordOf e)) room)
+    (record { number = 0; gateway = withQueue (withoutFirst isProcessed (g .queue)) g; output = recordOf e })
+    (refused 5 g))
+    (refused 6 g)
+
 unfoldable pub commit : ℕ → Gateway → Outcome
-unfolding recordOf
-commit room g = of (processedOf (g .queue))
-  where
-    of : List Entry → Outcome
-    of [] = refused 6 g
-    of (e ∷ es) =
-        cond (ltb (e .message .hour) (g .agreed))
-        (cond (leb (length (recordOf e)) room)
-        (record { number = 0; gateway = withQueue (withoutFirst isProcessed (g .queue)) g; output = recordOf e })
-        (refused 5 g))
-        (refused 6 g)
+commit room g = commitOldest room g (processedOf (g .queue))

@@ -67,13 +67,13 @@ abbrev pub withOutstanding : List Sent → Gateway → Gateway
 withOutstanding outstanding g = record { settings = g .settings; state = g .state; agreed = g .agreed; round = g .round; queue = g .queue; outstanding = outstanding }
 
 -- the note after a plain message or cancel of that hour is sent: until the gateway stops, the hour lowers it
+abbrev pub loweredIn : Phase → ℕ → ℕ → ℕ
+loweredIn Idle note hour = note
+loweredIn Counting note hour = min note hour
+loweredIn Stopped note hour = note
+
 unfoldable pub noted : ℕ → Round → Round
-noted hour r = record { phase = r .phase; arrived = r .arrived; note = lowered (r .phase) }
-  where
-    lowered : Phase → ℕ
-    lowered Idle = r .note
-    lowered Counting = min (r .note) hour
-    lowered Stopped = r .note
+noted hour r = record { phase = r .phase; arrived = r .arrived; note = loweredIn (r .phase) (r .note) hour }
 
 -- sending a message or its cancel: it takes an outstanding place and lowers the note
 unfoldable pub sentOne : Bool → Message → Gateway → Gateway

@@ -42,12 +42,13 @@ roundFrame kind hour sender receiver = record {
 abbrev pub frames : Kind → ℕ → ℕ → List ℕ → List Frame
 frames kind hour sender receivers = map (roundFrame kind hour sender) receivers
 
+-- the gateway k, if there is one
+abbrev pub ifBelow : ℕ → ℕ → List ℕ
+ifBelow n k = cond (ltb k n) (k ∷ []) []
+
 -- the gateways that the Update goes on to: 2i + 1 and 2i + 2 where below N
 unfoldable pub children : Settings → List ℕ
-children s = ifBelow (2 * s .own + 1) ++ ifBelow (2 * s .own + 2)
-  where
-    ifBelow : ℕ → List ℕ
-    ifBelow k = cond (ltb k (s .n)) (k ∷ []) []
+children s = ifBelow (s .n) (2 * s .own + 1) ++ ifBelow (s .n) (2 * s .own + 2)
 
 -- no round is open here
 abbrev pub idle : Round
@@ -80,15 +81,16 @@ begun g =
       frames = frames Start 0 (s .own) (to (s .n) (s .own));
     })
 
+-- no round is open in that phase
+abbrev pub isIdle : Phase → Bool
+isIdle Idle = true
+isIdle Counting = false
+isIdle Stopped = false
+
 -- the start call: 4 by another than 0 or in an open round
 unfoldable pub start : ℕ → Gateway → Outcome
 unfolding begun
 start room g = cond (eqb (g .settings .own) 0 && isIdle (g .round .phase)) (settled room g (begun g)) (refused 4 g)
-  where
-    isIdle : Phase → Bool
-    isIdle Idle = true
-    isIdle Counting = false
-    isIdle Stopped = false
 
 -- the bit of a gateway in a list of at most two: 1 for the first, 2 for the second, 0 where it is not there
 unfoldable pub bitOf : ℕ → List ℕ → ℕ
@@ -108,51 +110,47 @@ stands bit arrived = eqb (arrived / bit % 2) 1
 abbrev pub awaited : ℕ → List ℕ → ℕ → Bool
 awaited k list arrived = leb 1 (bitOf k list) && not (stands (bitOf k list) arrived)
 
--- taking a Start: 4 in the wrong half, not from its arc, or twice. The last one begins
-unfoldable pub takeStart : ℕ → ℕ → Gateway → Outcome
+-- the round with one more Start in: with all in it begins
+unfoldable pub oneStart : List ℕ → ℕ → Gateway → Effect
 unfolding begun
-takeStart room k g = by-phase (g .round .phase)
-  where
-    heard : List ℕ
-    heard = from (g .settings .n) (g .settings .own)
+oneStart heard arrived g =
+    cond (eqb arrived (allBits heard))
+    (begun g)
+    (record { gateway = withRound (record { phase = Idle; arrived = arrived; note = g .round .note }) g; frames = [] })
 
-    arrived : ℕ
-    arrived = g .round .arrived + bitOf k heard
+-- taking a Start from gateway k: 4 in the wrong half, not from its arc, or twice
+unfoldable pub takeStart : ℕ → ℕ → Gateway → Outcome
+unfolding oneStart
+takeStart room k g =
+    let heard = from (g .settings .n) (g .settings .own) in
+    let arrived = g .round .arrived in
+    cond (isIdle (g .round .phase) && awaited k heard arrived)
+    (settled room g (oneStart heard (arrived + bitOf k heard) g))
+    (refused 4 g)
 
-    effect : Effect
-    effect =
-        cond (eqb arrived (allBits heard))
-        (begun g)
-        (record { gateway = withRound (record { phase = Idle; arrived = arrived; note = g .round .note }) g; frames = [] })
+-- the value before an Lvt: the first one stops the note and takes the value then
+abbrev pub valueIn : Phase → Gateway → ℕ
+valueIn Idle g = 0
+valueIn Counting g = valueAt (g .round .note) g
+valueIn Stopped g = g .round .note
 
-    by-phase : Phase → Outcome
-    by-phase Idle = cond (awaited k heard (g .round .arrived)) (settled room g effect) (refused 4 g)
-    by-phase Counting = refused 4 g
-    by-phase Stopped = refused 4 g
-
--- taking an Lvt: 4 in the wrong half, not from its arc, or twice. The first stops the note and takes the value; each lowers
--- the value; with all in the gateway is finished
-unfoldable pub takeLvt : ℕ → ℕ → ℕ → Gateway → Outcome
+-- the round with one more Lvt in: with all in it is finished
+unfoldable pub oneLvt : List ℕ → ℕ → ℕ → Gateway → Effect
 unfolding finished
-takeLvt room k hour g = by-phase (g .round .phase)
-  where
-    told : List ℕ
-    told = to (g .settings .n) (g .settings .own)
+oneLvt told arrived value g =
+    cond (eqb arrived (allBits told))
+    (finished value g)
+    (record { gateway = withRound (record { phase = Stopped; arrived = arrived; note = value }) g; frames = [] })
 
-    effect : ℕ → ℕ → Effect
-    effect arrived value =
-        cond (eqb arrived (allBits told))
-        (finished value g)
-        (record { gateway = withRound (record { phase = Stopped; arrived = arrived; note = value }) g; frames = [] })
-
-    counted : ℕ → ℕ → Outcome
-    counted arrived value =
-        cond (awaited k told arrived) (settled room g (effect (arrived + bitOf k told) (min value hour))) (refused 4 g)
-
-    by-phase : Phase → Outcome
-    by-phase Idle = refused 4 g
-    by-phase Counting = counted 0 (valueAt (g .round .note) g)
-    by-phase Stopped = counted (g .round .arrived) (g .round .note)
+-- taking an Lvt from gateway k: 4 in the wrong half, not from its arc, or twice. It lowers the value
+unfoldable pub takeLvt : ℕ → ℕ → ℕ → Gateway → Outcome
+unfolding oneLvt
+takeLvt room k hour g =
+    let told = to (g .settings .n) (g .settings .own) in
+    let arrived = g .round .arrived in
+    cond (not (isIdle (g .round .phase)) && awaited k told arrived)
+    (settled room g (oneLvt told (arrived + bitOf k told) (min (valueIn (g .round .phase) g) hour) g))
+    (refused 4 g)
 
 -- taking an Update: 4 if not from the parent; gateway 0 has none. The larger time is kept, and the Update relayed as it came
 unfoldable pub takeUpdate : ℕ → ℕ → ℕ → Gateway → Outcome

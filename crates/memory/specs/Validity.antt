@@ -45,53 +45,53 @@ settingsValid s =
 abbrev pub oneOfTwo : ℕ → Bool
 oneOfTwo arrived = leb 1 arrived && leb arrived 2
 
--- a phase with arrivals that can be: idle, not all Starts have come; counting, no Lvt has, and the last gateway never
--- counts; stopped, one of two Lvts has
+-- arrivals that can be in a phase, with so many arcs from and to: idle, not all Starts have come; counting, no Lvt has, and
+-- the last gateway, which has no arc to, never counts; stopped, one of two Lvts has
+abbrev pub arrivalsPossible : ℕ → ℕ → ℕ → Phase → Bool
+arrivalsPossible arrived froms tos Idle = eqb arrived 0 || (eqb froms 2 && oneOfTwo arrived)
+arrivalsPossible arrived froms tos Counting = eqb arrived 0 && leb 1 tos
+arrivalsPossible arrived froms tos Stopped = eqb tos 2 && oneOfTwo arrived
+
 unfoldable pub roundPossible : Settings → Round → Bool
-roundPossible s r = possible (r .phase)
-  where
-    possible : Phase → Bool
-    possible Idle = eqb (r .arrived) 0 || (eqb (length (from (s .n) (s .own))) 2 && oneOfTwo (r .arrived))
-    possible Counting = eqb (r .arrived) 0 && ltb (s .own + 1) (s .n)
-    possible Stopped = eqb (length (to (s .n) (s .own))) 2 && oneOfTwo (r .arrived)
+roundPossible s r = arrivalsPossible (r .arrived) (length (from (s .n) (s .own))) (length (to (s .n) (s .own))) (r .phase)
 
 -- what a queue place holds
+abbrev pub pendingMark : Mark → Bool
+pendingMark Pending = true
+pendingMark Processed = false
+pendingMark Waiting = false
+
+abbrev pub processedMark : Mark → Bool
+processedMark Pending = false
+processedMark Processed = true
+processedMark Waiting = false
+
+abbrev pub waitingMark : Mark → Bool
+waitingMark Pending = false
+waitingMark Processed = false
+waitingMark Waiting = true
+
 abbrev pub isPending : Entry → Bool
-isPending e = pending (e .mark)
-  where
-    pending : Mark → Bool
-    pending Pending = true
-    pending Processed = false
-    pending Waiting = false
+isPending e = pendingMark (e .mark)
 
 abbrev pub isProcessed : Entry → Bool
-isProcessed e = processed (e .mark)
-  where
-    processed : Mark → Bool
-    processed Pending = false
-    processed Processed = true
-    processed Waiting = false
+isProcessed e = processedMark (e .mark)
 
 abbrev pub isWaiting : Entry → Bool
-isWaiting e = waiting (e .mark)
-  where
-    waiting : Mark → Bool
-    waiting Pending = false
-    waiting Processed = false
-    waiting Waiting = true
+isWaiting e = waitingMark (e .mark)
 
 -- the two messages are wholly equal
 unfoldable pub equal : Message → Message → Bool
 equal a b = not (different (compared (key a) (key b)))
 
 -- a is later than b in event order
+abbrev pub isAfter : Comparison → Bool
+isAfter Before = false
+isAfter Same = false
+isAfter After = true
+
 unfoldable pub later : Message → Message → Bool
-later a b = after (compared (key a) (key b))
-  where
-    after : Comparison → Bool
-    after Before = false
-    after Same = false
-    after After = true
+later a b = isAfter (compared (key a) (key b))
 
 -- the queue is in event order
 unfoldable pub ordered : List Entry → Bool
