@@ -1,0 +1,3 @@
+-- Laws of the memory.
+pub mod Stored
+pub mod Lamps
