@@ -1,3 +1,5 @@
 -- Laws of the memory.
 pub mod Stored
 pub mod Lamps
+pub mod Chains
+pub mod Deciding
