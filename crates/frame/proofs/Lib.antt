@@ -5,3 +5,5 @@ pub mod Agreement
 pub mod Branches
 pub mod Walking
 pub mod Places
+pub mod Turning
+pub mod Output
