@@ -14,6 +14,9 @@ module _ {x a : Bool} (e : x ≡ a) where
   pub granted : not x ≡ false → a ≡ true
   granted h = sym e ∙ not-false x h
 
+  pub turned : not x ≡ not a
+  turned = rw e
+
   pub told : {b : Bool} → x ≡ b → a ≡ b
   told h = sym e ∙ h
 
@@ -36,6 +39,14 @@ module _ (a b : Bool) where
 
   pub other-decides : {r : Bool} → a ≡ false → r ≡ b → r ≡ (a || b)
   other-decides e f = f ∙ rw e
+
+-- a test that must fail
+module _ (a : Bool) {x : Bool} (e : x ≡ a) where
+  pub struck : x ≡ true → not a ≡ false
+  struck h = rw (← e, h)
+
+  pub cleared : x ≡ false → not a ≡ true
+  cleared h = rw (← e, h)
 
 -- the result of a chain that ended early
 pub fails : (a : Bool) → a ≡ false → false ≡ a

@@ -4,16 +4,27 @@ use Prim.Native.Nat.{ℕ, _<_, _≤_}
 use native.Mathlib.Omega.{arith}
 use mathlib.Core.Bool.{Bool, true, false, cond, not}
 use lib.Dec.{leb}
-use borrow.Author.Tests.{eq-eqb, ne-eqb, le-leb, lt-ltb}
+use mathlib.Core.List.{List}
+use lib.ListN.{length, getD}
+use borrow.Author.Tests.{eq-eqb, ne-eqb, le-leb, lt-leb, lt-ltb}
 use Rattle.routing.specs.Answers.{neighboursOf}
 use Rattle.routing.specs.declared.Neighbours.{Neighbours}
-use Rattle.memory.specs.Validity.{oneOfTwo, arrivalsPossible, roundPossible, waitingMark, isWaiting, storable}
+use Rattle.model.specs.declared.Message.{Message}
+use Rattle.frame.specs.Writing.{wellFormed}
+use Rattle.frame.specs.declared.Frame.{Frame}
+use Rattle.frame.specs.declared.Sense.the-variants.{Plain, Cancel}
+use Rattle.memory.specs.Layout.{sizeFor}
+use Rattle.memory.specs.Codec.{headerAt}
+use Rattle.memory.specs.Soundness.{headerSound}
+use Rattle.memory.specs.Validity.{settingsValid, oneOfTwo, arrivalsPossible, roundPossible, waitingMark, isWaiting, frameIf, storable}
+use Rattle.memory.specs.declared.Header.{Header}
 use Rattle.memory.specs.declared.Settings.{Settings}
 use Rattle.memory.specs.declared.Round.{Round}
 use Rattle.memory.specs.declared.Entry.{Entry}
 use Rattle.memory.specs.declared.Mark.{Mark}
 use Rattle.memory.specs.declared.Phase.{Phase}
 use Rattle.memory.specs.declared.Phase.the-variants.{Idle, Counting, Stopped}
+use Rattle.memory.proofs.Chains.{refuted, granted, above, within}
 
 -- arrivals by phase
 module _ (arrived froms tos : ℕ) {phase : Phase} where
@@ -51,6 +62,42 @@ module _ (a b : Mark) {x y : Bool} (p : x ≡ waitingMark a) (q : y ≡ waitingM
   pub second-waits : x ≡ false → y ≡ cond (waitingMark a) (not (waitingMark b)) (waitingMark b)
   second-waits h = rw (← p, h, q)
 
+-- the form of a message as the frame that it was made into
+pub formed-as : (cancel : Bool) (m : Message) {f : Frame} {x : Bool} → f ≡ frameIf cancel m → x ≡ wellFormed f → x ≡ wellFormed (frameIf cancel m)
+formed-as cancel m p q = q ∙ ap wellFormed p
+
+module _ (m : Message) {cancel : Bool} where
+  pub frame-cancel : cancel ≡ true → record { message = m; sense = Cancel } ≡ frameIf cancel m
+  frame-cancel h = rw h
+
+  pub frame-plain : cancel ≡ false → record { message = m; sense = Plain } ≡ frameIf cancel m
+  frame-plain h = rw h
+
 -- a queued message is a cancel where it waits
 pub stored-as : (s : Settings) (e : Entry) {waits x : Bool} → waits ≡ isWaiting e → x ≡ storable s waits (e .message) → x ≡ storable s (isWaiting e) (e .message)
 stored-as s e p q = q ∙ ap (λ (w : Bool). storable s w (e .message)) p
+
+-- the header's tests, each with those before it passed
+module _ (m : List ℕ) {h : Header} (long : 256 ≤ length m) (e : h ≡ headerAt m) {ok : Bool} (p : ok ≡ settingsValid (h .settings)) where
+  pub settings-refused : not ok ≡ true → false ≡ headerSound m
+  unfolding headerSound
+  settings-refused k = rw (← e, le-leb 256 (length m) long, refuted p k)
+
+  module _ (k : not ok ≡ false) {size : ℕ} (z : size ≡ sizeFor (h .settings .q) (h .settings .u)) where
+    pub too-short : length m < size → false ≡ headerSound m
+    unfolding headerSound
+    too-short l = rw (← e, le-leb 256 (length m) long, granted p k, above (length m) z l)
+
+    module _ (l : size ≤ length m) where
+      pub no-phase : 2 < getD m 3 0 → false ≡ headerSound m
+      unfolding headerSound
+      no-phase f = rw (← e, le-leb 256 (length m) long, granted p k, within (length m) z l, lt-leb (getD m 3 0) 2 f)
+
+      module _ (f : getD m 3 0 ≤ 2) where
+        pub too-many-queued : h .settings .q < h .queued → false ≡ headerSound m
+        unfolding headerSound
+        too-many-queued q = rw (← e, le-leb 256 (length m) long, granted p k, within (length m) z l, le-leb (getD m 3 0) 2 f, lt-leb (h .queued) (h .settings .q) q)
+
+        pub header-decided : h .queued ≤ h .settings .q → leb (h .outstanding) (h .settings .u) ≡ headerSound m
+        unfolding headerSound
+        header-decided q = rw (← e, le-leb 256 (length m) long, granted p k, within (length m) z l, le-leb (getD m 3 0) 2 f, le-leb (h .queued) (h .settings .q) q)

@@ -3,3 +3,5 @@ pub mod Stored
 pub mod Lamps
 pub mod Chains
 pub mod Deciding
+pub mod SameBytes
+pub mod Passing

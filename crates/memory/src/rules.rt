@@ -5,7 +5,9 @@ use crate::Phase;
 use crate::Round;
 use crate::Sent;
 use crate::Settings;
-use frame::rules::lamp_fits;
+use frame::Frame;
+use frame::Sense;
+use frame::writer::well_formed;
 use model::Message;
 use model::State;
 use model::kind_number;
@@ -14,12 +16,9 @@ use model::order::compare;
 use model::origin_of;
 use routing::neighbours_of;
 ghost use mathlib.Core.Path.{_≡_};
-ghost use mathlib.Core.Bool.{_&&_, cond, not};
+ghost use mathlib.Core.Bool.{cond, not};
 ghost use Prim.Native.Nat.{_<_};
-ghost use lib.Dec.{leb};
-ghost use Rattle.model.specs.Messages.{kindNumber};
 ghost use Rattle.model.specs.EventOrder.{different};
-ghost use Rattle.frame.specs.Writing.{wellFormed};
 ghost use Rattle.frame.specs.Limits.{numbersBelow};
 ghost use Rattle.memory.specs.Layout.{sizeFor};
 ghost use Rattle.memory.specs.Validity.{settingsValid, oneOfTwo, arrivalsPossible, roundPossible, pendingMark, processedMark, waitingMark, equal, isAfter, later, meet, frameIf, storable, isNoState, entryValid, sentValid};
@@ -199,7 +198,11 @@ fn one_waits(a: Mark, b: Mark) -> bool
 pub fn storable(settings: Settings, cancel: bool, message: Message) -> bool
     ensures { λ r. ⌜ r ≡ storable settings cancel message ⌝ }
 {
-    if !form_storable(cancel, message) {
+    let kind = message.kind;
+    if kind_number(kind) > 3 {
+        return false;
+    }
+    if !well_formed(frame_if(cancel, message)) {
         return false;
     }
     if !numbers_below(settings.n, message) {
@@ -208,11 +211,20 @@ pub fn storable(settings: Settings, cancel: bool, message: Message) -> bool
     message.hour <= settings.last
 }
 
-// Whether a message is of kinds 0 to 3 and of a form that a frame can have.
-fn form_storable(cancel: bool, message: Message) -> bool
-    ensures { λ r. ⌜ r ≡ (leb (kindNumber (message .kind)) 3 && wellFormed (frameIf cancel message)) ⌝ }
+// A message as a frame: a cancel, or plain.
+pub fn frame_if(cancel: bool, message: Message) -> Frame
+    ensures { λ r. ⌜ r ≡ frameIf cancel message ⌝ }
 {
-    lamp_fits(message)
+    if cancel {
+        return Frame {
+            message,
+            sense: Sense::Cancel,
+        };
+    }
+    Frame {
+        message,
+        sense: Sense::Plain,
+    }
 }
 
 fn numbers_below(n: u8, message: Message) -> bool
