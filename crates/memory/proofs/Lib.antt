@@ -1,0 +1,2 @@
+-- Laws of a gateway's memory.
+pub mod Ranges
