@@ -1,2 +1,4 @@
 -- Laws of a gateway's memory.
 pub mod Ranges
+pub mod EventLaws
+pub mod Validated
