@@ -7,11 +7,11 @@ use lib.ListN.{length}
 use Rattle.buffer.specs.Slice.{part, write}
 use Rattle.buffer.proofs.Writes.{length-write}
 use Rattle.memory.specs.Records.{Gateway, headerOf}
-use Rattle.memory.specs.Ranges.{All, Ranged, HeaderRanged}
 use Rattle.memory.specs.Layout.{headerSize, outstandingAt, sizeFor}
 use Rattle.memory.specs.Codec.{entryBytes, entryOf, sentBytes, sentOf, headerAt, headerFront, headerBack, placesAt, placesBytes, decode, encode}
 use Rattle.memory.proofs.Standing.{Stands, write-stands, stands-written, stands-before, stands-after}
-use Rattle.memory.proofs.Places.{Sized, Stored, all-map, length-places, read-stored}
+use Rattle.memory.proofs.Places.{All, Sized, Stored, all-map, length-places, read-stored}
+use Rattle.memory.proofs.Fitting.{HeaderFits, GatewayFits}
 use Rattle.memory.proofs.RoundTrips.{length-front, length-back, length-entry, length-sent, entry-stored, sent-stored, header-back}
 
 -- the memory is long enough for the gateway's settings, and no more places are used than there are
@@ -27,7 +27,7 @@ pub record Holds (g : Gateway) (m : List ℕ) : Type 0 where
   pub queue : Stands headerSize (placesBytes entryBytes (g .queue)) m
   pub outstanding : Stands (outstandingAt (g .settings .q) 0) (placesBytes sentBytes (g .outstanding)) m
 
-module _ (g : Gateway) (r : Ranged g) where
+module _ (g : Gateway) (r : GatewayFits g) where
   -- how long the gateway's bytes are
   pub queue-sized : All (Sized entryBytes 64) (g .queue)
   queue-sized = all-map length-entry (r .queue)
@@ -41,21 +41,11 @@ module _ (g : Gateway) (r : Ranged g) where
   pub length-outstanding : length (placesBytes sentBytes (g .outstanding)) ≡ 32 * length (g .outstanding)
   length-outstanding = length-places sentBytes 32 outstanding-sized
 
-module _ (g : Gateway) (m : List ℕ) (r : Ranged g) (room : Room g m) where
-  header-fits : HeaderRanged (headerOf g)
-  header-fits = record {
-    settings = r .settings;
-    state = r .state;
-    agreed = r .agreed;
-    round = r .round;
-    queued = omega (arith, room .queued, r .settings .q);
-    outstanding = omega (arith, room .sent, r .settings .u);
-  }
-
+module _ (g : Gateway) (m : List ℕ) (r : GatewayFits g) (room : Room g m) where
   -- reading memory that holds the gateway
   pub holds-header : Holds g m → headerAt m ≡ headerOf g
   holds-header s =
-      header-back (headerOf g) header-fits m (rw (length-front (headerOf g)) at (s .front)) (rw (length-back (headerOf g)) at (s .back))
+      header-back (headerOf g) (r .header) m (rw (length-front (headerOf g)) at (s .front)) (rw (length-back (headerOf g)) at (s .back))
 
   pub holds-decode : Holds g m → decode m ≡ g
   unfolding decode

@@ -1,6 +1,9 @@
--- Laws of the bytes of a gateway.
+-- Laws of a gateway's memory.
+pub mod EventLaws
+pub mod Validated
 pub mod Standing
 pub mod Places
+pub mod Fitting
 pub mod RoundTrips
 pub mod FromBytes
 pub mod Holding

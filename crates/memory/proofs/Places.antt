@@ -4,16 +4,29 @@ use mathlib.Core.Path.{_≡_, refl, sym, _∙_, ap, ap₂}
 use Prim.Native.Nat.{ℕ, zero, suc, _+_, _*_, _≤_}
 use native.Mathlib.Nat.{add-assoc, add-zero, zero-add, suc-add, mul-zero}
 use native.Mathlib.Omega.{arith}
-use mathlib.Core.List.{List, [], _∷_, _++_, append-assoc, append-nil}
+use mathlib.Core.Logic.{⊎-elim}
+use mathlib.Core.List.{List, [], _∷_, _++_, append-assoc, append-nil, List·Memᴰ·head as here, List·Memᴰ·tail as there, List·Memᴰ·not-nil, List·Memᴰ·cases-cons}
 use lib.ListN.{length, length-append}
+use Rattle.routing.specs.Arcs.{_∈_}
 use Rattle.buffer.specs.Slice.{part, write}
 use Rattle.buffer.proofs.Writes.{part-nil, length-part}
-use Rattle.memory.specs.Ranges.{All, nil, cons}
 use Rattle.memory.specs.Codec.{placesAt, placesBytes}
 use Rattle.memory.proofs.Standing.{Stands, part-add, part-within, stands-front, stands-back, stands-append, write-behind, write-replaced, write-removed, write-inserted}
 
--- laws of All
+-- every element has the property
+pub data All {A : Type 0} (p : A → Type 0) : List A → Type 0 where
+  nil : All p []
+  cons : {x : A} {xs : List A} → p x → All p xs → All p (x ∷ xs)
+
 module _ {A : Type 0} {p : A → Type 0} where
+  pub all-of : (xs : List A) → ((x : A) → x ∈ xs → p x) → All p xs
+  all-of [] h = nil
+  all-of (x ∷ xs) h = cons (h x (here refl)) (all-of xs (λ y m. h y (there m)))
+
+  pub all-each : {xs : List A} → All p xs → (x : A) → x ∈ xs → p x
+  all-each nil x m = absurd (List·Memᴰ·not-nil m)
+  all-each (cons {x = y} h hs) x m = ⊎-elim (λ (e : x ≡ y). rw e h) (λ n. all-each hs x n) (List·Memᴰ·cases-cons m)
+
   pub all-append : {xs ys : List A} → All p xs → All p ys → All p (xs ++ ys)
   all-append nil ps = ps
   all-append (cons h hs) ps = cons h (all-append hs ps)
