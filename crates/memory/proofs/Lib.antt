@@ -7,3 +7,4 @@ pub mod Fitting
 pub mod RoundTrips
 pub mod FromBytes
 pub mod Holding
+pub mod SoundMemory

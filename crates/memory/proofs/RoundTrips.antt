@@ -172,6 +172,10 @@ module _ (h : Header) (r : HeaderFits h) (m : List ℕ) (front : part m 0 5 ≡ 
   header-number : (k n x : ℕ) → k + n ≤ 34 → part (headerBack h) k n ≡ bytesOf n x → x < 256 ^ n → numberOf (part m (6 + k) n) ≡ x
   header-number k n x lt e small = ap numberOf (sym (part-part m 6 34 k n lt) ∙ (ap (λ l. part l k n) back ∙ e)) ∙ number-of-bytes n x small
 
+  pub phase-byte : getD m 3 0 ≡ phaseNumber (h .round .phase)
+  unfolding headerFront bytesOf
+  phase-byte = header-byte 3 (phaseNumber (h .round .phase)) (lit< tt) refl (phase-fits (h .round .phase))
+
   pub header-back : headerAt m ≡ h
   unfolding headerAt headerFront headerBack bytesOf part
   header-back = λ i. record {
@@ -191,7 +195,7 @@ module _ (h : Header) (r : HeaderFits h) (m : List ℕ) (front : part m 0 5 ≡ 
     };
     agreed = header-number 14 4 (h .agreed) (lit≤ tt) refl (r .agreed) i;
     round = record {
-      phase = (ap phaseOf (header-byte 3 (phaseNumber (h .round .phase)) (lit< tt) refl (phase-fits (h .round .phase))) ∙ phase-back (h .round .phase)) i;
+      phase = (ap phaseOf phase-byte ∙ phase-back (h .round .phase)) i;
       arrived = header-byte 4 (h .round .arrived) (lit< tt) refl (r .round .arrived) i;
       note = header-number 18 4 (h .round .note) (lit≤ tt) refl (r .round .note) i;
     };
