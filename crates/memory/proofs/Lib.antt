@@ -6,5 +6,7 @@ pub mod Places
 pub mod Fitting
 pub mod RoundTrips
 pub mod FromBytes
+pub mod FourWrites
 pub mod Holding
 pub mod SoundMemory
+pub mod Changes

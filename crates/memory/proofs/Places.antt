@@ -174,3 +174,26 @@ module _ {A : Type 0} (f : A → List ℕ) (size at : ℕ) (m : List ℕ) where
     insert-places stand =
         rw (in-three ys, ← before, ← between, ← behind)
         (write-inserted at (placesBytes f xs) (placesBytes f ys) (placesBytes f zs) m room (rw (places-append f xs zs) at stand))
+
+-- the same for one place
+module _ {A : Type 0} (f : A → List ℕ) (size at : ℕ) (m : List ℕ) where
+  pub append-place : (xs : List A) (x : A) → All (Sized f size) xs → Sized f size x → at + size * (length xs + 1) ≤ length m
+      → Stands at (placesBytes f xs) m → write at (placesBytes f (xs ++ (x ∷ []))) m ≡ write (at + size * length xs) (f x) m
+  append-place xs x ps p fits stand = append-places f size at m xs (x ∷ []) ps (cons p nil) fits stand ∙ rw (place-one f x)
+
+  module _ (xs : List A) (x : A) (zs : List A) (fits : at + size * (length xs + 1 + length zs) ≤ length m) where
+    next : at + size * length xs + size * length (x ∷ []) ≡ at + size * (length xs + 1)
+    next = omega arith
+
+    pub replace-place : (y : A) → All (Sized f size) (xs ++ (x ∷ zs)) → Sized f size y → Stands at (placesBytes f (xs ++ (x ∷ zs))) m
+        → write at (placesBytes f (xs ++ (y ∷ zs))) m ≡ write (at + size * length xs) (f y) m
+    replace-place y sized p stand = replace-places f size at m xs (x ∷ []) zs sized fits (y ∷ []) (cons p nil) refl stand ∙ rw (place-one f y)
+
+    pub remove-place : All (Sized f size) (xs ++ (x ∷ zs)) → Stands at (placesBytes f (xs ++ (x ∷ zs))) m
+        → write at (placesBytes f (xs ++ zs)) m ≡ write (at + size * length xs) (part m (at + size * (length xs + 1)) (size * length zs)) m
+    remove-place sized stand = rw next at (remove-places f size at m xs (x ∷ []) zs sized fits stand)
+
+    pub insert-place : All (Sized f size) (xs ++ (x ∷ zs)) → Stands at (placesBytes f (xs ++ zs)) m
+        → write at (placesBytes f (xs ++ (x ∷ zs))) m
+        ≡ write (at + size * length xs) (f x) (write (at + size * (length xs + 1)) (part m (at + size * length xs) (size * length zs)) m)
+    insert-place sized stand = rw (next, place-one f x) at (insert-places f size at m xs (x ∷ []) zs sized fits stand)

@@ -180,7 +180,7 @@ writing-laws g m ok ranged long =
       again = decode-encode g m r room;
       sound-after = holds-sound g (encode g m) v r (encode-room g m r room) (encode-holds g m r room) ok;
       as-long = encode-length g m r room;
-      elsewhere = λ from n u. encode-elsewhere g m r room from n (u .front) (u .back) (u .queue) (u .outstanding);
+      elsewhere = encode-elsewhere g m r room;
     }
 
 -- the laws of the codec
