@@ -107,6 +107,17 @@ pub write-again : (at : ℕ) (xs ys m : List ℕ) → at + length xs ≤ length 
 unfolding write
 write-again at xs ys m fits e = write-pieces at xs (take at m) ys (drop (at + length ys) m) (length-take-le at m (omega arith)) e ∙ rw e
 
+-- a write that covers an earlier one
+write-over : (at : ℕ) (xs ys zs m : List ℕ) → at + length xs ≤ length m → length zs ≡ length xs → write at (xs ++ ys) (write at zs m) ≡ write at (xs ++ ys) m
+write-over at xs ys zs m fits e =
+    sym (write-join at xs ys (write at zs m) (rw (length-write at zs m (omega arith)) fits))
+    ∙ (ap (write (at + length xs) ys) (write-again at xs zs m fits e) ∙ write-join at xs ys m fits)
+
+pub write-covers : (at : ℕ) (xs ys m : List ℕ) → at + length xs ≤ length m → length ys ≤ length xs → write at xs (write at ys m) ≡ write at xs m
+write-covers at xs ys m fits h =
+    let l : length (take (length ys) xs) ≡ length ys = length-take-le (length ys) xs h in
+    rw (take-append-drop (length ys) xs) at (write-over at (take (length ys) xs) (drop (length ys) xs) ys m (omega arith) (sym l))
+
 -- writes apart from each other go in either order
 regroup : (p q g t : List ℕ) → p ++ (q ++ (g ++ t)) ≡ (p ++ (q ++ g)) ++ t
 regroup p q g t = simp append-assoc
