@@ -19,7 +19,7 @@ use Rattle.memory.proofs.Standing.{Stands, write-stands, write-covers, 
 use Rattle.memory.proofs.FourWrites.{headed}
 use Rattle.memory.proofs.Places.{All, all-map, length-places, append-places, append-place, replace-place, remove-place, insert-place}
 use Rattle.memory.proofs.Fitting.{EntryFits, SentFits, GatewayFits, valid-fits}
-use Rattle.memory.proofs.RoundTrips.{length-entry, length-sent}
+use Rattle.memory.proofs.RoundTrips.{entry-length, sent-length}
 use Rattle.memory.proofs.Validated.{valid-facts}
 use Rattle.memory.proofs.SoundMemory.{sound-facts, sound-holds, sound-room, sound-fits}
 use Rattle.memory.proofs.Holding.{Room, Holds, length-queue, length-outstanding, encode-by}
@@ -63,28 +63,28 @@ withHeader h m = headed (headerFront (headerOf h)) (headerBack (headerOf h)) m
 module _ (m : List ℕ) {old new : List Entry} (fits-old : All EntryFits old) (fits-new : All EntryFits new) where
   pub queue-over : length old ≤ length new → queueAt (length new) ≤ length m → queueWritten new (queueWritten old m) ≡ queueWritten new m
   queue-over h inside =
-      let k = length-places entryBytes 64 (all-map length-entry fits-old) in
-      let l = length-places entryBytes 64 (all-map length-entry fits-new) in
+      let k = length-places entryBytes 64 (all-map entry-length fits-old) in
+      let l = length-places entryBytes 64 (all-map entry-length fits-new) in
       write-covers headerSize (placesBytes entryBytes new) (placesBytes entryBytes old) m (rw l inside) (rw (k, l) (omega arith))
 
 -- a queue of which the first entries stand already
 pub queue-from : (m : List ℕ) (xs zs : List Entry) → All EntryFits xs → All EntryFits zs → queueAt (length xs + length zs) ≤ length m
     → Stands headerSize (placesBytes entryBytes xs) m → queueWritten (xs ++ zs) m ≡ write (queueAt (length xs)) (placesBytes entryBytes zs) m
-queue-from m xs zs p q inside stand = append-places entryBytes 64 headerSize m xs zs (all-map length-entry p) (all-map length-entry q) inside stand
+queue-from m xs zs p q inside stand = append-places entryBytes 64 headerSize m xs zs (all-map entry-length p) (all-map entry-length q) inside stand
 
 -- one queue place is replaced, taken out, or put in
 module _ (m : List ℕ) (xs : List Entry) (x : Entry) (zs : List Entry) (fits : All EntryFits (xs ++ (x ∷ zs))) (inside : queueAt (length xs + 1 + length zs) ≤ length m) where
   pub entry-replaced : (y : Entry) → EntryFits y → Stands headerSize (placesBytes entryBytes (xs ++ (x ∷ zs))) m
       → queueWritten (xs ++ (y ∷ zs)) m ≡ write (queueAt (length xs)) (entryBytes y) m
-  entry-replaced y p stand = replace-place entryBytes 64 headerSize m xs x zs inside y (all-map length-entry fits) (length-entry y p) stand
+  entry-replaced y p stand = replace-place entryBytes 64 headerSize m xs x zs inside y (all-map entry-length fits) (entry-length y p) stand
 
   pub entry-removed : Stands headerSize (placesBytes entryBytes (xs ++ (x ∷ zs))) m
       → queueWritten (xs ++ zs) m ≡ write (queueAt (length xs)) (part m (queueAt (length xs + 1)) (64 * length zs)) m
-  entry-removed stand = remove-place entryBytes 64 headerSize m xs x zs inside (all-map length-entry fits) stand
+  entry-removed stand = remove-place entryBytes 64 headerSize m xs x zs inside (all-map entry-length fits) stand
 
   pub entry-inserted : Stands headerSize (placesBytes entryBytes (xs ++ zs)) m
       → queueWritten (xs ++ (x ∷ zs)) m ≡ write (queueAt (length xs)) (entryBytes x) (write (queueAt (length xs + 1)) (part m (queueAt (length xs)) (64 * length zs)) m)
-  entry-inserted stand = insert-place entryBytes 64 headerSize m xs x zs inside (all-map length-entry fits) stand
+  entry-inserted stand = insert-place entryBytes 64 headerSize m xs x zs inside (all-map entry-length fits) stand
 
 -- some more are outstanding
 module _ (m : List ℕ) (q : ℕ) where
@@ -95,13 +95,13 @@ module _ (m : List ℕ) (q : ℕ) where
       → Stands (outstandingAt q 0) (placesBytes sentBytes xs) m → outstandingWritten q (xs ++ zs) m ≡ write (outstandingAt q (length xs)) (placesBytes sentBytes zs) m
   sent-appended xs zs p r inside stand =
       rw (sent-place (length xs)) at
-      (append-places sentBytes 32 (outstandingAt q 0) m xs zs (all-map length-sent p) (all-map length-sent r) (rw (sent-place (length xs + length zs)) inside) stand)
+      (append-places sentBytes 32 (outstandingAt q 0) m xs zs (all-map sent-length p) (all-map sent-length r) (rw (sent-place (length xs + length zs)) inside) stand)
 
   pub one-sent : (xs : List Sent) (x : Sent) → All SentFits xs → SentFits x → outstandingAt q (length xs + 1) ≤ length m
       → Stands (outstandingAt q 0) (placesBytes sentBytes xs) m → outstandingWritten q (xs ++ (x ∷ [])) m ≡ write (outstandingAt q (length xs)) (sentBytes x) m
   one-sent xs x p r inside stand =
       rw (sent-place (length xs)) at
-      (append-place sentBytes 32 (outstandingAt q 0) m xs x (all-map length-sent p) (length-sent x r) (rw (sent-place (length xs + 1)) inside) stand)
+      (append-place sentBytes 32 (outstandingAt q 0) m xs x (all-map sent-length p) (sent-length x r) (rw (sent-place (length xs + 1)) inside) stand)
 
   -- one is not outstanding any more
   pub sent-removed : (xs : List Sent) (x : Sent) (zs : List Sent) → All SentFits (xs ++ (x ∷ zs)) → outstandingAt q (length xs + 1 + length zs) ≤ length m
@@ -109,7 +109,7 @@ module _ (m : List ℕ) (q : ℕ) where
       → outstandingWritten q (xs ++ zs) m ≡ write (outstandingAt q (length xs)) (part m (outstandingAt q (length xs + 1)) (32 * length zs)) m
   sent-removed xs x zs p inside stand =
       rw (sent-place (length xs), sent-place (length xs + 1)) at
-      (remove-place sentBytes 32 (outstandingAt q 0) m xs x zs (rw (sent-place (length xs + 1 + length zs)) inside) (all-map length-sent p) stand)
+      (remove-place sentBytes 32 (outstandingAt q 0) m xs x zs (rw (sent-place (length xs + 1 + length zs)) inside) (all-map sent-length p) stand)
 
 module _ (g h : Gateway) (m : List ℕ) (c : Change g h m) where
   queue-inside : headerSize + length (placesBytes entryBytes (h .queue)) ≤ outstandingAt (h .settings .q) 0

@@ -1,4 +1,6 @@
 -- Laws of a gateway's memory.
+pub mod Stored
+pub mod Lamps
 pub mod EventLaws
 pub mod Validated
 pub mod Standing

@@ -23,7 +23,7 @@ use Rattle.memory.proofs.Validated.{Valid, valid-facts, facts-settings,
 use Rattle.memory.proofs.Standing.{Stands, stands-part}
 use Rattle.memory.proofs.Places.{All, nil, cons, Exact, all-map, length-read, stored-exact, exact-stands}
 use Rattle.memory.proofs.Fitting.{GatewayFits, HeaderFits, valid-fits, fits-ranged}
-use Rattle.memory.proofs.RoundTrips.{length-front, length-back, entry-stored, sent-stored, phase-byte}
+use Rattle.memory.proofs.RoundTrips.{length-front, length-back, entry-kept, sent-kept, phase-byte}
 use Rattle.memory.proofs.FromBytes.{entry-fits, sent-fits, header-fits, read-all, front-again, back-again}
 use Rattle.memory.proofs.Holding.{Room, Holds, holds-header, holds-decode, encode-length, encode-holds, encode-elsewhere, encode-same, encode-room, decode-encode}
 
@@ -166,8 +166,8 @@ module _ (g : Gateway) (m : List ℕ) (v : Valid g) (r : GatewayFits g) (room : 
         phase = rw (phase-byte (headerOf g) (r .header) m (rw (length-front (headerOf g)) at (h .front)) (rw (length-back (headerOf g)) at (h .back))) (phase-small (g .round .phase));
         queued = rw held-header (room .queued);
         sent = rw held-header (room .sent);
-        queue = rw held-header (stored-exact entryBytes entryOf 64 m headerSize (all-map entry-stored (r .queue)) (h .queue));
-        outstanding = rw held-header (stored-exact sentBytes sentOf 32 m (outstandingAt (g .settings .q) 0) (all-map sent-stored (r .outstanding)) (h .outstanding));
+        queue = rw held-header (stored-exact entryBytes entryOf 64 m headerSize (all-map entry-kept (r .queue)) (h .queue));
+        outstanding = rw held-header (stored-exact sentBytes sentOf 32 m (outstandingAt (g .settings .q) 0) (all-map sent-kept (r .outstanding)) (h .outstanding));
         held = rw (holds-decode g m r room h) ok;
       })
 

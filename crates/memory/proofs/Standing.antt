@@ -4,8 +4,8 @@ use Prim.Native.Nat.{ℕ, zero, suc, _+_, _-_, _≤_, _<_}
 use native.Mathlib.Nat.{add-assoc, add-zero, zero-add}
 use native.Mathlib.Omega.{arith}
 use mathlib.Core.List.{List, [], _∷_, _++_, append-assoc}
-use lib.ListN.{length, take, drop, getD, length-append, length-take, length-drop, take-append-drop}
-use lib.Seq.{take-at, drop-at, drop-drop, take-add, take-all, length-take-le, getD-take, getD-drop}
+use lib.ListN.{length, take, drop, length-append, length-take, length-drop, take-append-drop}
+use lib.Seq.{take-at, drop-at, drop-drop, take-add, take-all, length-take-le}
 use Rattle.buffer.specs.Slice.{part, write}
 use Rattle.memory.specs.Claims.{Apart, before, after}
 use Rattle.buffer.proofs.Writes.{length-part, length-write, part-written, write-join, part-before-write, part-after-write, part-part}
@@ -18,11 +18,6 @@ Stands at xs m = part m at (length xs) ≡ xs
 pub part-add : (m : List ℕ) (at a b : ℕ) → part m at (a + b) ≡ part m at a ++ part m (at + a) b
 unfolding part
 part-add m at a b = rw (take-add a b (drop at m), drop-drop a at m)
-
--- a byte of a part
-pub getD-part : (m : List ℕ) (at n i : ℕ) → i < n → getD (part m at n) i 0 ≡ getD m (at + i) 0
-unfolding part
-getD-part m at n i h = rw (getD-take, getD-drop)
 
 -- the whole as a part
 pub part-whole : (m : List ℕ) (n : ℕ) → length m ≤ n → part m 0 n ≡ m
