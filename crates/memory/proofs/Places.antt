@@ -12,7 +12,7 @@ use Rattle.buffer.specs.Slice.{part, write}
 use Rattle.buffer.proofs.Writes.{part-nil, length-part}
 use Rattle.memory.specs.Codec.{placesAt, placesBytes}
 use Rattle.memory.specs.Claims.{Apart}
-use Rattle.memory.proofs.Standing.{Stands, part-add, part-within, part-apart, stands-front, stands-back, stands-append, write-behind, write-replaced, write-removed, write-inserted}
+use Rattle.memory.proofs.Standing.{Stands, part-add, part-within, part-apart, stands-front, stands-back, stands-append, write-past-front, write-replaced, write-removed, write-inserted}
 
 -- every element has the property
 pub data All {A : Type 0} (p : A → Type 0) : List A → Type 0 where
@@ -148,7 +148,7 @@ module _ {A : Type 0} (f : A → List ℕ) (size at : ℕ) (m : List ℕ) where
   append-places xs ys ps qs fits stand =
       let l = length-places f size ps in
       let k = length-places f size qs in
-      rw (places-append f xs ys, ← l) (write-behind at (placesBytes f xs) (placesBytes f ys) m (rw (l, k) (omega arith)) stand)
+      rw (places-append f xs ys, ← l) (write-past-front at (placesBytes f xs) (placesBytes f ys) m (rw (l, k) (omega arith)) stand)
 
   module _ (xs ys zs : List A) (sized : All (Sized f size) (xs ++ (ys ++ zs))) (fits : at + size * (length xs + length ys + length zs) ≤ length m) where
     before : length (placesBytes f xs) ≡ size * length xs

@@ -82,11 +82,11 @@ part-apart at xs m from n fits (after h) = part-after-write at xs m from n fits 
 
 -- a longer write of which the front or the back stands there already
 module _ (at : ℕ) (xs ys m : List ℕ) (fits : at + length xs + length ys ≤ length m) where
-  pub write-behind : Stands at xs m → write at (xs ++ ys) m ≡ write (at + length xs) ys m
-  write-behind s = sym (write-join at xs ys m (omega arith)) ∙ ap (write (at + length xs) ys) (write-stands at xs m (omega arith) s)
+  pub write-past-front : Stands at xs m → write at (xs ++ ys) m ≡ write (at + length xs) ys m
+  write-past-front s = sym (write-join at xs ys m (omega arith)) ∙ ap (write (at + length xs) ys) (write-stands at xs m (omega arith) s)
 
-  pub write-ahead : Stands (at + length xs) ys m → write at (xs ++ ys) m ≡ write at xs m
-  write-ahead s =
+  pub write-past-back : Stands (at + length xs) ys m → write at (xs ++ ys) m ≡ write at xs m
+  write-past-back s =
       sym (write-join at xs ys m (omega arith))
       ∙ write-stands (at + length xs) ys (write at xs m) (rw (length-write at xs m (omega arith)) fits) (stands-after at xs m (omega arith) (at + length xs) ys (omega arith) s)
 
@@ -152,16 +152,16 @@ module _ (at : ℕ) (xs ys zs m : List ℕ) (fits : at + length xs + length ys +
 
   pub write-replaced : (news : List ℕ) → length news ≡ length ys → write at (xs ++ (news ++ zs)) m ≡ write (at + length xs) news m
   write-replaced news e =
-      write-behind at xs (news ++ zs) m (simp length-append (omega arith)) (stands-front at xs (ys ++ zs) m stand)
-      ∙ write-ahead (at + length xs) news zs m (omega arith) (rw e last-stand)
+      write-past-front at xs (news ++ zs) m (simp length-append (omega arith)) (stands-front at xs (ys ++ zs) m stand)
+      ∙ write-past-back (at + length xs) news zs m (omega arith) (rw e last-stand)
 
   pub write-removed : write at (xs ++ zs) m ≡ write (at + length xs) (part m (at + length xs + length ys) (length zs)) m
-  write-removed = rw last-stand (write-behind at xs zs m (omega arith) (stands-front at xs (ys ++ zs) m stand))
+  write-removed = rw last-stand (write-past-front at xs zs m (omega arith) (stands-front at xs (ys ++ zs) m stand))
 
 -- xs and zs stand one behind the other, and ys is put in between
 pub write-inserted : (at : ℕ) (xs ys zs m : List ℕ) → at + length xs + length ys + length zs ≤ length m → Stands at (xs ++ zs) m
     → write at (xs ++ (ys ++ zs)) m ≡ write (at + length xs) ys (write (at + length xs + length ys) (part m (at + length xs) (length zs)) m)
 write-inserted at xs ys zs m fits stand =
     rw (stands-back at xs zs m stand)
-    (write-behind at xs (ys ++ zs) m (simp length-append (omega arith)) (stands-front at xs zs m stand)
+    (write-past-front at xs (ys ++ zs) m (simp length-append (omega arith)) (stands-front at xs zs m stand)
     ∙ (sym (write-join (at + length xs) ys zs m (omega arith)) ∙ write-swap (at + length xs) ys (at + length xs + length ys) zs m (omega arith) fits))
