@@ -1,8 +1,8 @@
 -- Memory that holds a gateway: its bytes stand in it. Writing the gateway makes it so, and reading gives the gateway.
-use mathlib.Core.Path.{_≡_, refl, sym, _∙_, ap}
-use Prim.Native.Nat.{ℕ, _+_, _*_, _≤_}
+use mathlib.Core.Path.{_≡_, _∙_, ap}
+use Prim.Native.Nat.{ℕ, _*_, _≤_}
 use native.Mathlib.Omega.{arith}
-use mathlib.Core.List.{List, [], _∷_, _++_}
+use mathlib.Core.List.{List}
 use lib.Dec.{lit≤}
 use lib.ListN.{length}
 use Rattle.buffer.specs.Slice.{part, write}
@@ -12,8 +12,8 @@ use Rattle.memory.specs.Claims.{Untouched}
 use Rattle.memory.specs.Codec.{entryBytes, entryOf, sentBytes, sentOf, headerAt, headerFront, headerBack, placesAt, placesBytes, decode, encode}
 use Rattle.memory.proofs.Standing.{Stands}
 use Rattle.memory.proofs.FourWrites.{headed, FourWrites, four-writes}
-use Rattle.memory.proofs.Places.{All, Sized, Stored, all-map, length-places, read-stored}
-use Rattle.memory.proofs.Fitting.{HeaderFits, GatewayFits}
+use Rattle.memory.proofs.Places.{All, Sized, all-map, length-places, read-stored}
+use Rattle.memory.proofs.Fitting.{GatewayFits}
 use Rattle.memory.proofs.RoundTrips.{length-front, length-back, entry-length, sent-length, entry-kept, sent-kept, header-back}
 
 -- the memory is long enough for the gateway's settings, and no more places are used than there are

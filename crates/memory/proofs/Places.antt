@@ -2,17 +2,17 @@
 -- same, and a change of the list is a write of the places that change.
 use mathlib.Core.Path.{_≡_, refl, sym, _∙_, ap, ap₂}
 use Prim.Native.Nat.{ℕ, zero, suc, _+_, _*_, _≤_}
-use native.Mathlib.Nat.{add-assoc, add-zero, zero-add, suc-add, mul-zero}
+use native.Mathlib.Nat.{add-zero, zero-add, suc-add, mul-zero}
 use native.Mathlib.Omega.{arith}
 use mathlib.Core.Logic.{⊎-elim}
 use mathlib.Core.List.{List, [], _∷_, _++_, append-assoc, append-nil, List·Memᴰ·head as here, List·Memᴰ·tail as there, List·Memᴰ·not-nil, List·Memᴰ·cases-cons}
 use lib.ListN.{length, length-append}
 use Rattle.routing.specs.Arcs.{_∈_}
 use Rattle.buffer.specs.Slice.{part, write}
-use Rattle.buffer.proofs.Writes.{part-nil, length-part}
+use Rattle.buffer.proofs.Writes.{part-nil}
 use Rattle.memory.specs.Codec.{placesAt, placesBytes}
 use Rattle.memory.specs.Claims.{Apart}
-use Rattle.memory.proofs.Standing.{Stands, part-add, part-within, part-apart, stands-front, stands-back, stands-append, write-past-front, write-replaced, write-removed, write-inserted}
+use Rattle.memory.proofs.Standing.{Stands, part-add, part-within, part-apart, stands-front, stands-back, write-past-front, write-replaced, write-removed, write-inserted}
 
 -- every element has the property
 pub data All {A : Type 0} (p : A → Type 0) : List A → Type 0 where

@@ -1,15 +1,15 @@
 -- Every element of a gateway read back from its own bytes: states, messages, queue places, outstanding places, the header.
-use mathlib.Core.Path.{_≡_, refl, sym, _∙_, ap, ap₂}
-use Prim.Native.Nat.{ℕ, zero, suc, _+_, _*_, _/_, _%_, _^_, _≤_, _<_}
+use mathlib.Core.Path.{_≡_, refl, sym, _∙_, ap}
+use Prim.Native.Nat.{ℕ, _+_, _/_, _%_, _^_, _≤_, _<_}
 use native.Mathlib.Omega.{arith}
-use mathlib.Core.Bool.{Bool, true, false, cond}
-use mathlib.Core.List.{List, [], _∷_, _++_}
+use mathlib.Core.Bool.{Bool, true, false}
+use mathlib.Core.List.{List, _++_}
 use lib.Dec.{eqb, lit<, lit≤}
-use lib.ListN.{length, getD, take, replicate, length-append}
+use lib.ListN.{length, getD, replicate}
 use lib.Seq.{take-at}
-use Rattle.buffer.specs.Slice.{part, write}
+use Rattle.buffer.specs.Slice.{part}
 use Rattle.buffer.specs.Number.{bytesOf, numberOf}
-use Rattle.buffer.proofs.Numbers.{number-of-bytes, length-bytesOf}
+use Rattle.buffer.proofs.Numbers.{number-of-bytes}
 use Rattle.buffer.proofs.Writes.{part-part}
 use Rattle.frame.proofs.Places.{getD-part}
 use Rattle.model.specs.Messages.{kindNumber, originOf, quantityOf, kindOf}
