@@ -1,7 +1,19 @@
--- Laws of the memory.
+-- Laws of a gateway's memory.
 pub mod Stored
 pub mod Lamps
 pub mod Chains
 pub mod Deciding
 pub mod SameBytes
 pub mod Passing
+pub mod EventLaws
+pub mod Validated
+pub mod Standing
+pub mod Places
+pub mod Fitting
+pub mod RoundTrips
+pub mod FromBytes
+pub mod FourWrites
+pub mod Holding
+pub mod SoundMemory
+pub mod Changes
+pub mod ByParts
