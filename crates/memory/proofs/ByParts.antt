@@ -7,14 +7,15 @@ use mathlib.Core.List.{List}
 use lib.Dec.{leb}
 use lib.ListN.{length}
 use borrow.Author.Tests.{leb-true, le-leb, lt-leb}
-use Rattle.memory.specs.Layout.{sizeFor}
+use Rattle.memory.specs.Records.{Gateway}
+use Rattle.memory.specs.Layout.{outstandingAt, sizeFor}
 use Rattle.memory.specs.Codec.{entryOf, sentOf, headerAt, placesAt, decode}
 use Rattle.memory.specs.Validity.{every, settingsValid, roundPossible, ordered, processedFirst, noneMeet, entryValid, sentValid, valid}
 use Rattle.memory.specs.Soundness.{headerSound, entryExact, sentExact, sound}
 use Rattle.memory.specs.Passes.{queueSound, outstandingSound}
 use Rattle.memory.specs.declared.Header.{Header}
 use Rattle.memory.proofs.Chains.{refuted, granted}
-use Rattle.memory.proofs.Validated.{ValidSettings, settings-facts, and-left, and-right}
+use Rattle.memory.proofs.Validated.{ValidSettings, settings-facts, facts-settings, and-left, and-right}
 use Rattle.memory.proofs.Places.{length-read}
 
 -- what a sound header says of its numbers and of the memory's length
@@ -49,13 +50,39 @@ regrouped true true true true true false nm ss = refl
 regrouped true true true true true true nm ss = refl
 regrouped true false true ev o pf nm ss = sym (and-false (ev && (o && (pf && nm))))
 
-by-parts : (m : List ℕ) → headerSound m ≡ true
-    → sound m
-    ≡ (roundPossible (headerAt m .settings) (headerAt m .round)
-    && (queueSound (headerAt m .settings) m (headerAt m .queued)
-    && outstandingSound (headerAt m .settings) m (256 + 64 * headerAt m .settings .q) (headerAt m .outstanding)))
-unfolding sound valid decode queueSound outstandingSound
-by-parts m e = ?
+-- validity where settings and counts are right
+valid-rest : (g : Gateway) → settingsValid (g .settings) ≡ true → length (g .queue) ≤ g .settings .q → length (g .outstanding) ≤ g .settings .u
+    → valid g
+    ≡ (((((roundPossible (g .settings) (g .round) && every (entryValid (g .settings)) (g .queue)) && ordered (g .queue)) && processedFirst false (g .queue)) && noneMeet (g .queue))
+    && every (sentValid (g .settings)) (g .outstanding))
+unfolding valid
+valid-rest g s q u = rw (s, le-leb (length (g .queue)) (g .settings .q) q, le-leb (length (g .outstanding)) (g .settings .u) u)
+
+-- the parts of a memory with a sound header
+module _ (m : List ℕ) (ok : headerSound m ≡ true) where
+  exact-and-valid : sound m
+      ≡ ((every entryExact (placesAt (λ b. b) 64 m 256 (headerAt m .queued))
+      && every sentExact (placesAt (λ b. b) 32 m (outstandingAt (headerAt m .settings .q) 0) (headerAt m .outstanding)))
+      && valid (decode m))
+  unfolding sound
+  exact-and-valid = rw ok
+
+  by-parts : sound m
+      ≡ (roundPossible (headerAt m .settings) (headerAt m .round)
+      && (queueSound (headerAt m .settings) m (headerAt m .queued)
+      && outstandingSound (headerAt m .settings) m (outstandingAt (headerAt m .settings .q) 0) (headerAt m .outstanding)))
+  unfolding decode queueSound outstandingSound
+  by-parts =
+      let g = decode m in
+      let facts = facts-at m ok in
+      let queued : length (g .queue) ≤ g .settings .q = rw (length-read entryOf 64 m 256 (headerAt m .queued)) (facts .queued) in
+      let sent : length (g .outstanding) ≤ g .settings .u = rw (length-read sentOf 32 m (outstandingAt (headerAt m .settings .q) 0) (headerAt m .outstanding)) (facts .sent) in
+      exact-and-valid
+      ∙ rw (valid-rest g (facts-settings (g .settings) (facts .settings)) queued sent)
+      (regrouped (every entryExact (placesAt (λ b. b) 64 m 256 (headerAt m .queued)))
+      (every sentExact (placesAt (λ b. b) 32 m (outstandingAt (headerAt m .settings .q) 0) (headerAt m .outstanding)))
+      (roundPossible (g .settings) (g .round)) (every (entryValid (g .settings)) (g .queue)) (ordered (g .queue)) (processedFirst false (g .queue)) (noneMeet (g .queue))
+      (every (sentValid (g .settings)) (g .outstanding)))
 
 module _ (m : List ℕ) where
   pub sound-short : length m < 256 → false ≡ sound m
@@ -71,7 +98,7 @@ module _ (m : List ℕ) where
       whole : sound m
           ≡ (roundPossible (h .settings) (h .round)
           && (queueSound (h .settings) m (h .queued) && outstandingSound (h .settings) m (256 + 64 * h .settings .q) (h .outstanding)))
-      whole = rw (← e) at (by-parts m (granted p k))
+      whole = rw (← add-zero (256 + 64 * h .settings .q), e) (by-parts m (granted p k))
 
       pub sound-round : not round ≡ true → false ≡ sound m
       sound-round f = sym (whole ∙ rw (refuted r f))

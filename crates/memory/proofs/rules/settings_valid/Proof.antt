@@ -1,48 +1,38 @@
-use borrow.Author.Needs.{needs}
-use borrow.Author.Tests.{lt-leb, le-leb, lt-ltb, le-ltb, eq-eqb, ne-eqb}
+-- `memory::rules::settings_valid` meets its contract.
+use borrow.Author.Tests.{lt-leb, le-leb, lt-ltb, le-ltb}
 use Rattle.memory.specs.Validity.{settingsValid}
-use Rattle.memory.proofs.Chains.{refuted, granted, told, left-fails, right-fails, both-hold, last-decides, either-holds, other-decides, fails, holds, above, within, below, byte-within}
+use Rattle.memory.proofs.Chains.{left-fails, right-fails, both-hold, last-decides, fails, byte-within}
 use Rattle.memory.proofs.rules.settings_valid.Statement.{statement}
 use Rattle.memory.proofs.rules.settings_valid.Tie as tie
-use Rattle.memory.proofs.rules.settings_valid.Reads as reads
-use Rattle.memory.proofs.rules.settings_valid.Lts as lts
 
--- src/rules.rt:38:9
 returns : tie.Need-returns
 unfolding settingsValid
 returns c = search (left-fails, right-fails, both-hold, last-decides, fails, byte-within, lt-leb, le-leb, lt-ltb, le-ltb) depth 9
 
--- src/rules.rt:41:9
 returns-2 : tie.Need-returns-2
 unfolding settingsValid
 returns-2 c = search (left-fails, right-fails, both-hold, last-decides, fails, byte-within, lt-leb, le-leb, lt-ltb, le-ltb) depth 9
 
--- src/rules.rt:44:9
 returns-3 : tie.Need-returns-3
 unfolding settingsValid
 returns-3 c = search (left-fails, right-fails, both-hold, last-decides, fails, byte-within, lt-leb, le-leb, lt-ltb, le-ltb) depth 9
 
--- src/rules.rt:47:9
 returns-4 : tie.Need-returns-4
 unfolding settingsValid
 returns-4 c = search (left-fails, right-fails, both-hold, last-decides, fails, byte-within, lt-leb, le-leb, lt-ltb, le-ltb) depth 9
 
--- src/rules.rt:50:9
 returns-5 : tie.Need-returns-5
 unfolding settingsValid
 returns-5 c = search (left-fails, right-fails, both-hold, last-decides, fails, byte-within, lt-leb, le-leb, lt-ltb, le-ltb) depth 9
 
--- src/rules.rt:53:9
 returns-6 : tie.Need-returns-6
 unfolding settingsValid
 returns-6 c = search (left-fails, right-fails, both-hold, last-decides, fails, byte-within, lt-leb, le-leb, lt-ltb, le-ltb) depth 9
 
--- src/rules.rt:56:9
 returns-7 : tie.Need-returns-7
 unfolding settingsValid
 returns-7 c = search (left-fails, right-fails, both-hold, last-decides, fails, byte-within, lt-leb, le-leb, lt-ltb, le-ltb) depth 9
 
--- src/rules.rt:34:1
 returns-8 : tie.Need-returns-8
 unfolding settingsValid
 returns-8 c = search (left-fails, right-fails, both-hold, last-decides, fails, byte-within, lt-leb, le-leb, lt-ltb, le-ltb) depth 9

@@ -1,48 +1,35 @@
+-- `memory::rules::storable` meets its contract.
 use borrow.Author.Needs.{needs}
 use Rattle.memory.specs.Validity.{storable}
 use Rattle.memory.proofs.Deciding.{formed-as}
-use Rattle.memory.proofs.Chains.{refuted, granted, told, turned, left-fails, right-fails, both-hold, last-decides, either-holds, other-decides, fails, holds, above, within, below, byte-within}
+use Rattle.memory.proofs.Chains.{refuted, granted, left-fails, right-fails, both-hold, last-decides, fails, above, within}
 use Rattle.memory.proofs.rules.storable.Statement.{statement}
 use Rattle.memory.proofs.rules.storable.Tie as tie
-use Rattle.memory.proofs.rules.storable.Reads as reads
-use Rattle.memory.proofs.rules.storable.Lts as lts
-use Rattle.frame.proofs.writer.well_formed.Reads as well-formed-reads
-use Rattle.memory.proofs.rules.frame_if.Reads as frame-if-reads
-use Rattle.memory.proofs.rules.numbers_below.Reads as numbers-below-reads
-use Rattle.model.proofs.kind_number.Reads as kind-number-reads
 
--- src/rules.rt:202:8
 kind-number-requires : tie.Need-kind-number-requires
 kind-number-requires c κs = search needs
 
--- src/rules.rt:203:9
 returns : tie.Need-returns
 unfolding storable
 returns c = search (refuted, granted, left-fails, right-fails, both-hold, last-decides, fails, above, within, formed-as) depth 9
 
--- src/rules.rt:205:21
 frame-if-requires : tie.Need-frame-if-requires
 frame-if-requires c κs = search needs
 
--- src/rules.rt:205:9
 well-formed-requires : tie.Need-well-formed-requires
 well-formed-requires c κs = search needs
 
--- src/rules.rt:206:9
 returns-2 : tie.Need-returns-2
 unfolding storable
 returns-2 c = search (refuted, granted, left-fails, right-fails, both-hold, last-decides, fails, above, within, formed-as) depth 9
 
--- src/rules.rt:208:9
 numbers-below-requires : tie.Need-numbers-below-requires
 numbers-below-requires c κs = search needs
 
--- src/rules.rt:209:9
 returns-3 : tie.Need-returns-3
 unfolding storable
 returns-3 c = search (refuted, granted, left-fails, right-fails, both-hold, last-decides, fails, above, within, formed-as) depth 9
 
--- src/rules.rt:198:1
 returns-4 : tie.Need-returns-4
 unfolding storable
 returns-4 c = search (refuted, granted, left-fails, right-fails, both-hold, last-decides, fails, above, within, formed-as) depth 9

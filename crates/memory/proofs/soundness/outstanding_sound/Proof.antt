@@ -1,3 +1,4 @@
+-- `memory::soundness::outstanding_sound` meets its contract.
 use borrow.Author.Needs.{needs}
 use mathlib.Core.Path.{_≡_}
 use Prim.Native.Nat.{_+_, _*_, _≤_}
@@ -8,11 +9,6 @@ use Rattle.memory.specs.Passes.{outstandingSound}
 use Rattle.memory.proofs.Passing.{allSent, outstanding-passed, sent-place, sent-refused, sent-turn, sent-end}
 use Rattle.memory.proofs.soundness.outstanding_sound.Statement.{statement}
 use Rattle.memory.proofs.soundness.outstanding_sound.Tie as tie
-use Rattle.memory.proofs.soundness.outstanding_sound.Reads as reads
-use Rattle.memory.proofs.soundness.outstanding_sound.Lts as lts
-use Rattle.memory.proofs.place.sent_of.Reads as sent-of-reads
-use Rattle.memory.proofs.rules.sent_valid.Reads as sent-valid-reads
-use Rattle.memory.proofs.soundness.sent_exact.Reads as sent-exact-reads
 
 abbrev Inv-loop : tie.InvT-loop
 Inv-loop memory settings start count at₀ left₀ at left = (at + 32 * left ≤ length memory) × (outstandingSound settings memory start count ≡ allSent settings (placesAt (λ b. b) 32 memory at left))
@@ -20,63 +16,48 @@ Inv-loop memory settings start count at₀ left₀ at left = (at + 32 * left ≤
 abbrev μ-loop : tie.MeasureT-loop
 μ-loop memory settings start count at₀ left₀ at left = left
 
--- src/soundness.rt:107:5
 loop-holds : tie.Need-loop-holds Inv-loop μ-loop
 loop-holds c = (omega arith, search outstanding-passed)
 
--- src/soundness.rt:108:19
 add-end : tie.Need-add-end Inv-loop μ-loop
 add-end c = search needs
 
--- src/soundness.rt:109:21
 sub-place : tie.Need-sub-place Inv-loop μ-loop
 sub-place c = search needs
 
--- src/soundness.rt:109:21
 part-place-start : tie.Need-part-place-start Inv-loop μ-loop
 part-place-start c = search needs
 
--- src/soundness.rt:109:21
 part-place-end : tie.Need-part-place-end Inv-loop μ-loop
 part-place-end c = search needs
 
--- src/soundness.rt:110:13
 sent-of-requires : tie.Need-sent-of-requires Inv-loop μ-loop
 sent-of-requires c κs = search needs
 
--- src/soundness.rt:111:13
 sent-exact-requires : tie.Need-sent-exact-requires Inv-loop μ-loop
 sent-exact-requires c κs = search needs
 
--- src/soundness.rt:112:13
 returns : tie.Need-returns Inv-loop μ-loop
 returns c = search sent-place
 
--- src/soundness.rt:114:13
 sent-valid-requires : tie.Need-sent-valid-requires Inv-loop μ-loop
 sent-valid-requires c κs = search needs
 
--- src/soundness.rt:115:13
 returns-2 : tie.Need-returns-2 Inv-loop μ-loop
 returns-2 c = search sent-refused
 
--- src/soundness.rt:117:9
 add-at : tie.Need-add-at Inv-loop μ-loop
 add-at c = search needs
 
--- src/soundness.rt:118:9
 sub-left : tie.Need-sub-left Inv-loop μ-loop
 sub-left c = search needs
 
--- src/soundness.rt:107:5
 loop-less : tie.Need-loop-less Inv-loop μ-loop
 loop-less c = search needs
 
--- src/soundness.rt:107:5
 loop-again : tie.Need-loop-again Inv-loop μ-loop
 loop-again c = (omega arith, search sent-turn)
 
--- src/soundness.rt:101:1
 returns-3 : tie.Need-returns-3 Inv-loop μ-loop
 returns-3 c = search sent-end
 

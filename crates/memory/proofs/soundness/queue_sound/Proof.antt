@@ -1,3 +1,4 @@
+-- `memory::soundness::queue_sound` meets its contract.
 use borrow.Author.Needs.{needs}
 use mathlib.Core.Path.{_≡_}
 use Prim.Native.Nat.{_+_, _*_, _≤_}
@@ -8,12 +9,6 @@ use Rattle.memory.specs.Passes.{queueSound}
 use Rattle.memory.proofs.Passing.{passed, queue-start, queue-place, queue-entry, queue-turn, queue-end}
 use Rattle.memory.proofs.soundness.queue_sound.Statement.{statement}
 use Rattle.memory.proofs.soundness.queue_sound.Tie as tie
-use Rattle.memory.proofs.soundness.queue_sound.Reads as reads
-use Rattle.memory.proofs.soundness.queue_sound.Lts as lts
-use Rattle.memory.proofs.place.entry_of.Reads as entry-of-reads
-use Rattle.memory.proofs.soundness.entry_exact.Reads as entry-exact-reads
-use Rattle.memory.proofs.soundness.entry_fits.Reads as entry-fits-reads
-use Rattle.memory.proofs.soundness.pending_seen.Reads as pending-seen-reads
 
 abbrev Inv-loop : tie.InvT-loop
 Inv-loop memory settings count before₀ seen₀ at₀ left₀ before seen at left = (at + 64 * left ≤ length memory) × (queueSound settings memory count ≡ passed settings before seen (placesAt (λ b. b) 64 memory at left))
@@ -21,83 +16,63 @@ Inv-loop memory settings count before₀ seen₀ at₀ left₀ before seen at le
 abbrev μ-loop : tie.MeasureT-loop
 μ-loop memory settings count before₀ seen₀ at₀ left₀ before seen at left = left
 
--- src/soundness.rt:78:31
 sub-entry-of : tie.Need-sub-entry-of Inv-loop μ-loop
 sub-entry-of c = search needs
 
--- src/soundness.rt:78:31
 part-entry-of-start : tie.Need-part-entry-of-start Inv-loop μ-loop
 part-entry-of-start c = search needs
 
--- src/soundness.rt:78:31
 part-entry-of-end : tie.Need-part-entry-of-end Inv-loop μ-loop
 part-entry-of-end c = search needs
 
--- src/soundness.rt:78:9
 entry-of-requires : tie.Need-entry-of-requires Inv-loop μ-loop
 entry-of-requires c κs = search needs
 
--- src/soundness.rt:82:5
 loop-holds : tie.Need-loop-holds Inv-loop μ-loop
 loop-holds c = (omega arith, search queue-start)
 
--- src/soundness.rt:83:19
 add-end : tie.Need-add-end Inv-loop μ-loop
 add-end c = search needs
 
--- src/soundness.rt:84:21
 sub-place : tie.Need-sub-place Inv-loop μ-loop
 sub-place c = search needs
 
--- src/soundness.rt:84:21
 part-place-start : tie.Need-part-place-start Inv-loop μ-loop
 part-place-start c = search needs
 
--- src/soundness.rt:84:21
 part-place-end : tie.Need-part-place-end Inv-loop μ-loop
 part-place-end c = search needs
 
--- src/soundness.rt:85:13
 entry-of-requires-2 : tie.Need-entry-of-requires-2 Inv-loop μ-loop
 entry-of-requires-2 c κs = search needs
 
--- src/soundness.rt:86:13
 entry-exact-requires : tie.Need-entry-exact-requires Inv-loop μ-loop
 entry-exact-requires c κs = search needs
 
--- src/soundness.rt:87:13
 returns : tie.Need-returns Inv-loop μ-loop
 returns c = search queue-place
 
--- src/soundness.rt:89:13
 entry-fits-requires : tie.Need-entry-fits-requires Inv-loop μ-loop
 entry-fits-requires c κs = search needs
 
--- src/soundness.rt:90:13
 returns-2 : tie.Need-returns-2 Inv-loop μ-loop
 returns-2 c = search queue-entry
 
--- src/soundness.rt:93:9
 pending-seen-requires : tie.Need-pending-seen-requires Inv-loop μ-loop
 pending-seen-requires c κs = search needs
 
--- src/soundness.rt:95:9
 add-at : tie.Need-add-at Inv-loop μ-loop
 add-at c = search needs
 
--- src/soundness.rt:96:9
 sub-left : tie.Need-sub-left Inv-loop μ-loop
 sub-left c = search needs
 
--- src/soundness.rt:82:5
 loop-less : tie.Need-loop-less Inv-loop μ-loop
 loop-less c = search needs
 
--- src/soundness.rt:82:5
 loop-again : tie.Need-loop-again Inv-loop μ-loop
 loop-again c = (omega arith, search queue-turn)
 
--- src/soundness.rt:74:1
 returns-3 : tie.Need-returns-3 Inv-loop μ-loop
 returns-3 c = search queue-end
 

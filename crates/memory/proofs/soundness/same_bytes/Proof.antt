@@ -1,3 +1,4 @@
+-- `memory::soundness::same_bytes` meets its contract.
 use borrow.Author.Needs.{needs}
 use mathlib.Core.Path.{_≡_, refl}
 use Prim.Native.Nat.{_≤_, _-_}
@@ -7,8 +8,6 @@ use Rattle.memory.specs.Soundness.{sameBytes}
 use Rattle.memory.proofs.SameBytes.{same-differs, same-turn, same-end}
 use Rattle.memory.proofs.soundness.same_bytes.Statement.{statement}
 use Rattle.memory.proofs.soundness.same_bytes.Tie as tie
-use Rattle.memory.proofs.soundness.same_bytes.Reads as reads
-use Rattle.memory.proofs.soundness.same_bytes.Lts as lts
 
 abbrev Inv-loop : tie.InvT-loop
 Inv-loop a b i₀ i = (i ≤ length a) × (sameBytes a b ≡ sameBytes (drop i a) (drop i b))
@@ -16,35 +15,27 @@ Inv-loop a b i₀ i = (i ≤ length a) × (sameBytes a b ≡ sameBytes (drop i a
 abbrev μ-loop : tie.MeasureT-loop
 μ-loop a b i₀ i = length a - i
 
--- src/soundness.rt:185:5
 loop-holds : tie.Need-loop-holds Inv-loop μ-loop
 loop-holds c = (omega arith, refl)
 
--- src/soundness.rt:186:12
 shared-slice-read-if1 : tie.Need-shared-slice-read-if1 Inv-loop μ-loop
 shared-slice-read-if1 c = search needs
 
--- src/soundness.rt:186:20
 shared-slice-read-if1-2 : tie.Need-shared-slice-read-if1-2 Inv-loop μ-loop
 shared-slice-read-if1-2 c = search needs
 
--- src/soundness.rt:187:13
 returns : tie.Need-returns Inv-loop μ-loop
 returns c = search same-differs
 
--- src/soundness.rt:189:9
 add-i : tie.Need-add-i Inv-loop μ-loop
 add-i c = search needs
 
--- src/soundness.rt:185:5
 loop-less : tie.Need-loop-less Inv-loop μ-loop
 loop-less c = search needs
 
--- src/soundness.rt:185:5
 loop-again : tie.Need-loop-again Inv-loop μ-loop
 loop-again c = (omega arith, search same-turn)
 
--- src/soundness.rt:180:1
 returns-2 : tie.Need-returns-2 Inv-loop μ-loop
 returns-2 c = search same-end
 

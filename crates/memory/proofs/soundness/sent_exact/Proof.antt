@@ -1,31 +1,23 @@
+-- `memory::soundness::sent_exact` meets its contract.
 use borrow.Author.Needs.{needs}
 use Rattle.memory.proofs.Stored.{length-sent}
 use Rattle.memory.proofs.Lamps.{sent-lamp}
 use Rattle.memory.proofs.SameBytes.{same-filled}
 use Rattle.memory.proofs.soundness.sent_exact.Statement.{statement}
 use Rattle.memory.proofs.soundness.sent_exact.Tie as tie
-use Rattle.memory.proofs.soundness.sent_exact.Reads as reads
-use Rattle.memory.proofs.soundness.sent_exact.Lts as lts
-use Rattle.memory.proofs.place.write_sent.Reads as write-sent-reads
-use Rattle.memory.proofs.soundness.same_bytes.Reads as same-bytes-reads
 
--- src/soundness.rt:176:16
 slice-aggregate-write-sent : tie.Need-slice-aggregate-write-sent
 slice-aggregate-write-sent c = search needs
 
--- src/soundness.rt:176:5
 write-sent-requires : tie.Need-write-sent-requires
 write-sent-requires c κs = search needs
 
--- src/soundness.rt:177:16
 slice-aggregate-same-bytes : tie.Need-slice-aggregate-same-bytes
 slice-aggregate-same-bytes c = search needs
 
--- src/soundness.rt:177:5
 same-bytes-requires : tie.Need-same-bytes-requires
 same-bytes-requires c κs = search needs
 
--- src/soundness.rt:171:1
 returns : tie.Need-returns
 returns c = let start = c .before .before .before .before .before .before in let size = length-sent (start .args .sent) (sent-lamp (start .args .sent) _ (start .good .1 .0)) in search same-filled
 
