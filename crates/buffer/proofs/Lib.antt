@@ -1,3 +1,4 @@
 -- Laws of parts, writes and numbers as bytes.
 pub mod Writes
 pub mod Numbers
+pub mod Putting

@@ -1,4 +1,5 @@
 -- A part of a slice, and a slice after bytes were written into it.
+use mathlib.Core.Path.{_≡_}
 use Prim.Native.Nat.{ℕ, _+_, _<_}
 use mathlib.Core.List.{List, _++_}
 use lib.ListN.{length, take, drop, getD}
@@ -14,3 +15,8 @@ part m at n = take n (drop at m)
 -- m with the bytes xs from position at on; every other byte as it was
 unfoldable pub write : ℕ → List ℕ → List ℕ → List ℕ
 write at xs m = take at m ++ (xs ++ drop (at + length xs) m)
+
+-- bytes were put from position at on, and the position behind them was answered
+pub record Puts (at : ℕ) (bytes before after : List ℕ) (behind : ℕ) : Type 0 where
+  pub position : behind ≡ at + length bytes
+  pub output : after ≡ write at bytes before

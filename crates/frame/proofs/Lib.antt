@@ -7,3 +7,4 @@ pub mod Walking
 pub mod Places
 pub mod Turning
 pub mod Output
+pub mod Accepted

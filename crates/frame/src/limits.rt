@@ -37,7 +37,7 @@ pub fn addressed_to(sense: Sense, message: Message) -> u8
     }
 }
 
-fn numbers_below(n: u16, message: Message) -> bool
+pub fn numbers_below(n: u16, message: Message) -> bool
     ensures { λ r. ⌜ r ≡ numbersBelow n message ⌝ }
 {
     let kind = message.kind;

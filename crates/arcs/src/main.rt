@@ -1,0 +1,23 @@
+// The program arcs: reads N from standard input, and prints its arcs.
+use libc::STDIN_FILENO;
+use libc::STDOUT_FILENO;
+
+// Prints the listing of an input by way of out.
+fn print(input: &[u8], out: &mut [u8]) {
+    let put = listing::render(input, out);
+    let length = put.length;
+    io::write_all(STDOUT_FILENO, &out[..length]);
+}
+
+// The length of an array that is lent whole is known from its type alone, however long it is.
+fn print_by(input: &[u8], out: &mut [u8; 1100000]) {
+    print(input, out);
+}
+
+// No input of more than six bytes gives an N, so sixteen bytes tell as much as all. 1,100,000 bytes hold every listing.
+fn main() {
+    let mut input = [0u8; 16];
+    let mut out = [0u8; 1100000];
+    let count = io::read_full(STDIN_FILENO, &mut input);
+    print_by(&input[..count], &mut out);
+}

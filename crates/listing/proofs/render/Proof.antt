@@ -1,0 +1,24 @@
+-- `render` puts the listing of the number that the input gives, or 8.
+use mathlib.Core.Path.{sym, _∙_}
+use Rattle.listing.proofs.Whole.{rendering-is}
+use borrow.Author.Needs.{needs}
+use Rattle.listing.proofs.render.Statement.{statement}
+use Rattle.listing.proofs.render.Tie as tie
+
+returns : tie.Need-returns
+returns c = c .before .before .render-refusal .ensures ∙ rendering-is _ _ (sym (c .before .before .before .before .if1 .taken) ∙ c .before .before .before .before .before .number-in .ensures .0)
+
+returns-2 : tie.Need-returns-2
+returns-2 c = c .before .before .render-listing .ensures ∙ rendering-is _ _ (c .before .before .before .before .before .number-in .ensures .0)
+
+pub render-spec : {M : Type 1} → statement M
+render-spec =
+    tie.close
+    (tie.spec
+    (λ c κs. search needs)
+    (λ c κs. search needs)
+    (λ c. search needs)
+    returns
+    (λ c κs. search needs)
+    (λ c. search needs)
+    returns-2)

@@ -1,0 +1,2 @@
+-- The definitions of the listing of arcs.
+pub mod Output
