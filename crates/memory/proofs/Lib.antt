@@ -14,6 +14,7 @@ pub mod RoundTrips
 pub mod FromBytes
 pub mod FourWrites
 pub mod Holding
+pub mod StillBytes
 pub mod SoundMemory
 pub mod Changes
 pub mod ByParts

@@ -23,6 +23,7 @@ use Rattle.memory.proofs.Places.{All, all-of, all-each, Exact, all-map,
 use Rattle.memory.proofs.Fitting.{GatewayFits, valid-fits, fits-ranged}
 use Rattle.memory.proofs.RoundTrips.{length-front, length-back, entry-kept, sent-kept, phase-byte}
 use Rattle.memory.proofs.FromBytes.{entry-fits, sent-fits, header-fits, read-all, front-again, back-again}
+use Rattle.memory.proofs.StillBytes.{encode-bytes}
 use Rattle.memory.proofs.Holding.{Room, Holds, holds-header, holds-decode, encode-length, encode-holds, encode-elsewhere, encode-same, encode-room, decode-encode}
 
 -- two lists that test equal are equal
@@ -168,6 +169,7 @@ writing-laws g m ok ranged long =
       again = decode-encode g m r room;
       sound-after = holds-sound g (encode g m) v r (encode-room g m r room) (encode-holds g m r room) ok;
       as-long = encode-length g m r room;
+      bytes-after = encode-bytes g m v;
       elsewhere = encode-elsewhere g m r room;
       rest = λ n. encode-elsewhere g m r room (sizeFor (g .settings .q) (g .settings .u)) n
           (record {
