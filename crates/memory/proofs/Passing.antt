@@ -2,22 +2,20 @@
 use mathlib.Core.Path.{_≡_, refl, sym, _∙_, ap}
 use Prim.Native.Nat.{ℕ, zero, suc, _+_, _-_, _*_, _<_, _≤_}
 use native.Mathlib.Omega.{arith}
-use mathlib.Core.Bool.{Bool, true, false, not, cond, _&&_, _||_, and-assoc}
+use mathlib.Core.Bool.{Bool, true, false, not, cond, _&&_, _||_, and-assoc, and-false}
 use mathlib.Core.List.{List, [], _∷_, map}
 use lib.ListN.{length, take, drop}
 use Rattle.buffer.specs.Slice.{part}
-use Rattle.model.specs.EventOrder.{key, compared, different}
-use Rattle.model.proofs.Ordered.{list-reflexive}
-use Rattle.model.specs.declared.Message.{Message}
 use Rattle.memory.specs.Layout.{headerSize, queueSize}
 use Rattle.memory.specs.Codec.{entryBytes, entryOf, sentBytes, sentOf, placesAt}
-use Rattle.memory.specs.Validity.{every, isPending, isProcessed, isWaiting, pendingMark, equal, later, isAfter, ordered, processedFirst, meet, noneMeet, entryValid, sentValid}
+use Rattle.memory.specs.Validity.{every, isPending, isProcessed, isWaiting, pendingMark, equal, later, ordered, processedFirst, meet, noneMeet, entryValid, sentValid}
 use Rattle.memory.specs.Soundness.{sameBytes, entryExact, sentExact}
 use Rattle.memory.specs.Passes.{entryFits, queueSound, outstandingSound}
 use Rattle.memory.specs.declared.Settings.{Settings}
 use Rattle.memory.specs.declared.Entry.{Entry}
 use Rattle.memory.specs.declared.Sent.{Sent}
 use Rattle.memory.proofs.Stored.{part-between}
+use Rattle.memory.proofs.EventLaws.{not-later-self}
 use Rattle.memory.proofs.Chains.{refuted, granted}
 
 -- places one after the other
@@ -54,14 +52,9 @@ gathered x v o p m xs vs os ps ms =
     ∙ swap x xs (v && (o && (p && m))) (vs && (os && (ps && ms)))
     ∙ and-assoc x (v && (o && (p && m))) (xs && (vs && (os && (ps && ms)))))
 
--- a message is not later than itself, and does not meet itself
-not-later : (m : Message) → later m m ≡ false
-unfolding later
-not-later m = rw (list-reflexive (key m))
-
+-- an entry is not later than itself and does not meet itself
 no-meeting : (e : Entry) → meet e e ≡ false
-unfolding equal
-no-meeting e = rw (list-reflexive (key (e .message))) (alike (isWaiting e))
+no-meeting e = ap (_&&_ (equal (e .message) (e .message))) (alike (isWaiting e)) ∙ and-false (equal (e .message) (e .message))
   where
     alike : (w : Bool) → cond w (not w) w ≡ false
     alike true = refl
@@ -69,7 +62,7 @@ no-meeting e = rw (list-reflexive (key (e .message))) (alike (isWaiting e))
 
 ordered-twice : (e : Entry) (es : List Entry) → ordered (e ∷ e ∷ es) ≡ ordered (e ∷ es)
 unfolding ordered
-ordered-twice e es = rw (not-later (e .message))
+ordered-twice e es = rw (not-later-self (e .message))
 
 none-meet-twice : (e : Entry) (es : List Entry) → noneMeet (e ∷ e ∷ es) ≡ noneMeet (e ∷ es)
 unfolding noneMeet

@@ -93,7 +93,7 @@ fn phase_number(phase: Phase) -> u8
     }
 }
 
-// Byte 5 and those from 40 on stay as they are.
+// Puts a header; byte 5 and those from 40 on stay as they are.
 pub fn write_header(memory: &mut [u8], header: Header)
     requires { ⌜ 40 ≤ length (now memory) ⌝ }
     ensures { λ _. ⌜ now (memory .exit) ≡ write 6 (headerBack header) (write 0 (headerFront header) (now (memory .entry))) ⌝ }
@@ -113,6 +113,7 @@ pub fn write_header(memory: &mut [u8], header: Header)
     write_counters(memory, 28, state);
 }
 
+// The numbers of one byte, before byte 5.
 fn write_front(memory: &mut [u8], settings: Settings, round: Round)
     requires { ⌜ 5 ≤ length (now memory) ⌝ }
     ensures { λ _. ⌜ now (memory .exit) ≡ write 0 (bytesOf 1 (settings .n) ++ (bytesOf 1 (settings .own) ++ (bytesOf 1 (settings .supplier) ++ (bytesOf 1 (phaseNumber (round .phase)) ++ bytesOf 1 (round .arrived))))) (now (memory .entry)) ⌝ }
@@ -135,6 +136,7 @@ fn write_counts(memory: &mut [u8], settings: Settings, queued: u16, outstanding:
     write16(memory, 14, stock);
 }
 
+// H, the agreed time and the note.
 fn write_times(memory: &mut [u8], last: u32, agreed: u32, note: u32)
     requires { ⌜ 28 ≤ length (now memory) ⌝ }
     ensures { λ _. ⌜ now (memory .exit) ≡ write 16 (bytesOf 4 last ++ (bytesOf 4 agreed ++ bytesOf 4 note)) (now (memory .entry)) ⌝ }

@@ -8,6 +8,7 @@ use buffer::read32;
 use buffer::write16;
 use buffer::write32;
 use frame::reader::kind_of;
+use frame::reader::read_lamp;
 use model::Message;
 use model::State;
 use model::kind_number;
@@ -39,6 +40,7 @@ pub fn read_sent(memory: &[u8], at: usize) -> Sent
     sent_of(&memory[at..end])
 }
 
+// The entry that a queue place's bytes hold.
 pub fn entry_of(place: &[u8]) -> Entry
     requires { ⌜ 64 ≤ length (now place) ⌝ }
     ensures { λ r. ⌜ r ≡ entryOf (now (place .entry)) ⌝ }
@@ -53,6 +55,7 @@ pub fn entry_of(place: &[u8]) -> Entry
     }
 }
 
+// What an outstanding place's bytes hold.
 pub fn sent_of(place: &[u8]) -> Sent
     requires { ⌜ 32 ≤ length (now place) ⌝ }
     ensures { λ r. ⌜ r ≡ sentOf (now (place .entry)) ⌝ }
@@ -70,7 +73,7 @@ fn message_of(place: &[u8]) -> Message
     ensures { λ r. ⌜ r ≡ messageOf (now (place .entry)) ⌝ }
 {
     let kind = kind_of(place[1], place[8], read16(place, 10));
-    let lamp = lamp_of(place);
+    let lamp = read_lamp(place, 12);
     Message {
         hour: read32(place, 4),
         from: place[2],
@@ -78,15 +81,6 @@ fn message_of(place: &[u8]) -> Message
         kind,
         lamp,
     }
-}
-
-fn lamp_of(place: &[u8]) -> [u8; 18]
-    requires { ⌜ 30 ≤ length (now place) ⌝ }
-    ensures { λ r. ⌜ r ≡ part (now (place .entry)) 12 18 ⌝ }
-{
-    let mut lamp = [0; 18];
-    copy(&mut lamp, 0, &place[12..30]);
-    lamp
 }
 
 pub fn state_of(bytes: &[u8]) -> State
@@ -151,6 +145,7 @@ pub fn write_sent(memory: &mut [u8], at: usize, sent: Sent)
     write16(memory, at + 30, 0);
 }
 
+// Puts the bytes that places of both kinds begin with: the mark and the message.
 fn write_message(memory: &mut [u8], at: usize, mark: u8, message: Message)
     requires { ⌜ at + 30 ≤ length (now memory) ⌝ }
     ensures { λ _. ⌜ now (memory .exit) ≡ write at (messageBytes mark message) (now (memory .entry)) ⌝ }

@@ -7,19 +7,18 @@ use crate::Sent;
 use crate::Settings;
 use frame::Frame;
 use frame::Sense;
+use frame::limits::numbers_below;
 use frame::writer::well_formed;
 use model::Message;
 use model::State;
 use model::kind_number;
 use model::order::Comparison;
 use model::order::compare;
-use model::origin_of;
 use routing::neighbours_of;
 ghost use mathlib.Core.Path.{_≡_};
 ghost use mathlib.Core.Bool.{cond, not};
 ghost use Prim.Native.Nat.{_<_};
 ghost use Rattle.model.specs.EventOrder.{different};
-ghost use Rattle.frame.specs.Limits.{numbersBelow};
 ghost use Rattle.memory.specs.Layout.{sizeFor};
 ghost use Rattle.memory.specs.Validity.{settingsValid, oneOfTwo, arrivalsPossible, roundPossible, pendingMark, processedMark, waitingMark, equal, isAfter, later, meet, frameIf, storable, isNoState, entryValid, sentValid};
 
@@ -30,6 +29,7 @@ pub fn size_for(settings: Settings) -> usize
     256 + 64 * (settings.q as usize) + 32 * (settings.u as usize)
 }
 
+// N 1 to 255, own number and supplier below N, H below nothing due, Q and U 1 to 512. N has one byte.
 pub fn settings_valid(settings: Settings) -> bool
     ensures { λ r. ⌜ r ≡ settingsValid settings ⌝ }
 {
@@ -57,7 +57,7 @@ pub fn settings_valid(settings: Settings) -> bool
     settings.u <= 512
 }
 
-// Whether so many messages of a round can have come in its phase.
+// Whether the arrivals can be those of the phase, by the number of arcs from and to.
 pub fn round_possible(settings: Settings, round: Round) -> bool
     requires { ⌜ settings .own < settings .n ⌝ }
     ensures { λ r. ⌜ r ≡ roundPossible settings round ⌝ }
@@ -97,6 +97,7 @@ fn arrivals_possible(arrived: u8, froms: usize, tos: usize, phase: Phase) -> boo
     }
 }
 
+// Whether the bits of two arrivals are some and not all.
 fn one_of_two(arrived: u8) -> bool
     ensures { λ r. ⌜ r ≡ oneOfTwo arrived ⌝ }
 {
@@ -106,6 +107,7 @@ fn one_of_two(arrived: u8) -> bool
     arrived <= 2
 }
 
+// What a queue place holds: a plain message not processed, one that is, a waiting cancel.
 pub fn is_pending(mark: Mark) -> bool
     ensures { λ r. ⌜ r ≡ pendingMark mark ⌝ }
 {
@@ -205,7 +207,7 @@ pub fn storable(settings: Settings, cancel: bool, message: Message) -> bool
     if !well_formed(frame_if(cancel, message)) {
         return false;
     }
-    if !numbers_below(settings.n, message) {
+    if !numbers_below(settings.n as u16, message) {
         return false;
     }
     message.hour <= settings.last
@@ -227,19 +229,7 @@ pub fn frame_if(cancel: bool, message: Message) -> Frame
     }
 }
 
-fn numbers_below(n: u8, message: Message) -> bool
-    ensures { λ r. ⌜ r ≡ numbersBelow n message ⌝ }
-{
-    let kind = message.kind;
-    if message.from >= n {
-        return false;
-    }
-    if message.to >= n {
-        return false;
-    }
-    origin_of(kind) < n
-}
-
+// Whether a queued message can be stored, is addressed here, and has a state saved only if it is processed.
 pub fn entry_valid(settings: Settings, entry: Entry) -> bool
     ensures { λ r. ⌜ r ≡ entryValid settings entry ⌝ }
 {
@@ -273,6 +263,7 @@ fn is_no_state(state: State) -> bool
     state.short == 0
 }
 
+// Whether an outstanding message can be stored, is no Restock and was sent from here.
 pub fn sent_valid(settings: Settings, sent: Sent) -> bool
     ensures { λ r. ⌜ r ≡ sentValid settings sent ⌝ }
 {

@@ -27,6 +27,7 @@ ghost use Rattle.memory.specs.Validity.{pendingMark, processedMark};
 ghost use Rattle.memory.specs.Soundness.{sameBytes, headerSound, sound};
 ghost use Rattle.memory.specs.Passes.{entryFits, queueSound, outstandingSound};
 
+// Whether lent memory is sound. To memory that is not, every call answers 10.
 pub fn sound(memory: &[u8]) -> bool
     ensures { λ r. ⌜ r ≡ sound (now (memory .entry)) ⌝ }
 {
@@ -49,6 +50,7 @@ pub fn sound(memory: &[u8]) -> bool
     outstanding_sound(memory, settings, at, header.outstanding as usize)
 }
 
+// Whether settings, the memory's length for them, phase and counts are possible.
 fn header_sound(memory: &[u8], header: Header) -> bool
     requires { ⌜ (256 ≤ length (now memory)) × (header ≡ headerAt (now memory)) ⌝ }
     ensures { λ r. ⌜ r ≡ headerSound (now (memory .entry)) ⌝ }
@@ -98,6 +100,7 @@ fn queue_sound(memory: &[u8], settings: Settings, count: usize) -> bool
     true
 }
 
+// One pass: each place in its one form, and what it holds valid.
 fn outstanding_sound(memory: &[u8], settings: Settings, start: usize, count: usize) -> bool
     requires { ⌜ start + 32 * count ≤ length (now memory) ⌝ }
     ensures { λ r. ⌜ r ≡ outstandingSound settings (now (memory .entry)) start count ⌝ }
@@ -139,6 +142,7 @@ fn entry_fits(settings: Settings, before: Entry, seen: bool, entry: Entry) -> bo
     !meet(before, entry)
 }
 
+// Whether a processed message stands behind an unprocessed plain one that was seen.
 fn processed_behind(seen: bool, mark: Mark) -> bool
     ensures { λ r. ⌜ r ≡ (seen && processedMark mark) ⌝ }
 {
@@ -148,6 +152,7 @@ fn processed_behind(seen: bool, mark: Mark) -> bool
     is_processed(mark)
 }
 
+// Whether an unprocessed plain message was seen, this place included.
 fn pending_seen(seen: bool, mark: Mark) -> bool
     ensures { λ r. ⌜ r ≡ (seen || pendingMark mark) ⌝ }
 {

@@ -15,25 +15,25 @@ storable-requires c κs = search needs
 
 returns : tie.Need-returns
 unfolding entryValid
-returns c = search (refuted, granted, left-fails, right-fails, both-hold, last-decides, fails, told, stored-as, holds, either-holds, other-decides, eq-eqb, ne-eqb) depth 9
+returns c = search (refuted, granted, left-fails, right-fails, both-hold, last-decides, fails, told, stored-as, other-decides, ne-eqb) depth 9
 
 returns-2 : tie.Need-returns-2
 unfolding entryValid
-returns-2 c = search (refuted, granted, left-fails, right-fails, both-hold, last-decides, fails, told, stored-as, holds, either-holds, other-decides, eq-eqb, ne-eqb) depth 9
+returns-2 c = search (refuted, granted, left-fails, right-fails, both-hold, last-decides, fails, told, ne-eqb) depth 9
 
 is-processed-requires : tie.Need-is-processed-requires
 is-processed-requires c κs = search needs
 
 returns-3 : tie.Need-returns-3
 unfolding entryValid
-returns-3 c = search (refuted, granted, left-fails, right-fails, both-hold, last-decides, fails, told, stored-as, holds, either-holds, other-decides, eq-eqb, ne-eqb) depth 9
+returns-3 c = search (refuted, granted, both-hold, last-decides, told, stored-as, holds, either-holds, eq-eqb) depth 9
 
 is-no-state-requires : tie.Need-is-no-state-requires
 is-no-state-requires c κs = search needs
 
 returns-4 : tie.Need-returns-4
 unfolding entryValid
-returns-4 c = search (refuted, granted, left-fails, right-fails, both-hold, last-decides, fails, told, stored-as, holds, either-holds, other-decides, eq-eqb, ne-eqb) depth 9
+returns-4 c = search (refuted, granted, both-hold, last-decides, told, stored-as, other-decides, eq-eqb) depth 9
 
 pub entry-valid-spec : {M : Type 1} → statement M
 entry-valid-spec =

@@ -15,7 +15,7 @@ returns-3 : tie.Need-returns-3
 returns-3 c = search (left-fails, right-fails, both-hold, last-decides, fails, eq-eqb, ne-eqb) depth 9
 
 returns-4 : tie.Need-returns-4
-returns-4 c = search (left-fails, right-fails, both-hold, last-decides, fails, eq-eqb, ne-eqb) depth 9
+returns-4 c = search (both-hold, last-decides, eq-eqb) depth 9
 
 pub is-no-state-spec : {M : Type 1} → statement M
 is-no-state-spec = tie.close (tie.spec returns returns-2 returns-3 returns-4)

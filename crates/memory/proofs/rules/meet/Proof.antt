@@ -8,13 +8,13 @@ equal-requires : tie.Need-equal-requires
 equal-requires c κs = search needs
 
 returns : tie.Need-returns
-returns c = search (refuted, granted, left-fails, right-fails, both-hold, last-decides, fails) depth 9
+returns c = search (refuted, granted, left-fails, right-fails, last-decides, fails) depth 9
 
 one-waits-requires : tie.Need-one-waits-requires
 one-waits-requires c κs = search needs
 
 returns-2 : tie.Need-returns-2
-returns-2 c = search (refuted, granted, left-fails, right-fails, both-hold, last-decides, fails) depth 9
+returns-2 c = search (granted, last-decides) depth 9
 
 pub meet-spec : {M : Type 1} → statement M
 meet-spec = tie.close (tie.spec equal-requires returns one-waits-requires returns-2)

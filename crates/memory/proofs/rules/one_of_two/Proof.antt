@@ -9,7 +9,7 @@ returns : tie.Need-returns
 returns c = search (left-fails, last-decides, fails, lt-leb, le-leb) depth 9
 
 returns-2 : tie.Need-returns-2
-returns-2 c = search (left-fails, last-decides, fails, lt-leb, le-leb) depth 9
+returns-2 c = search (last-decides, le-leb) depth 9
 
 pub one-of-two-spec : {M : Type 1} → statement M
 one-of-two-spec = tie.close (tie.spec returns returns-2)

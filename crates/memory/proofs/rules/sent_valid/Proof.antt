@@ -10,7 +10,7 @@ storable-requires c κs = search needs
 
 returns : tie.Need-returns
 unfolding sentValid
-returns c = search (refuted, granted, left-fails, right-fails, both-hold, last-decides, fails, above, within) depth 9
+returns c = search (refuted, granted, left-fails, right-fails, both-hold, last-decides, fails, above) depth 9
 
 kind-number-requires : tie.Need-kind-number-requires
 kind-number-requires c κs = search needs
@@ -21,7 +21,7 @@ returns-2 c = search (refuted, granted, left-fails, right-fails, both-hold, last
 
 returns-3 : tie.Need-returns-3
 unfolding sentValid
-returns-3 c = search (refuted, granted, left-fails, right-fails, both-hold, last-decides, fails, above, within) depth 9
+returns-3 c = search (granted, both-hold, last-decides, within) depth 9
 
 pub sent-valid-spec : {M : Type 1} → statement M
 sent-valid-spec =

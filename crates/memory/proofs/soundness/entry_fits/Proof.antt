@@ -11,28 +11,28 @@ entry-valid-requires c κs = search needs
 
 returns : tie.Need-returns
 unfolding entryFits
-returns c = search (refuted, granted, left-fails, right-fails, both-hold, last-decides, fails, struck, cleared, turned) depth 9
+returns c = search (refuted, granted, left-fails, right-fails, last-decides, fails, struck) depth 9
 
 later-requires : tie.Need-later-requires
 later-requires c κs = search needs
 
 returns-2 : tie.Need-returns-2
 unfolding entryFits
-returns-2 c = search (refuted, granted, left-fails, right-fails, both-hold, last-decides, fails, struck, cleared, turned) depth 9
+returns-2 c = search (refuted, granted, left-fails, right-fails, last-decides, fails, struck, cleared) depth 9
 
 processed-behind-requires : tie.Need-processed-behind-requires
 processed-behind-requires c κs = search needs
 
 returns-3 : tie.Need-returns-3
 unfolding entryFits
-returns-3 c = search (refuted, granted, left-fails, right-fails, both-hold, last-decides, fails, struck, cleared, turned) depth 9
+returns-3 c = search (refuted, granted, left-fails, right-fails, last-decides, fails, struck, cleared) depth 9
 
 meet-requires : tie.Need-meet-requires
 meet-requires c κs = search needs
 
 returns-4 : tie.Need-returns-4
 unfolding entryFits
-returns-4 c = search (refuted, granted, left-fails, right-fails, both-hold, last-decides, fails, struck, cleared, turned) depth 9
+returns-4 c = search (granted, last-decides, cleared, turned) depth 9
 
 pub entry-fits-spec : {M : Type 1} → statement M
 entry-fits-spec =

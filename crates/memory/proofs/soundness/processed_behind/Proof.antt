@@ -12,7 +12,7 @@ is-processed-requires : tie.Need-is-processed-requires
 is-processed-requires c κs = search needs
 
 returns-2 : tie.Need-returns-2
-returns-2 c = search (left-fails, last-decides, fails, not-true, not-false) depth 9
+returns-2 c = search (last-decides, not-true, not-false) depth 9
 
 pub processed-behind-spec : {M : Type 1} → statement M
 processed-behind-spec = tie.close (tie.spec returns is-processed-requires returns-2)
