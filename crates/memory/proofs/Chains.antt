@@ -3,7 +3,7 @@ use mathlib.Core.Path.{_≡_, refl, sym, _∙_}
 use mathlib.Core.Bool.{Bool, true, false, not, _&&_, _||_, and-false}
 use Prim.Native.Nat.{ℕ, _<_, _≤_}
 use native.Mathlib.Omega.{arith}
-use lib.Dec.{leb, ltb}
+use lib.Dec.{leb}
 use borrow.Author.Tests.{not-true, not-false, lt-leb, le-leb}
 
 -- a test that a function made, turned round or as it is
@@ -26,9 +26,6 @@ module _ (a b : Bool) where
 
   pub right-fails : b ≡ false → (a && b) ≡ false
   right-fails e = rw e (and-false a)
-
-  pub both-hold : a ≡ true → b ≡ true → (a && b) ≡ true
-  both-hold e f = rw (e, f)
 
   -- the last decides
   pub last-decides : {r : Bool} → a ≡ true → r ≡ b → r ≡ (a && b)
@@ -62,9 +59,6 @@ module _ {x n : ℕ} (k : ℕ) (e : x ≡ n) where
 
   pub within : x ≤ k → leb n k ≡ true
   within h = rw (← e) (le-leb x k h)
-
-  pub below : ltb x k ≡ ltb n k
-  below = rw e
 
 pub byte-within : (n : ℕ) → n < 256 → leb n 255 ≡ true
 byte-within n h = le-leb n 255 (omega arith)

@@ -1,6 +1,6 @@
 -- `memory::rules::meet` meets its contract.
 use borrow.Author.Needs.{needs}
-use Rattle.memory.proofs.Chains.{refuted, granted, left-fails, right-fails, both-hold, last-decides, fails}
+use Rattle.memory.proofs.Chains.{refuted, granted, left-fails, right-fails, last-decides, fails}
 use Rattle.memory.proofs.rules.meet.Statement.{statement}
 use Rattle.memory.proofs.rules.meet.Tie as tie
 

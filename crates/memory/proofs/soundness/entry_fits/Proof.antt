@@ -1,8 +1,8 @@
 -- `memory::soundness::entry_fits` meets its contract.
 use borrow.Author.Needs.{needs}
 use Rattle.memory.specs.Passes.{entryFits}
-use Rattle.memory.proofs.Chains.{refuted, granted, turned, struck, cleared, left-fails, right-fails, both-hold, last-decides, fails}
-use Rattle.memory.proofs.Chains.{refuted, granted, turned, struck, cleared, left-fails, right-fails, both-hold, last-decides, fails}
+use Rattle.memory.proofs.Chains.{refuted, granted, turned, struck, cleared, left-fails, right-fails, last-decides, fails}
+use Rattle.memory.proofs.Chains.{refuted, granted, turned, struck, cleared, left-fails, right-fails, last-decides, fails}
 use Rattle.memory.proofs.soundness.entry_fits.Statement.{statement}
 use Rattle.memory.proofs.soundness.entry_fits.Tie as tie
 
