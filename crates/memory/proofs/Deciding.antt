@@ -1,8 +1,8 @@
 -- The tests of validity, a law for each branch of the code that makes them where a chain of tests does not say it.
-use mathlib.Core.Path.{_≡_, refl, sym, _∙_, ap}
+use mathlib.Core.Path.{_≡_, _∙_, ap}
 use Prim.Native.Nat.{ℕ, _<_, _≤_}
 use native.Mathlib.Omega.{arith}
-use mathlib.Core.Bool.{Bool, true, false, cond, not}
+use mathlib.Core.Bool.{Bool, true, false, not}
 use lib.Dec.{leb}
 use mathlib.Core.List.{List}
 use lib.ListN.{length, getD}
@@ -16,12 +16,11 @@ use Rattle.frame.specs.declared.Sense.the-variants.{Plain, Cancel}
 use Rattle.memory.specs.Layout.{sizeFor}
 use Rattle.memory.specs.Codec.{headerAt}
 use Rattle.memory.specs.Soundness.{headerSound}
-use Rattle.memory.specs.Validity.{settingsValid, oneOfTwo, arrivalsPossible, roundPossible, waitingMark, isWaiting, frameIf, storable}
+use Rattle.memory.specs.Validity.{settingsValid, oneOfTwo, arrivalsPossible, roundPossible, isWaiting, frameIf, storable}
 use Rattle.memory.specs.declared.Header.{Header}
 use Rattle.memory.specs.declared.Settings.{Settings}
 use Rattle.memory.specs.declared.Round.{Round}
 use Rattle.memory.specs.declared.Entry.{Entry}
-use Rattle.memory.specs.declared.Mark.{Mark}
 use Rattle.memory.specs.declared.Phase.{Phase}
 use Rattle.memory.specs.declared.Phase.the-variants.{Idle, Counting, Stopped}
 use Rattle.memory.proofs.Chains.{refuted, granted, above, within}
@@ -54,13 +53,6 @@ pub round-decided : (s : Settings) (round : Round) {found : Neighbours} {r : Boo
     → r ≡ arrivalsPossible (round .arrived) (found .from .count) (found .to .count) (round .phase) → r ≡ roundPossible s round
 unfolding roundPossible neighboursOf
 round-decided s round own small p e = e ∙ rw (p, le-leb 1 (s .n) (omega arith), le-leb (s .n) 65535 (omega arith), lt-ltb (s .own) (s .n) own)
-
-module _ (a b : Mark) {x y : Bool} (p : x ≡ waitingMark a) (q : y ≡ waitingMark b) where
-  pub first-waits : x ≡ true → not y ≡ cond (waitingMark a) (not (waitingMark b)) (waitingMark b)
-  first-waits h = rw (← p, h, q)
-
-  pub second-waits : x ≡ false → y ≡ cond (waitingMark a) (not (waitingMark b)) (waitingMark b)
-  second-waits h = rw (← p, h, q)
 
 -- the form of a message as the frame that it was made into
 pub formed-as : (cancel : Bool) (m : Message) {f : Frame} {x : Bool} → f ≡ frameIf cancel m → x ≡ wellFormed f → x ≡ wellFormed (frameIf cancel m)

@@ -1,12 +1,11 @@
 -- The two passes over the used places: one test after the other at each place is the same as each test at all places.
 use mathlib.Core.Path.{_≡_, refl, sym, _∙_, ap}
-use Prim.Native.Nat.{ℕ, zero, suc, _+_, _-_, _*_, _<_, _≤_}
+use Prim.Native.Nat.{ℕ, zero, suc, _+_, _-_, _<_, _≤_}
 use native.Mathlib.Omega.{arith}
 use mathlib.Core.Bool.{Bool, true, false, not, cond, _&&_, _||_, and-assoc, and-false}
 use mathlib.Core.List.{List, [], _∷_, map}
-use lib.ListN.{length, take, drop}
+use lib.ListN.{take, drop}
 use Rattle.buffer.specs.Slice.{part}
-use Rattle.memory.specs.Layout.{headerSize, queueSize}
 use Rattle.memory.specs.Codec.{entryBytes, entryOf, sentBytes, sentOf, placesAt}
 use Rattle.memory.specs.Validity.{every, isPending, isProcessed, isWaiting, pendingMark, equal, later, ordered, processedFirst, meet, noneMeet, entryValid, sentValid}
 use Rattle.memory.specs.Soundness.{sameBytes, entryExact, sentExact}

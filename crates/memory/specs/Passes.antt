@@ -1,7 +1,7 @@
 -- What the internal functions of the test of soundness are proved to compute; no reader has to believe them.
 use Prim.Native.Nat.{ℕ}
 use mathlib.Core.Bool.{Bool, false, not, _&&_}
-use mathlib.Core.List.{List, [], _∷_}
+use mathlib.Core.List.{List}
 use Rattle.memory.specs.Layout.{headerSize, queueSize, outstandingSize}
 use Rattle.memory.specs.Codec.{entryOf, sentOf, placesAt}
 use Rattle.memory.specs.Validity.{every, isProcessed, later, ordered, processedFirst, meet, noneMeet, entryValid, sentValid}
