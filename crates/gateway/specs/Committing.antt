@@ -1,0 +1,33 @@
+-- Commit: the oldest processed event leaves the queue if its hour is below the agreed time.
+use Prim.Native.Nat.{ℕ}
+use mathlib.Core.Bool.{false, cond}
+use mathlib.Core.List.{List, [], _∷_, _++_}
+use lib.Dec.{leb, ltb}
+use lib.ListN.{length}
+use Rattle.model.specs.Doing.{after}
+use Rattle.frame.specs.Writing.{written}
+use Rattle.memory.specs.Records.{Gateway}
+use Rattle.memory.specs.Codec.{stateBytes}
+use Rattle.memory.specs.Validity.{isProcessed, frameIf}
+use Rattle.memory.specs.declared.Entry.{Entry}
+use Rattle.gateway.specs.Effects.{Outcome, refused, withQueue}
+use Rattle.gateway.specs.Undoing.{processedOf}
+use Rattle.gateway.specs.Taking.{withoutFirst}
+
+-- an event's record: its frame, then the state after it
+unfoldable pub recordOf : Entry → List ℕ
+recordOf e = written (frameIf false (e .message)) ++ stateBytes (after (e .before) (e .message .kind))
+
+-- committing the oldest of the processed events, if there is one; any event at the agreed hour stays, as a message of that
+-- very hour may still come
+abbrev pub commitOldest : ℕ → Gateway → List Entry → Outcome
+commitOldest room g [] = refused 6 g
+commitOldest room g (e ∷ es) =
+    cond (ltb (e .message .hour) (g .agreed))
+    (cond (leb (length (recordOf e)) room)
+    (record { number = 0; gateway = withQueue (withoutFirst isProcessed (g .queue)) g; output = recordOf e })
+    (refused 5 g))
+    (refused 6 g)
+
+unfoldable pub commit : ℕ → Gateway → Outcome
+commit room g = commitOldest room g (processedOf (g .queue))

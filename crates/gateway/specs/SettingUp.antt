@@ -1,0 +1,83 @@
+-- Set up: the settings, then each frame of the opening list in turn, then the queue places.
+use Prim.Native.Nat.{ℕ, zero, suc, _+_}
+use mathlib.Core.Bool.{Bool, true, false, cond, _&&_, _||_}
+use mathlib.Core.List.{List, [], _∷_, _++_}
+use lib.Dec.{leb, ltb, eqb}
+use lib.ListN.{length, getD, take, drop}
+use Rattle.model.specs.Messages.{kindNumber}
+use Rattle.model.specs.declared.Message.{Message}
+use Rattle.frame.specs.Layout.{wholeLength}
+use Rattle.frame.specs.Kinds.{senseNumber}
+use Rattle.frame.specs.Reasons.{reading, formNumber}
+use Rattle.frame.specs.Limits.{refusal}
+use Rattle.frame.specs.declared.Frame.{Frame}
+use Rattle.frame.specs.declared.Reading.{Reading}
+use Rattle.memory.specs.Layout.{sizeFor}
+use Rattle.memory.specs.Records.{Gateway}
+use Rattle.memory.specs.Validity.{settingsValid}
+use Rattle.memory.specs.declared.Settings.{Settings}
+use Rattle.memory.specs.declared.Entry.{Entry}
+use Rattle.gateway.specs.Undoing.{pendingEntry}
+use Rattle.gateway.specs.Taking.{upTo, behind}
+use Rattle.gateway.specs.Rounds.{idle}
+use Rattle.gateway.specs.declared.Opening.{Opening}
+
+-- the settings that set up was told
+abbrev pub settingsOf : Opening → Settings
+settingsOf o = record { n = o .n; own = o .own; supplier = o .supplier; last = o .last; q = o .q; u = o .u }
+
+-- every setting in its range, and memory of at least 256 + 64 × Q + 32 × U bytes; else 8
+unfoldable pub openingValid : Opening → ℕ → Bool
+openingValid o size = settingsValid (settingsOf o) && leb (o .stock) 65535 && leb (sizeFor (o .q) (o .u)) size
+
+-- the list cut into frames by the lengths of their maps; what is left too short is a cut frame. `turns` bounds their number
+unfoldable pub cutFrames : ℕ → List ℕ → List (List ℕ)
+cutFrames zero s = []
+cutFrames (suc turns) [] = []
+cutFrames (suc turns) (b ∷ s) = take (wholeLength b) (b ∷ s) ∷ cutFrames turns (drop (wholeLength b) (b ∷ s))
+
+-- a plain message of kind 0 or 3
+abbrev pub mayOpen : Frame → Bool
+mayOpen f = eqb (senseNumber (f .sense)) 0 && (eqb (kindNumber (f .message .kind)) 0 || eqb (kindNumber (f .message .kind)) 3)
+
+-- what a frame of the opening list is refused with, or 0: 1, then 2, then 3. Both kinds have from = to, so that a frame
+-- addressed here is from here too
+unfoldable pub openingRefusal : Settings → List ℕ → ℕ
+openingRefusal s bytes =
+    let r = reading bytes in
+    cond (eqb (formNumber (r .form)) 0 && mayOpen (r .frame)) (refusal (r .frame) (s .n) (s .own) (s .last)) 1
+
+-- the first refusal among the frames, or 0
+unfoldable pub firstRefusal : Settings → List (List ℕ) → ℕ
+unfolding openingRefusal
+firstRefusal s [] = 0
+firstRefusal s (f ∷ fs) = let rest = firstRefusal s fs in cond (eqb (openingRefusal s f) 0) rest (openingRefusal s f)
+
+-- the opening messages in event order, of equal ones the first first
+unfoldable pub queued : List Entry → List (List ℕ) → List Entry
+queued queue [] = queue
+queued queue (f ∷ fs) =
+    let m = reading f .frame .message in
+    queued (upTo m queue ++ (pendingEntry m ∷ behind m queue)) fs
+
+-- the gateway just set up: the opening stock, the other counters 0, agreed time 0, no round
+unfoldable pub opened : Opening → List (List ℕ) → Gateway
+unfolding queued
+opened o fs = record {
+  settings = settingsOf o;
+  state = record { stock = o .stock; failed = 0; fitted = 0; short = 0 };
+  agreed = 0;
+  round = idle;
+  queue = queued [] fs;
+  outstanding = [];
+}
+
+-- what set up is refused with, or 0: 8, each frame's 1, 2, 3 in turn, then 5
+unfoldable pub setUpRefusal : Opening → ℕ → List ℕ → ℕ
+unfolding openingValid firstRefusal cutFrames
+setUpRefusal o size list =
+    let fs = cutFrames (length list) list in
+    let refusal′ = firstRefusal (settingsOf o) fs in
+    cond (openingValid o size)
+    (cond (eqb refusal′ 0) (cond (leb (length fs) (o .q)) 0 5) refusal′)
+    8

@@ -1,0 +1,33 @@
+-- The places of the lent memory.
+--
+-- Header, 256 bytes (what is not named is never read or written):
+--   0 N   1 own number   2 supplier   3 phase   4 arrivals   6 Q (2)   8 U (2)   10 queue places used (2)
+--   12 outstanding places used (2)   14 stock (2)   16 H (4)   20 agreed time (4)   24 note or value (4)
+--   28 failed (4)   32 fitted (4)   36 short (4)
+-- Queue place, 64 bytes, and outstanding place, 32 bytes, begin alike:
+--   0 mark (queue: 0 pending, 1 processed, 2 waiting cancel; outstanding: 0 message, 1 cancel)   1 kind   2 from   3 to
+--   4 hour (4)   8 origin   9 zero   10 quantity (2)   12 lamp (18)
+-- Queue place, from 30: stock (2), failed (4), fitted (4), short (4) before the message, zero unless it is processed;
+--   44 zeros (20). Outstanding place, from 30: zeros (2).
+use Prim.Native.Nat.{ℕ, _+_, _*_}
+
+abbrev pub headerSize : ℕ
+headerSize = 256
+
+abbrev pub queueSize : ℕ
+queueSize = 64
+
+abbrev pub outstandingSize : ℕ
+outstandingSize = 32
+
+-- where queue place k begins
+abbrev pub queueAt : ℕ → ℕ
+queueAt k = headerSize + queueSize * k
+
+-- where outstanding place k begins, behind Q queue places
+abbrev pub outstandingAt : ℕ → ℕ → ℕ
+outstandingAt q k = headerSize + queueSize * q + outstandingSize * k
+
+-- how long the memory has to be
+abbrev pub sizeFor : ℕ → ℕ → ℕ
+sizeFor q u = headerSize + queueSize * q + outstandingSize * u
