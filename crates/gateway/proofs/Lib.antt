@@ -2,3 +2,5 @@
 pub mod Lists
 pub mod Searches
 pub mod Replies
+pub mod Changes
+pub mod Queues
