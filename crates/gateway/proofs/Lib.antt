@@ -4,3 +4,4 @@ pub mod Searches
 pub mod Replies
 pub mod Changes
 pub mod Queues
+pub mod Arrivals
