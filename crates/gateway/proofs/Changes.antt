@@ -147,14 +147,19 @@ module _ {s : Settings} {g : Gateway} (k : Standing s g) where
       send-all (with-state k (restored (g .state) events) (restored-ranged events h)) true (sentBack (siteOf (g .settings)) events)
       (λ m n. sent-back-good events h m (rw (k .same) at n))
 
+-- an effect for which there is room
+pub fitting : {s : Settings} (room : ℕ) (e : Effect) → Standing s (e .gateway) → fits room e ≡ true → Proper (e .gateway)
+unfolding fits
+fitting room e k h =
+    proper k
+    (leb-true (length (e .gateway .queue)) (e .gateway .settings .q) (search (and-left, and-right)))
+    (leb-true (length (e .gateway .outstanding)) (e .gateway .settings .u) (search (and-left, and-right)))
+
 -- a call that settles
 pub settle : {g : Gateway} → Proper g → (room : ℕ) (e : Effect) → Standing (g .settings) (e .gateway) → Proper (settled room g e .gateway)
-unfolding settled fits
+unfolding settled
 settle {g} p room e k = by-case (fits room e) refl
   where
     by-case : (b : Bool) → fits room e ≡ b → Proper (cond b (record { number = 0; gateway = e .gateway; output = bytesOfFrames (e .frames) }) (refused 5 g) .gateway)
-    by-case true h =
-        proper k
-        (leb-true (length (e .gateway .queue)) (e .gateway .settings .q) (search (and-left, and-right)))
-        (leb-true (length (e .gateway .outstanding)) (e .gateway .settings .u) (search (and-left, and-right)))
+    by-case true h = fitting room e k h
     by-case false h = p

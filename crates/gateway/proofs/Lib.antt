@@ -5,3 +5,6 @@ pub mod Replies
 pub mod Changes
 pub mod Queues
 pub mod Arrivals
+pub mod Takings
+pub mod Accepting
+pub mod Keeps
