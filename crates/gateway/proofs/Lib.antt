@@ -8,3 +8,4 @@ pub mod Arrivals
 pub mod Takings
 pub mod Accepting
 pub mod Keeps
+pub mod Openings
