@@ -50,7 +50,7 @@ module _ {A : Type 0} {R : A → A → Type 0} (f : A → A) (one : (x y : A) �
   map-behind (u ∷ us) vs (more g a) =
       more
       (λ y m. ⊎-elim
-        (λ n. g y (Memᴰ·append-left vs n))
-        (λ n. let r = map-member f vs n in subst (λ z. R u z) (sym (r .2)) (one u (r .0) (g (r .0) (Memᴰ·append-right us (r .1)))))
-        (List·Memᴰ·append-cases us m))
+      (λ n. g y (Memᴰ·append-left vs n))
+      (λ n. let r = map-member f vs n in subst (λ z. R u z) (sym (r .2)) (one u (r .0) (g (r .0) (Memᴰ·append-right us (r .1)))))
+      (List·Memᴰ·append-cases us m))
       (map-behind us vs a)

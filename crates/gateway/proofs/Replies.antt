@@ -21,7 +21,7 @@ use Rattle.memory.specs.Records.{siteOf}
 use Rattle.memory.specs.Validity.{frameIf, senseIf}
 use Rattle.memory.specs.declared.Settings.{Settings}
 use Rattle.memory.specs.declared.Sent.{Sent}
-use Rattle.memory.proofs.Ranges.{RangedState, RangedMessage}
+use Rattle.memory.specs.Ranges.{RangedState, RangedMessage}
 use Rattle.memory.proofs.Validated.{and-left, and-right, ValidSettings, Storable, ValidSent}
 
 -- a message that may be stored as it is, and whose numbers fit their fields

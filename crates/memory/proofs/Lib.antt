@@ -1,4 +1,12 @@
 -- Laws of a gateway's memory.
-pub mod Ranges
 pub mod EventLaws
 pub mod Validated
+pub mod Standing
+pub mod Places
+pub mod Fitting
+pub mod RoundTrips
+pub mod FromBytes
+pub mod FourWrites
+pub mod Holding
+pub mod SoundMemory
+pub mod Changes
