@@ -20,7 +20,7 @@ use Rattle.memory.specs.declared.Sent.{Sent}
 use Rattle.memory.specs.declared.Round.{Round}
 use Rattle.memory.specs.declared.Phase.{Phase}
 use Rattle.memory.specs.declared.Phase.the-variants.{Idle, Counting, Stopped}
-use Rattle.memory.proofs.Ranges.{Ranged, RangedState, RangedMessage, RangedEntry}
+use Rattle.memory.specs.Ranges.{Ranged, RangedState, RangedMessage, RangedEntry}
 use Rattle.memory.proofs.Validated.{and-left, and-right, ValidSettings, Storable, ValidEntry, ValidSent, MayStand, Valid, valid-facts, facts-valid}
 use Rattle.gateway.specs.Effects.{Effect, Outcome, fits, refused, settled, bytesOfFrames, withQueue, withState, withAgreed, withRound, withOutstanding, loweredIn, noted, sentOne, sentAll}
 use Rattle.gateway.specs.Undoing.{restored, sentBack, rolledBack}

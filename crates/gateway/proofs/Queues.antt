@@ -15,7 +15,7 @@ use Rattle.memory.specs.declared.Entry.{Entry}
 use Rattle.memory.specs.declared.Mark.{Mark}
 use Rattle.memory.specs.declared.Mark.the-variants.{Pending, Processed, Waiting}
 use Rattle.memory.proofs.EventLaws.{later-flip, not-later-self, same-equal}
-use Rattle.memory.proofs.Ranges.{RangedState, RangedMessage, RangedEntry}
+use Rattle.memory.specs.Ranges.{RangedState, RangedMessage, RangedEntry}
 use Rattle.memory.proofs.Validated.{Storable, ValidEntry, MayStand, first-of, rest-of}
 use Rattle.gateway.specs.Undoing.{pendingEntry, undone}
 use Rattle.gateway.specs.Taking.{any, withoutFirst, beforeLast, fromLast, tailOf, upTo, behind, isCancelOf, isPlain, waitingEntry}
