@@ -31,6 +31,11 @@ pub record Proper (g : Gateway) : Type 0 where
   pub valid : valid g ≡ true
   pub ranged : Ranged g
 
+-- a proper gateway with those settings, which no call changes
+pub record Kept (s : Settings) (g : Gateway) : Type 0 where
+  pub same : g .settings ≡ s
+  pub proper : Proper g
+
 pub record GoodEntry (s : Settings) (e : Entry) : Type 0 where
   pub valid : ValidEntry s e
   pub ranged : RangedEntry e
@@ -64,24 +69,27 @@ standing {g} p =
 
 module _ {s : Settings} {g : Gateway} (k : Standing s g) where
   -- with places enough it is proper
-  pub proper : length (g .queue) ≤ g .settings .q → length (g .outstanding) ≤ g .settings .u → Proper g
-  proper h l =
+  pub enough : length (g .queue) ≤ g .settings .q → length (g .outstanding) ≤ g .settings .u → Kept s g
+  enough h l =
       record {
-        valid = facts-valid g (record {
-          settings = rw (k .same) (k .settings);
-          queued = h;
-          sent = l;
-          round = rw (k .same) (k .round);
-          entries = λ e m. rw (k .same) (k .entries e m .valid);
-          order = k .order;
-          outstanding = λ x m. rw (k .same) (k .outstanding x m .valid);
-        });
-        ranged = record {
-          state = k .state;
-          agreed = k .agreed;
-          note = k .note;
-          queue = λ e m. k .entries e m .ranged;
-          outstanding = λ x m. k .outstanding x m .ranged;
+        same = k .same;
+        proper = record {
+          valid = facts-valid g (record {
+            settings = rw (k .same) (k .settings);
+            queued = h;
+            sent = l;
+            round = rw (k .same) (k .round);
+            entries = λ e m. rw (k .same) (k .entries e m .valid);
+            order = k .order;
+            outstanding = λ x m. rw (k .same) (k .outstanding x m .valid);
+          });
+          ranged = record {
+            state = k .state;
+            agreed = k .agreed;
+            note = k .note;
+            queue = λ e m. k .entries e m .ranged;
+            outstanding = λ x m. k .outstanding x m .ranged;
+          };
         };
       }
 
@@ -148,18 +156,22 @@ module _ {s : Settings} {g : Gateway} (k : Standing s g) where
       (λ m n. sent-back-good events h m (rw (k .same) at n))
 
 -- an effect for which there is room
-pub fitting : {s : Settings} (room : ℕ) (e : Effect) → Standing s (e .gateway) → fits room e ≡ true → Proper (e .gateway)
+pub fitting : {s : Settings} (room : ℕ) (e : Effect) → Standing s (e .gateway) → fits room e ≡ true → Kept s (e .gateway)
 unfolding fits
 fitting room e k h =
-    proper k
+    enough k
     (leb-true (length (e .gateway .queue)) (e .gateway .settings .q) (search (and-left, and-right)))
     (leb-true (length (e .gateway .outstanding)) (e .gateway .settings .u) (search (and-left, and-right)))
 
+-- a refusal changes nothing
+pub unchanged : {g : Gateway} → Proper g → Kept (g .settings) g
+unchanged p = record { same = refl; proper = p }
+
 -- a call that settles
-pub settle : {g : Gateway} → Proper g → (room : ℕ) (e : Effect) → Standing (g .settings) (e .gateway) → Proper (settled room g e .gateway)
+pub settle : {g : Gateway} → Proper g → (room : ℕ) (e : Effect) → Standing (g .settings) (e .gateway) → Kept (g .settings) (settled room g e .gateway)
 unfolding settled
 settle {g} p room e k = by-case (fits room e) refl
   where
-    by-case : (b : Bool) → fits room e ≡ b → Proper (cond b (record { number = 0; gateway = e .gateway; output = bytesOfFrames (e .frames) }) (refused 5 g) .gateway)
+    by-case : (b : Bool) → fits room e ≡ b → Kept (g .settings) (cond b (record { number = 0; gateway = e .gateway; output = bytesOfFrames (e .frames) }) (refused 5 g) .gateway)
     by-case true h = fitting room e k h
-    by-case false h = p
+    by-case false h = unchanged p

@@ -1,4 +1,4 @@
--- Every call leaves a proper gateway proper, whatever it answers: so no call answers 10 to what the calls left.
+-- Every call leaves a proper gateway proper, with its settings, whatever the call answers.
 use mathlib.Core.Path.{_≡_, refl, sym, _∙_, ap, subst}
 use mathlib.Core.Bool.{Bool, true, false, cond, not, _&&_, _||_, true≢false, false≢true}
 use mathlib.Core.List.{List, [], _∷_, List·Memᴰ·head as here}
@@ -22,6 +22,7 @@ use Rattle.frame.specs.declared.Sense.{Sense}
 use Rattle.frame.specs.declared.Sense.the-variants.{Plain, Cancel, Acknowledgment, CancelAcknowledgment}
 use Rattle.memory.specs.Records.{Gateway}
 use Rattle.memory.specs.Validity.{isProcessed, isWaiting}
+use Rattle.memory.specs.declared.Settings.{Settings}
 use Rattle.memory.specs.declared.Entry.{Entry}
 use Rattle.memory.proofs.Validated.{and-left, and-right, valid-facts}
 use Rattle.gateway.specs.Effects.{Effect, Outcome, bytesOfFrames, fits, refused, settled, withQueue, withOutstanding, withAgreed}
@@ -34,42 +35,42 @@ use Rattle.gateway.specs.Calls.{unlessBelow, takeByKind, takeBySense, ta
 use Rattle.gateway.proofs.Lists.{part-member, part-length}
 use Rattle.gateway.proofs.Searches.{without-first, pending-member}
 use Rattle.gateway.proofs.Replies.{Good}
-use Rattle.gateway.proofs.Changes.{Proper, Standing, standing, proper, with-agreed, with-outstanding, fitting, settle}
+use Rattle.gateway.proofs.Changes.{Proper, Standing, standing, Kept, enough, unchanged, with-agreed, with-outstanding, fitting, settle}
 use Rattle.gateway.proofs.Queues.{leave-out}
 use Rattle.gateway.proofs.Arrivals.{begun-stands, start-stands, lvt-stands}
 use Rattle.gateway.proofs.Accepting.{form-good, Accepted, not-refused, accepted-good, cancel-kind}
 use Rattle.gateway.proofs.Takings.{plain-stands, cancel-stands, done-stands, queue-of, requeue}
 
 -- either of two outcomes
-either : (b : Bool) (r s : Outcome) → (b ≡ true → Proper (r .gateway)) → (b ≡ false → Proper (s .gateway)) → Proper (cond b r s .gateway)
-either true r s h l = h refl
-either false r s h l = l refl
+either : {s : Settings} (b : Bool) (u v : Outcome) → (b ≡ true → Kept s (u .gateway)) → (b ≡ false → Kept s (v .gateway)) → Kept s (cond b u v .gateway)
+either true u v h l = h refl
+either false u v h l = l refl
 
 module _ {g : Gateway} (p : Proper g) where
-  pub plain-keeps : (room : ℕ) (m : Message) → Good (g .settings) false m → m .to ≡ g .settings .own → Proper (settled room g (takePlain m g) .gateway)
+  pub plain-keeps : (room : ℕ) (m : Message) → Good (g .settings) false m → m .to ≡ g .settings .own → Kept (g .settings) (settled room g (takePlain m g) .gateway)
   plain-keeps room m good to-here = settle p room (takePlain m g) (plain-stands p m good to-here)
 
-  pub cancel-keeps : (room : ℕ) (m : Message) → Good (g .settings) true m → m .to ≡ g .settings .own → Proper (settled room g (takeCancel m g) .gateway)
+  pub cancel-keeps : (room : ℕ) (m : Message) → Good (g .settings) true m → m .to ≡ g .settings .own → Kept (g .settings) (settled room g (takeCancel m g) .gateway)
   cancel-keeps room m good to-here = settle p room (takeCancel m g) (cancel-stands p m good to-here)
 
-  pub acknowledgment-keeps : (cancel : Bool) (m : Message) → Proper (takeAcknowledgment cancel m g .gateway)
+  pub acknowledgment-keeps : (cancel : Bool) (m : Message) → Kept (g .settings) (takeAcknowledgment cancel m g .gateway)
   unfolding takeAcknowledgment
   acknowledgment-keeps cancel m =
       either (any (isSent cancel m) (g .outstanding)) _ _
       (λ e.
         let v = valid-facts g (p .valid) in
         let fewer = without-first (isSent cancel m) (g .outstanding) in
-        proper
+        enough
         (with-outstanding (standing p) (withoutFirst (isSent cancel m) (g .outstanding)) (λ x n. standing p .outstanding x (part-member fewer n)))
         (v .queued) (omega (arith, part-length fewer, v .sent)))
-      (λ e. p)
+      (λ e. unchanged p)
 
-  pub start-keeps : (room : ℕ) → Proper (start room g .gateway)
+  pub start-keeps : (room : ℕ) → Kept (g .settings) (start room g .gateway)
   unfolding start
   start-keeps room =
-      either (eqb (g .settings .own) 0 && isIdle (g .round .phase)) _ _ (λ e. settle p room (begun g) (begun-stands (standing p))) (λ e. p)
+      either (eqb (g .settings .own) 0 && isIdle (g .round .phase)) _ _ (λ e. settle p room (begun g) (begun-stands (standing p))) (λ e. unchanged p)
 
-  pub take-start-keeps : (room sender : ℕ) → Proper (takeStart room sender g .gateway)
+  pub take-start-keeps : (room sender : ℕ) → Kept (g .settings) (takeStart room sender g .gateway)
   unfolding takeStart
   take-start-keeps room sender =
       let heard = from (g .settings .n) (g .settings .own) in
@@ -79,9 +80,9 @@ module _ {g : Gateway} (p : Proper g) where
         (start-stands (standing p) sender
           (and-left (isIdle (g .round .phase)) (awaited sender heard arrived) e)
           (and-right (isIdle (g .round .phase)) (awaited sender heard arrived) e)))
-      (λ e. p)
+      (λ e. unchanged p)
 
-  pub take-lvt-keeps : (room sender hour : ℕ) → Proper (takeLvt room sender hour g .gateway)
+  pub take-lvt-keeps : (room sender hour : ℕ) → Kept (g .settings) (takeLvt room sender hour g .gateway)
   unfolding takeLvt
   take-lvt-keeps room sender hour =
       let told = to (g .settings .n) (g .settings .own) in
@@ -91,35 +92,35 @@ module _ {g : Gateway} (p : Proper g) where
         (lvt-stands (standing p) sender hour
           (not-true (isIdle (g .round .phase)) (and-left (not (isIdle (g .round .phase))) (awaited sender told arrived) e))
           (and-right (not (isIdle (g .round .phase))) (awaited sender told arrived) e)))
-      (λ e. p)
+      (λ e. unchanged p)
 
-  pub take-update-keeps : (room sender hour : ℕ) → hour < 4294967296 → Proper (takeUpdate room sender hour g .gateway)
+  pub take-update-keeps : (room sender hour : ℕ) → hour < 4294967296 → Kept (g .settings) (takeUpdate room sender hour g .gateway)
   unfolding takeUpdate
   take-update-keeps room sender hour h =
       either (leb 1 (g .settings .own) && eqb sender ((g .settings .own - 1) / 2)) _ _
       (λ e. settle p room _ (with-agreed (standing p) (max (g .agreed) hour) (omega (arith, p .ranged .agreed))))
-      (λ e. p)
+      (λ e. unchanged p)
 
-  pub commit-keeps : (room : ℕ) → Proper (commit room g .gateway)
+  pub commit-keeps : (room : ℕ) → Kept (g .settings) (commit room g .gateway)
   unfolding commit
   commit-keeps room = oldest (processedOf (g .queue))
     where
-      left : Proper (withQueue (withoutFirst isProcessed (g .queue)) g)
+      left : Kept (g .settings) (withQueue (withoutFirst isProcessed (g .queue)) g)
       left =
           let v = valid-facts g (p .valid) in
           let fewer = without-first isProcessed (g .queue) in
-          proper (requeue (standing p) (withoutFirst isProcessed (g .queue)) (leave-out fewer (queue-of (standing p)))) (omega (arith, part-length fewer, v .queued)) (v .sent)
+          enough (requeue (standing p) (withoutFirst isProcessed (g .queue)) (leave-out fewer (queue-of (standing p)))) (omega (arith, part-length fewer, v .queued)) (v .sent)
 
-      oldest : (es : List Entry) → Proper (commitOldest room g es .gateway)
-      oldest [] = p
+      oldest : (es : List Entry) → Kept (g .settings) (commitOldest room g es .gateway)
+      oldest [] = unchanged p
       oldest (e ∷ es) =
-          either (ltb (e .message .hour) (g .agreed)) _ _ (λ h. either (leb (length (recordOf e)) room) _ _ (λ l. left) (λ l. p)) (λ h. p)
+          either (ltb (e .message .hour) (g .agreed)) _ _ (λ h. either (leb (length (recordOf e)) room) _ _ (λ l. left) (λ l. unchanged p)) (λ h. unchanged p)
 
   -- taking a frame
-  below-keeps : (hour : ℕ) (r : Outcome) → Proper (r .gateway) → Proper (unlessBelow hour g r .gateway)
-  below-keeps hour r h = either (ltb hour (g .agreed)) _ _ (λ e. p) (λ e. h)
+  below-keeps : (hour : ℕ) (r : Outcome) → Kept (g .settings) (r .gateway) → Kept (g .settings) (unlessBelow hour g r .gateway)
+  below-keeps hour r h = either (ltb hour (g .agreed)) _ _ (λ e. unchanged p) (λ e. h)
 
-  pub frame-keeps : (room : ℕ) (f : Frame) → Accepted (g .settings) f → Proper (takeFrame room f g .gateway)
+  pub frame-keeps : (room : ℕ) (f : Frame) → Accepted (g .settings) f → Kept (g .settings) (takeFrame room f g .gateway)
   unfolding takeFrame
   frame-keeps room f a = by-sense (f .sense) refl
     where
@@ -127,21 +128,21 @@ module _ {g : Gateway} (p : Proper g) where
       in-sense : {sense : Sense} → f .sense ≡ sense → Accepted (g .settings) (record { message = f .message; sense = sense })
       in-sense e = subst (λ (t : Sense). Accepted (g .settings) (record { message = f .message; sense = t })) e a
 
-      plain : f .sense ≡ Plain → kindNumber (f .message .kind) ≤ 3 → Proper (unlessBelow (f .message .hour) g (settled room g (takePlain (f .message) g)) .gateway)
+      plain : f .sense ≡ Plain → kindNumber (f .message .kind) ≤ 3 → Kept (g .settings) (unlessBelow (f .message .hour) g (settled room g (takePlain (f .message) g)) .gateway)
       plain e k =
           let t = accepted-good (g .settings) false (f .message) k (in-sense e) in
           below-keeps (f .message .hour) _ (plain-keeps room (f .message) (t .good) (t .here))
 
-      by-kind : f .sense ≡ Plain → (kind : Kind) → f .message .kind ≡ kind → Proper (takeByKind room (f .message) g kind .gateway)
+      by-kind : f .sense ≡ Plain → (kind : Kind) → f .message .kind ≡ kind → Kept (g .settings) (takeByKind room (f .message) g kind .gateway)
       by-kind e (Failure origin) i = plain e (rw i (omega arith))
       by-kind e (Request origin) i = plain e (rw i (omega arith))
       by-kind e (Delivery origin) i = plain e (rw i (omega arith))
-      by-kind e (Restock quantity) i = p
+      by-kind e (Restock quantity) i = unchanged p
       by-kind e Start i = take-start-keeps room (f .message .from)
       by-kind e Lvt i = below-keeps (f .message .hour) _ (take-lvt-keeps room (f .message .from) (f .message .hour))
       by-kind e Update i = take-update-keeps room (f .message .from) (f .message .hour) (omega (arith, a .ranged .hour))
 
-      by-sense : (sense : Sense) → f .sense ≡ sense → Proper (takeBySense room (f .message) g sense .gateway)
+      by-sense : (sense : Sense) → f .sense ≡ sense → Kept (g .settings) (takeBySense room (f .message) g sense .gateway)
       by-sense Plain e = by-kind e (f .message .kind) refl
       by-sense Cancel e =
           let t = accepted-good (g .settings) true (f .message) (cancel-kind (f .message) (in-sense e .form)) (in-sense e) in
@@ -150,7 +151,7 @@ module _ {g : Gateway} (p : Proper g) where
       by-sense CancelAcknowledgment e = acknowledgment-keeps true (f .message)
 
   -- taking a byte string
-  pub bytes-keep : OneToOne → (bytes : List ℕ) → Bytes bytes → (room : ℕ) → Proper (takeBytes bytes room g .gateway)
+  pub bytes-keep : OneToOne → (bytes : List ℕ) → Bytes bytes → (room : ℕ) → Kept (g .settings) (takeBytes bytes room g .gateway)
   unfolding takeBytes
   bytes-keep one bytes h room =
       let r = reading bytes in
@@ -164,26 +165,29 @@ module _ {g : Gateway} (p : Proper g) where
           ranged = one .readRanged bytes h good;
           passes = not-refused (g .settings) (r .frame) (eqb-true number 0 z);
         }))
-        (λ z. p))
-      (λ e. p)
+        (λ z. unchanged p))
+      (λ e. unchanged p)
 
 -- work, however many events it does
-pub work-keeps : (b room : ℕ) {g : Gateway} → Proper g → Proper (worked b room g .gateway)
+pub work-keeps : (b room : ℕ) {g : Gateway} → Proper g → Kept (g .settings) (worked b room g .gateway)
 unfolding worked
-work-keeps zero room p = p
+work-keeps zero room p = unchanged p
 work-keeps (suc b) room {g} p = next (pendingOf (g .queue)) refl (λ room′ h q. work-keeps b room′ q)
   where
     rest : Message → Progress
     rest m = onceMore (bytesOfFrames (done m g .frames)) (worked b (room - length (bytesOfFrames (done m g .frames))) (done m g .gateway))
 
-    one : (m : Message) (t : Bool) → fits room (done m g) ≡ t → Standing (g .settings) (done m g .gateway) → ((room′ : ℕ) (h : Gateway) → Proper h → Proper (worked b room′ h .gateway))
-        → Proper (cond t (rest m) (stopped 5 g) .gateway)
-    one m true e k again = again (room - length (bytesOfFrames (done m g .frames))) (done m g .gateway) (fitting room (done m g) k e)
-    one m false e k again = p
+    one : (m : Message) (t : Bool) → fits room (done m g) ≡ t → Standing (g .settings) (done m g .gateway) → ((room′ : ℕ) (h : Gateway) → Proper h → Kept (h .settings) (worked b room′ h .gateway))
+        → Kept (g .settings) (cond t (rest m) (stopped 5 g) .gateway)
+    one m true e k again =
+        let now = fitting room (done m g) k e in
+        let then = again (room - length (bytesOfFrames (done m g .frames))) (done m g .gateway) (now .proper) in
+        record { same = then .same ∙ now .same; proper = then .proper }
+    one m false e k again = unchanged p
 
-    next : (ms : List Message) → pendingOf (g .queue) ≡ ms → ((room′ : ℕ) (h : Gateway) → Proper h → Proper (worked b room′ h .gateway))
-        → Proper (workedBy ms (stopped 6 g) (λ m. cond (fits room (done m g)) (rest m) (stopped 5 g)) .gateway)
-    next [] e again = p
+    next : (ms : List Message) → pendingOf (g .queue) ≡ ms → ((room′ : ℕ) (h : Gateway) → Proper h → Kept (h .settings) (worked b room′ h .gateway))
+        → Kept (g .settings) (workedBy ms (stopped 6 g) (λ m. cond (fits room (done m g)) (rest m) (stopped 5 g)) .gateway)
+    next [] e again = unchanged p
     next (m ∷ ms) e again =
         let r = pending-member (g .queue) m (rw e (here refl)) in
         let good = standing p .entries (r .0) (r .1) in

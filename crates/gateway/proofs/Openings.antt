@@ -33,7 +33,7 @@ use Rattle.gateway.specs.Undoing.{pendingEntry}
 use Rattle.gateway.specs.SettingUp.{settingsOf, openingValid, cutFrames, mayOpen, openingRefusal, firstRefusal, queued, opened, setUpRefusal}
 use Rattle.gateway.specs.declared.Opening.{Opening}
 use Rattle.gateway.proofs.Searches.{cut-again}
-use Rattle.gateway.proofs.Changes.{Proper, Standing, proper}
+use Rattle.gateway.proofs.Changes.{Kept, Standing, enough}
 use Rattle.gateway.proofs.Queues.{GoodQueue, pending-good, opening-enters}
 use Rattle.gateway.proofs.Accepting.{Accepted, Taken, form-good, not-refused, accepted-good}
 
@@ -154,7 +154,7 @@ opening-passes o size list = by-case (openingValid o size) refl (eqb number 0) r
     by-case true e false i c j z = absurd (eqb-false number 0 i z)
     by-case false e b i c j z = absurd (omega arith)
 
-pub opened-keeps : OneToOne → (o : Opening) (size : ℕ) (list : List ℕ) → Bytes list → setUpRefusal o size list ≡ 0 → Proper (opened o (cutFrames (length list) list))
+pub opened-keeps : OneToOne → (o : Opening) (size : ℕ) (list : List ℕ) → Bytes list → setUpRefusal o size list ≡ 0 → Kept (settingsOf o) (opened o (cutFrames (length list) list))
 unfolding opened roundPossible openingValid
 opened-keeps one o size list bytes h =
     let fs = cutFrames (length list) list in
@@ -162,7 +162,7 @@ opened-keeps one o size list bytes h =
     let q = queued-good {s = settingsOf o} [] (record { entries = λ e m. absurd (List·Memᴰ·not-nil m); order = none }) (λ e m. absurd (List·Memᴰ·not-nil m)) fs
         (λ f m. opening-taken one (settingsOf o) f (cut-bytes (length list) list bytes f m) (none-refused (settingsOf o) fs (passes .frames) f m)) in
     let valid : openingValid o size ≡ true = passes .valid in
-    proper {s = settingsOf o}
+    enough
     (record {
       same = refl;
       settings = settings-facts (settingsOf o) (search (and-left, and-right));

@@ -26,7 +26,7 @@ use Rattle.gateway.specs.Committing.{recordOf, commitOldest, commit}
 use Rattle.gateway.proofs.Lists.{part-member, part-length}
 use Rattle.gateway.proofs.Searches.{without-first, cut-again, processed-member, pending-member}
 use Rattle.gateway.proofs.Replies.{Good, GoodSent, sent-good, after-ranged}
-use Rattle.gateway.proofs.Changes.{Proper, GoodEntry, Standing, standing, proper, with-queue, with-state, with-agreed, with-outstanding, send-all, roll-back, settle}
+use Rattle.gateway.proofs.Changes.{Proper, GoodEntry, Standing, standing, with-queue, with-state, with-agreed, with-outstanding, send-all, roll-back, settle}
 use Rattle.gateway.proofs.Queues.{GoodQueue, leave-out, pending-good, waiting-good, plain-enters, cancel-enters, cancel-meets, found-member, next-good}
 use Rattle.gateway.proofs.Arrivals.{begun-stands, start-stands, lvt-stands}
 
