@@ -53,6 +53,15 @@ not-refused s f = by-case (numbersBelow (s .n) (f .message) && eqb (addressee (f
     by-case true e false h z = absurd (omega arith)
     by-case false e b h z = absurd (omega arith)
 
+pub refusal-few : (f : Frame) (n own last : ℕ) → refusal f n own last < 10
+unfolding refusal
+refusal-few f n own last = by-case (numbersBelow n (f .message) && eqb (addressee (f .sense) (f .message)) own) (hourAllowed last (f .message))
+  where
+    by-case : (a b : Bool) → cond a (cond b 0 3) 2 < 10
+    by-case true true = omega arith
+    by-case true false = omega arith
+    by-case false b = omega arith
+
 -- a frame that is well formed, fits its fields and is not refused
 pub record Accepted (s : Settings) (f : Frame) : Type 0 where
   pub form : wellFormed f ≡ true

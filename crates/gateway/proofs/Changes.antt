@@ -163,15 +163,23 @@ fitting room e k h =
     (leb-true (length (e .gateway .queue)) (e .gateway .settings .q) (search (and-left, and-right)))
     (leb-true (length (e .gateway .outstanding)) (e .gateway .settings .u) (search (and-left, and-right)))
 
+-- how a call ends: with a proper gateway of those settings, and with no 10
+pub record Ends (s : Settings) (r : Outcome) : Type 0 where
+  pub gateway : Kept s (r .gateway)
+  pub number : r .number < 10
+
 -- a refusal changes nothing
 pub unchanged : {g : Gateway} → Proper g → Kept (g .settings) g
 unchanged p = record { same = refl; proper = p }
 
+pub refuse : {g : Gateway} → Proper g → (number : ℕ) → number < 10 → Ends (g .settings) (refused number g)
+refuse p number h = record { gateway = unchanged p; number = h }
+
 -- a call that settles
-pub settle : {g : Gateway} → Proper g → (room : ℕ) (e : Effect) → Standing (g .settings) (e .gateway) → Kept (g .settings) (settled room g e .gateway)
+pub settle : {g : Gateway} → Proper g → (room : ℕ) (e : Effect) → Standing (g .settings) (e .gateway) → Ends (g .settings) (settled room g e)
 unfolding settled
 settle {g} p room e k = by-case (fits room e) refl
   where
-    by-case : (b : Bool) → fits room e ≡ b → Kept (g .settings) (cond b (record { number = 0; gateway = e .gateway; output = bytesOfFrames (e .frames) }) (refused 5 g) .gateway)
-    by-case true h = fitting room e k h
-    by-case false h = unchanged p
+    by-case : (b : Bool) → fits room e ≡ b → Ends (g .settings) (cond b (record { number = 0; gateway = e .gateway; output = bytesOfFrames (e .frames) }) (refused 5 g))
+    by-case true h = record { gateway = fitting room e k h; number = omega arith }
+    by-case false h = refuse p 5 (omega arith)

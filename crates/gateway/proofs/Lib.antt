@@ -1,4 +1,4 @@
--- Every call leaves a valid gateway valid.
+-- Laws of the gateway's calls: every call leaves a valid gateway valid.
 pub mod Lists
 pub mod Searches
 pub mod Replies
@@ -9,3 +9,4 @@ pub mod Takings
 pub mod Accepting
 pub mod Keeps
 pub mod Openings
+pub mod SoundAfter

@@ -154,6 +154,12 @@ opening-passes o size list = by-case (openingValid o size) refl (eqb number 0) r
     by-case true e false i c j z = absurd (eqb-false number 0 i z)
     by-case false e b i c j z = absurd (omega arith)
 
+pub opening-long : (o : Opening) (size : ℕ) (list : List ℕ) → setUpRefusal o size list ≡ 0 → sizeFor (o .q) (o .u) ≤ size
+unfolding openingValid
+opening-long o size list h =
+    let valid : openingValid o size ≡ true = opening-passes o size list h .valid in
+    leb-true (sizeFor (o .q) (o .u)) size (search (and-left, and-right))
+
 pub opened-keeps : OneToOne → (o : Opening) (size : ℕ) (list : List ℕ) → Bytes list → setUpRefusal o size list ≡ 0 → Kept (settingsOf o) (opened o (cutFrames (length list) list))
 unfolding opened roundPossible openingValid
 opened-keeps one o size list bytes h =
