@@ -10,3 +10,4 @@ pub mod Accepting
 pub mod Keeps
 pub mod Openings
 pub mod SoundAfter
+pub mod Table
