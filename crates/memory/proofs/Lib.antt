@@ -1,4 +1,6 @@
 -- Laws of a gateway's memory.
+pub mod Stored
+pub mod Lamps
 pub mod EventLaws
 pub mod Validated
 pub mod Standing
@@ -8,5 +10,6 @@ pub mod RoundTrips
 pub mod FromBytes
 pub mod FourWrites
 pub mod Holding
+pub mod StillBytes
 pub mod SoundMemory
 pub mod Changes

@@ -2,17 +2,17 @@
 -- same, and a change of the list is a write of the places that change.
 use mathlib.Core.Path.{_≡_, refl, sym, _∙_, ap, ap₂}
 use Prim.Native.Nat.{ℕ, zero, suc, _+_, _*_, _≤_}
-use native.Mathlib.Nat.{add-assoc, add-zero, zero-add, suc-add, mul-zero}
+use native.Mathlib.Nat.{add-zero, zero-add, suc-add, mul-zero}
 use native.Mathlib.Omega.{arith}
 use mathlib.Core.Logic.{⊎-elim}
 use mathlib.Core.List.{List, [], _∷_, _++_, append-assoc, append-nil, List·Memᴰ·head as here, List·Memᴰ·tail as there, List·Memᴰ·not-nil, List·Memᴰ·cases-cons}
 use lib.ListN.{length, length-append}
 use Rattle.routing.specs.Arcs.{_∈_}
 use Rattle.buffer.specs.Slice.{part, write}
-use Rattle.buffer.proofs.Writes.{part-nil, length-part}
+use Rattle.buffer.proofs.Writes.{part-nil}
 use Rattle.memory.specs.Codec.{placesAt, placesBytes}
 use Rattle.memory.specs.Claims.{Apart}
-use Rattle.memory.proofs.Standing.{Stands, part-add, part-within, part-apart, stands-front, stands-back, stands-append, write-behind, write-replaced, write-removed, write-inserted}
+use Rattle.memory.proofs.Standing.{Stands, part-add, part-within, part-apart, stands-front, stands-back, write-past-front, write-replaced, write-removed, write-inserted}
 
 -- every element has the property
 pub data All {A : Type 0} (p : A → Type 0) : List A → Type 0 where
@@ -104,7 +104,7 @@ module _ {A : Type 0} (f : A → List ℕ) (size : ℕ) where
 -- what is stored and read again
 module _ {A : Type 0} (f : A → List ℕ) (g : List ℕ → A) (size : ℕ) where
   -- x takes one place and is read back from it
-  pub record Stored (x : A) : Type 0 where
+  pub record ReadBack (x : A) : Type 0 where
     pub sized : length (f x) ≡ size
     pub back : g (f x) ≡ x
 
@@ -112,7 +112,7 @@ module _ {A : Type 0} (f : A → List ℕ) (g : List ℕ → A) (size : ℕ) whe
   abbrev pub Exact : List ℕ → Type 0
   Exact b = f (g b) ≡ b
 
-  module _ (x : A) (xs : List A) (m : List ℕ) (at : ℕ) (p : Stored x) (s : Stands at (placesBytes f (x ∷ xs)) m) where
+  module _ (x : A) (xs : List A) (m : List ℕ) (at : ℕ) (p : ReadBack x) (s : Stands at (placesBytes f (x ∷ xs)) m) where
     first-place : part m at size ≡ f x
     unfolding placesBytes
     first-place = rw (p .sized) at (stands-front at (f x) (placesBytes f xs) m s)
@@ -121,13 +121,13 @@ module _ {A : Type 0} (f : A → List ℕ) (g : List ℕ → A) (size : ℕ) whe
     unfolding placesBytes
     further-places = rw (p .sized) at (stands-back at (f x) (placesBytes f xs) m s)
 
-  pub read-stored : {xs : List A} (m : List ℕ) (at : ℕ) → All Stored xs → Stands at (placesBytes f xs) m → placesAt g size m at (length xs) ≡ xs
+  pub read-stored : {xs : List A} (m : List ℕ) (at : ℕ) → All ReadBack xs → Stands at (placesBytes f xs) m → placesAt g size m at (length xs) ≡ xs
   unfolding placesAt
   read-stored m at nil s = refl
   read-stored m at (cons {x = x} {xs = xs} p ps) s =
       ap₂ _∷_ (ap g (first-place x xs m at p s) ∙ p .back) (read-stored m (at + size) ps (further-places x xs m at p s))
 
-  pub stored-exact : {xs : List A} (m : List ℕ) (at : ℕ) → All Stored xs → Stands at (placesBytes f xs) m → All Exact (placesAt (λ b. b) size m at (length xs))
+  pub stored-exact : {xs : List A} (m : List ℕ) (at : ℕ) → All ReadBack xs → Stands at (placesBytes f xs) m → All Exact (placesAt (λ b. b) size m at (length xs))
   unfolding placesAt
   stored-exact m at nil s = nil
   stored-exact m at (cons {x = x} {xs = xs} p ps) s =
@@ -148,7 +148,7 @@ module _ {A : Type 0} (f : A → List ℕ) (size at : ℕ) (m : List ℕ) where
   append-places xs ys ps qs fits stand =
       let l = length-places f size ps in
       let k = length-places f size qs in
-      rw (places-append f xs ys, ← l) (write-behind at (placesBytes f xs) (placesBytes f ys) m (rw (l, k) (omega arith)) stand)
+      rw (places-append f xs ys, ← l) (write-past-front at (placesBytes f xs) (placesBytes f ys) m (rw (l, k) (omega arith)) stand)
 
   module _ (xs ys zs : List A) (sized : All (Sized f size) (xs ++ (ys ++ zs))) (fits : at + size * (length xs + length ys + length zs) ≤ length m) where
     before : length (placesBytes f xs) ≡ size * length xs
