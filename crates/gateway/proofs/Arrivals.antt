@@ -1,29 +1,26 @@
 -- The round at a gateway after each of its steps: phase and arrivals are possible, and the note fits its field.
-use mathlib.Core.Path.{_≡_, refl, sym, _∙_, ap, subst}
+use mathlib.Core.Path.{_≡_, refl, ap}
 use mathlib.Core.Bool.{Bool, true, false, cond, not, _&&_, _||_, true≢false, false≢true}
 use mathlib.Core.List.{List, [], _∷_}
-use Prim.Native.Nat.{ℕ, zero, suc, _+_, _*_, _≤_, _<_, min, max}
+use Prim.Native.Nat.{ℕ, zero, suc, _+_, _*_, _≤_, _<_, min}
 use native.Mathlib.Omega.{arith}
-use lib.Dec.{leb, ltb, eqb}
+use lib.Dec.{leb, eqb}
 use lib.ListN.{length}
-use borrow.Author.Tests.{leb-true, eqb-true, eqb-false, not-true, le-leb, eq-eqb}
-use Rattle.routing.specs.Arcs.{from, to, mid0, mid1}
+use borrow.Author.Tests.{leb-true, eqb-true, eqb-false, not-true, le-leb}
+use Rattle.routing.specs.Arcs.{from, to}
 use Rattle.routing.proofs.Shape.{From, To}
 use Rattle.routing.proofs.Theorems.{from-case, to-case, laws}
 use Rattle.model.specs.declared.Kind.the-variants.{Start, Lvt, Update}
 use Rattle.frame.specs.Limits.{nothingDue}
 use Rattle.memory.specs.Records.{Gateway}
-use Rattle.memory.specs.Validity.{oneOfTwo, arrivalsPossible, roundPossible, isProcessed}
-use Rattle.memory.specs.declared.Settings.{Settings}
-use Rattle.memory.specs.declared.Entry.{Entry}
+use Rattle.memory.specs.Validity.{oneOfTwo, arrivalsPossible, roundPossible}
 use Rattle.memory.specs.declared.Sent.{Sent}
-use Rattle.memory.specs.declared.Round.{Round}
 use Rattle.memory.specs.declared.Phase.{Phase}
 use Rattle.memory.specs.declared.Phase.the-variants.{Idle, Counting, Stopped}
-use Rattle.memory.proofs.Validated.{and-left, and-right, and-both, ValidSettings}
+use Rattle.memory.proofs.Validated.{and-left, and-right, and-both}
 use Rattle.gateway.specs.Effects.{Effect, withAgreed, withRound}
-use Rattle.gateway.specs.Rounds.{leastOutstanding, leastQueued, frames, children, idle, valueAt, finished, begun, isIdle, bitOf, allBits, stands, awaited, oneStart, valueIn, oneLvt}
-use Rattle.gateway.proofs.Changes.{Standing, with-round, with-agreed}
+use Rattle.gateway.specs.Rounds.{leastOutstanding, frames, children, idle, valueAt, finished, begun, isIdle, bitOf, allBits, stands, awaited, oneStart, valueIn, oneLvt}
+use Rattle.gateway.proofs.Maintaining.{Standing, with-round, with-agreed}
 
 -- a gateway has at most two arcs each way
 few-from : {N A B i : ℕ} {l : List ℕ} → From N A B i l → length l ≤ 2
@@ -136,8 +133,8 @@ module _ {g : Gateway} (k : Standing (g .settings) g) where
     where
       by-case : (b : Bool)
           → Standing (g .settings) (cond {A = Effect} b
-            (record { gateway = withAgreed value (withRound idle g); frames = frames Update value (g .settings .own) (children (g .settings)) })
-            (record { gateway = withRound idle g; frames = frames Lvt value (g .settings .own) (from (g .settings .n) (g .settings .own)) }) .gateway)
+          (record { gateway = withAgreed value (withRound idle g); frames = frames Update value (g .settings .own) (children (g .settings)) })
+          (record { gateway = withRound idle g; frames = frames Lvt value (g .settings .own) (from (g .settings .n) (g .settings .own)) }) .gateway)
       by-case true = with-agreed (with-round k idle refl (omega arith)) value h
       by-case false = with-round k idle refl (omega arith)
 
@@ -150,8 +147,8 @@ module _ {g : Gateway} (k : Standing (g .settings) g) where
 
       by-case : (b : Bool) → eqb (g .settings .own + 1) (g .settings .n) ≡ b
           → Standing (g .settings) (cond {A = Effect} b
-            (finished (valueAt note g) g)
-            (record { gateway = withRound (record { phase = Counting; arrived = 0; note = note }) g; frames = frames Start 0 (g .settings .own) (to (g .settings .n) (g .settings .own)) }) .gateway)
+          (finished (valueAt note g) g)
+          (record { gateway = withRound (record { phase = Counting; arrived = 0; note = note }) g; frames = frames Start 0 (g .settings .own) (to (g .settings .n) (g .settings .own)) }) .gateway)
       by-case true h = finished-stands (valueAt note g) (omega (arith, outstanding-most (g .outstanding)))
       by-case false h =
           with-round k (record { phase = Counting; arrived = 0; note = note }) (le-leb 1 (length (to (g .settings .n) (g .settings .own))) (some-told h))

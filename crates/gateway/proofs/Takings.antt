@@ -1,34 +1,22 @@
 -- Taking a plain message, a cancel or an acknowledgment, the round's frames, commit and work: each leaves a proper gateway.
-use mathlib.Core.Path.{_≡_, refl, sym, _∙_, ap, subst}
-use mathlib.Core.Bool.{Bool, true, false, cond, not, _&&_, true≢false, false≢true}
-use mathlib.Core.List.{List, [], _∷_, _++_, map, List·Memᴰ·head as here, Memᴰ·append-right}
-use Prim.Native.Nat.{ℕ, zero, suc, _+_, _-_, _/_, _≤_, _<_, max}
-use native.Mathlib.Omega.{arith}
-use lib.Dec.{leb, ltb, eqb}
-use lib.ListN.{length}
-use borrow.Author.Tests.{not-true}
-use Rattle.routing.specs.Arcs.{_∈_, from, to}
+use mathlib.Core.Path.{_≡_, refl}
+use mathlib.Core.Bool.{Bool, true, false, cond}
+use mathlib.Core.List.{List, [], _∷_, _++_, map, Memᴰ·append-right}
+use Rattle.routing.specs.Arcs.{to}
 use Rattle.model.specs.Doing.{after, sent}
 use Rattle.model.specs.declared.Message.{Message}
-use Rattle.model.specs.declared.Kind.the-variants.{Update}
 use Rattle.memory.specs.Records.{Gateway, siteOf}
-use Rattle.memory.specs.Validity.{isProcessed}
 use Rattle.memory.specs.declared.Settings.{Settings}
 use Rattle.memory.specs.declared.Entry.{Entry}
-use Rattle.memory.specs.declared.Sent.{Sent}
-use Rattle.memory.proofs.Validated.{and-left, and-right, valid-facts}
-use Rattle.gateway.specs.Effects.{Effect, Outcome, bytesOfFrames, fits, refused, settled, withQueue, withOutstanding, withAgreed, sentAll, framesFor}
+use Rattle.gateway.specs.Effects.{Effect, withQueue, framesFor}
 use Rattle.gateway.specs.Undoing.{processedOf, pendingEntry, undone, sentBack, rolledBack}
-use Rattle.gateway.specs.Taking.{any, withoutFirst, beforeLast, fromLast, tailOf, upTo, behind, acknowledgment, isCancelOf, isPlain, takePlain, waitingEntry, takeCancel, isSent, takeAcknowledgment}
-use Rattle.gateway.specs.Working.{pendingOf, processedNext, done, Progress, stopped, onceMore, workedBy, worked}
-use Rattle.gateway.specs.Rounds.{begun, isIdle, start, bitOf, awaited, oneStart, takeStart, oneLvt, takeLvt, valueIn, frames, children, takeUpdate}
-use Rattle.gateway.specs.Committing.{recordOf, commitOldest, commit}
-use Rattle.gateway.proofs.Lists.{part-member, part-length}
-use Rattle.gateway.proofs.Searches.{without-first, cut-again, processed-member, pending-member}
-use Rattle.gateway.proofs.Replies.{Good, GoodSent, sent-good, after-ranged}
-use Rattle.gateway.proofs.Changes.{Proper, GoodEntry, Standing, standing, with-queue, with-state, with-agreed, with-outstanding, send-all, roll-back, settle}
+use Rattle.gateway.specs.Taking.{any, withoutFirst, beforeLast, fromLast, tailOf, upTo, behind, acknowledgment, isCancelOf, isPlain, takePlain, waitingEntry, takeCancel}
+use Rattle.gateway.specs.Working.{processedNext, done}
+use Rattle.gateway.specs.Rounds.{frames}
+use Rattle.gateway.proofs.Searches.{without-first, cut-again, processed-member}
+use Rattle.gateway.proofs.Replies.{Good, sent-good, after-ranged}
+use Rattle.gateway.proofs.Maintaining.{Proper, Standing, standing, with-queue, with-state, send-all, roll-back}
 use Rattle.gateway.proofs.Queues.{GoodQueue, leave-out, pending-good, waiting-good, plain-enters, cancel-enters, cancel-meets, found-member, next-good}
-use Rattle.gateway.proofs.Arrivals.{begun-stands, start-stands, lvt-stands}
 
 -- the queue of a gateway
 pub queue-of : {s : Settings} {g : Gateway} → Standing s g → GoodQueue s (g .queue)
@@ -50,8 +38,8 @@ module _ {g : Gateway} (p : Proper g) where
 
       by-case : (b : Bool) → any (isCancelOf m) (g .queue) ≡ b
           → Standing (g .settings) (cond {A = Effect} b
-            (record { gateway = withQueue (withoutFirst (isCancelOf m) (g .queue)) g; frames = acknowledgment false m ∷ [] })
-            (record { gateway = withQueue (upTo m (g .queue) ++ (pendingEntry m ∷ map undone rest)) (rolledBack (processedOf rest) g); frames = acknowledgment false m ∷ framesFor true (sentBack (siteOf (g .settings)) (processedOf rest)) }) .gateway)
+          (record { gateway = withQueue (withoutFirst (isCancelOf m) (g .queue)) g; frames = acknowledgment false m ∷ [] })
+          (record { gateway = withQueue (upTo m (g .queue) ++ (pendingEntry m ∷ map undone rest)) (rolledBack (processedOf rest) g); frames = acknowledgment false m ∷ framesFor true (sentBack (siteOf (g .settings)) (processedOf rest)) }) .gateway)
       by-case true e = requeue k (withoutFirst (isCancelOf m) (g .queue)) (leave-out (without-first (isCancelOf m) (g .queue)) (queue-of k))
       by-case false e =
           requeue
@@ -68,8 +56,8 @@ module _ {g : Gateway} (p : Proper g) where
 
       by-case : (b : Bool) → any (isPlain m) (g .queue) ≡ b
           → Standing (g .settings) (cond {A = Effect} b
-            (record { gateway = withQueue (beforeLast (isPlain m) (g .queue) ++ map undone (tailOf found)) (rolledBack (processedOf found) g); frames = acknowledgment true m ∷ framesFor true (sentBack (siteOf (g .settings)) (processedOf found)) })
-            (record { gateway = withQueue (upTo m (g .queue) ++ (waitingEntry m ∷ behind m (g .queue))) g; frames = acknowledgment true m ∷ [] }) .gateway)
+          (record { gateway = withQueue (beforeLast (isPlain m) (g .queue) ++ map undone (tailOf found)) (rolledBack (processedOf found) g); frames = acknowledgment true m ∷ framesFor true (sentBack (siteOf (g .settings)) (processedOf found)) })
+          (record { gateway = withQueue (upTo m (g .queue) ++ (waitingEntry m ∷ behind m (g .queue))) g; frames = acknowledgment true m ∷ [] }) .gateway)
       by-case true e =
           requeue
           (roll-back k (processedOf found) (λ x n. k .entries x (found-member m (g .queue) (queue-of k) e x (processed-member found x n))))
