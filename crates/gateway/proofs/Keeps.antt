@@ -13,7 +13,7 @@ use Rattle.model.specs.Messages.{kindNumber}
 use Rattle.model.specs.declared.Message.{Message}
 use Rattle.model.specs.declared.Kind.{Kind}
 use Rattle.model.specs.declared.Kind.the-variants.{Failure, Request, Delivery, Restock, Start, Lvt, Update}
-use Rattle.frame.specs.Claims.{OneToOne}
+use Rattle.frame.proofs.Laws.{one-to-one}
 use Rattle.frame.specs.Reasons.{reading, formNumber}
 use Rattle.frame.specs.Limits.{refusal}
 use Rattle.frame.specs.declared.Frame.{Frame}
@@ -149,9 +149,9 @@ module _ {g : Gateway} (p : Proper g) where
       by-sense CancelAcknowledgment e = acknowledgment-keeps true (f .message)
 
   -- taking a byte string
-  pub bytes-keep : OneToOne → (bytes : List ℕ) → Bytes bytes → (room : ℕ) → Ends (g .settings) (takeBytes bytes room g)
+  pub bytes-keep : (bytes : List ℕ) → Bytes bytes → (room : ℕ) → Ends (g .settings) (takeBytes bytes room g)
   unfolding takeBytes
-  bytes-keep one bytes h room =
+  bytes-keep bytes h room =
       let r = reading bytes in
       let s = g .settings in
       let formed = eqb (formNumber (r .form)) 0 in
@@ -162,8 +162,8 @@ module _ {g : Gateway} (p : Proper g) where
       let good = form-good (r .form) (and-left formed carried e) in
       either (eqb number 0)
       (λ z. frame-keeps room (r .frame) (record {
-        form = one .readWellFormed bytes h good;
-        ranged = one .readRanged bytes h good;
+        form = one-to-one .readWellFormed bytes h good;
+        ranged = one-to-one .readRanged bytes h good;
         passes = not-refused s (r .frame) (eqb-true number 0 z);
       }))
       (refuses number (refusal-few (r .frame) (s .n) (s .own) (s .last))))

@@ -8,7 +8,6 @@ use lib.Dec.{eqb}
 use lib.ListN.{length}
 use borrow.Author.Tests.{eqb-true, eqb-false}
 use Rattle.buffer.specs.Slice.{Bytes, part, write}
-use Rattle.frame.specs.Claims.{OneToOne}
 use Rattle.memory.specs.Records.{Gateway}
 use Rattle.memory.specs.Layout.{sizeFor}
 use Rattle.memory.specs.Claims.{ReadingLaws}
@@ -76,10 +75,10 @@ module _ (memory : List ℕ) (h : SoundBytes memory) where
   unfolding agreedTime
   time-read = rw (h .is-sound)
 
-set-up-sound : OneToOne → (o : Opening) (list memory : List ℕ) → Bytes list → Bytes memory → setUp o list memory .answer .number ≡ 0
+set-up-sound : (o : Opening) (list memory : List ℕ) → Bytes list → Bytes memory → setUp o list memory .answer .number ≡ 0
     → StaysSound (settingsOf o) memory 0 (setUp o list memory .memory)
 unfolding setUp
-set-up-sound one o list memory list-bytes bytes = by-case (eqb number 0) refl
+set-up-sound o list memory list-bytes bytes = by-case (eqb number 0) refl
   where
     number : ℕ
     number = setUpRefusal o (length memory) list
@@ -90,15 +89,15 @@ set-up-sound one o list memory list-bytes bytes = by-case (eqb number 0) refl
     by-case : (b : Bool) → eqb number 0 ≡ b → left b .answer .number ≡ 0 → StaysSound (settingsOf o) memory 0 (left b .memory)
     by-case true e z =
         let accepted = eqb-true number 0 e in
-        written memory bytes (opened-keeps one o (length memory) list list-bytes accepted) (opening-long o (length memory) list accepted) (omega arith)
+        written memory bytes (opened-keeps o (length memory) list list-bytes accepted) (opening-long o (length memory) list accepted) (omega arith)
     by-case false e z = absurd (eqb-false number 0 e z)
 
-pub never-unsound : OneToOne → NeverUnsound
+pub never-unsound : NeverUnsound
 unfolding taken started committed
-never-unsound one =
+never-unsound =
     record {
-      bySetUp = set-up-sound one;
-      byTaking = λ memory frame output bytes h. ends-sound memory h (takeBytes frame) (bytes-keep (held-proper memory h) one frame bytes) output;
+      bySetUp = set-up-sound;
+      byTaking = λ memory frame output bytes h. ends-sound memory h (takeBytes frame) (bytes-keep (held-proper memory h) frame bytes) output;
       byStarting = λ memory output h. ends-sound memory h start (start-keeps (held-proper memory h)) output;
       byCommitting = λ memory output h. ends-sound memory h commit (commit-keeps (held-proper memory h)) output;
       byWorking = λ b memory output h. work-sound memory h b output;
