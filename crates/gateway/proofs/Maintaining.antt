@@ -154,6 +154,11 @@ module _ {s : Settings} {g : Gateway} (k : Standing s g) where
       send-all (with-state k (restored (g .state) events) (restored-ranged events h)) true (sentBack (siteOf (g .settings)) events)
       (λ m n. sent-back-good events h m (rw (k .same) at n))
 
+-- either of two effects
+pub either-stands : {s : Settings} (b : Bool) (u v : Effect) → (b ≡ true → Standing s (u .gateway)) → (b ≡ false → Standing s (v .gateway)) → Standing s (cond b u v .gateway)
+either-stands true u v h l = h refl
+either-stands false u v h l = l refl
+
 -- an effect for which there is room
 pub fitting : {s : Settings} (room : ℕ) (e : Effect) → Standing s (e .gateway) → fits room e ≡ true → Kept s (e .gateway)
 unfolding fits

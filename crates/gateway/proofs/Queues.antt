@@ -53,12 +53,12 @@ pending-not-processed Waiting h = refl
 pub zero-state : RangedState noState
 zero-state = record { stock = omega arith; failed = omega arith; fitted = omega arith; short = omega arith }
 
-module _ {s : Settings} (m : Message) (here′ : m .to ≡ s .own) where
+module _ {s : Settings} (m : Message) (to-here : m .to ≡ s .own) where
   pub pending-good : Good s false m → GoodEntry s (pendingEntry m)
-  pending-good g = record { valid = record { message = g .storable; to = here′; saved = refl }; ranged = record { message = g .ranged; before = zero-state } }
+  pending-good g = record { valid = record { message = g .storable; to = to-here; saved = refl }; ranged = record { message = g .ranged; before = zero-state } }
 
   pub waiting-good : Good s true m → GoodEntry s (waitingEntry m)
-  waiting-good g = record { valid = record { message = g .storable; to = here′; saved = refl }; ranged = record { message = g .ranged; before = zero-state } }
+  waiting-good g = record { valid = record { message = g .storable; to = to-here; saved = refl }; ranged = record { message = g .ranged; before = zero-state } }
 
 -- an entry after undoing
 pub record Undone (e f : Entry) : Type 0 where
@@ -117,13 +117,13 @@ undo-behind {s} us vs q =
 -- one put in
 pub put-in : {s : Settings} (us vs : List Entry) (x : Entry) → GoodQueue s (us ++ vs) → GoodEntry s x
     → ((u : Entry) → u ∈ us → MayStand u x) → ((v : Entry) → v ∈ vs → MayStand x v) → GoodQueue s (us ++ (x ∷ vs))
-put-in {s} us vs x q g before behind′ =
+put-in {s} us vs x q g before after =
     record {
       entries = λ e m. ⊎-elim
           (λ n. q .entries e (Memᴰ·append-left vs n))
           (λ n. ⊎-elim (λ (p : e ≡ x). subst (GoodEntry s) (sym p) g) (λ o. q .entries e (Memᴰ·append-right us o)) (List·Memᴰ·cases-cons n))
           (List·Memᴰ·append-cases us m);
-      order = insert-ascending us x (q .order) before behind′;
+      order = insert-ascending us x (q .order) before after;
     }
 
 -- a message that is not processed put in behind what is not later, before what is later
