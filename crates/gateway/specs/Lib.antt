@@ -7,3 +7,4 @@ pub mod Rounds
 pub mod Committing
 pub mod SettingUp
 pub mod Calls
+pub mod Searching

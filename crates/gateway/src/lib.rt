@@ -1,4 +1,5 @@
 // The gateway's calls.
+pub mod places; // places.rt: places of the memory
 
 // What taking a frame, the start call and commit answer: document 01's number, 0 where the call is accepted, and how many
 // bytes were written.

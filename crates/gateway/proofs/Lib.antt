@@ -1,0 +1,3 @@
+-- Laws that several proofs of this crate use.
+pub mod Moves
+pub mod Positions
