@@ -1,3 +1,4 @@
 -- Laws that several proofs of this crate use.
 pub mod Moves
 pub mod Positions
+pub mod Neighbours

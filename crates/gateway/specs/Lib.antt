@@ -8,3 +8,4 @@ pub mod Committing
 pub mod SettingUp
 pub mod Calls
 pub mod Searching
+pub mod Receivers

@@ -1,5 +1,6 @@
 // The gateway's calls.
-pub mod places; // places.rt: places of the memory
+pub mod places; // places.rt: the places of the memory
+pub mod round; // round.rt: whom a gateway hears and tells
 
 // What taking a frame, the start call and commit answer: document 01's number, 0 where the call is accepted, and how many
 // bytes were written.
