@@ -4,3 +4,5 @@ pub mod Places
 pub mod RoundTrips
 pub mod FromBytes
 pub mod Holding
+pub mod Stored
+pub mod Lamps
