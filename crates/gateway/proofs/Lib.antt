@@ -2,3 +2,4 @@
 pub mod Moves
 pub mod Positions
 pub mod Neighbours
+pub mod Matching

@@ -104,13 +104,18 @@ module _ {A : Type 0} (decode : List ℕ → A) (f : A → Bool) (size base : �
       let n : base + size * (i + 1) ≡ base + size * i + size = omega arith in
       rw (e, n)
 
-  pub search-passed : (i : ℕ) → i < count → Left i → f (decode (part m (base + size * i) size)) ≡ false → Left (i + 1)
-  unfolding firstWhere
-  search-passed i h l e = l ∙ rw (more i h, e) (omega arith)
+  module _ (i : ℕ) {x : A} {passing : Bool} (h : i < count) (l : Left i) (read : x ≡ decode (part m (base + size * i) size)) (test : passing ≡ f x) where
+    pub search-passed : passing ≡ false → Left (i + 1)
+    unfolding firstWhere
+    search-passed e =
+        let fails : f (decode (part m (base + size * i) size)) ≡ false = cc in
+        l ∙ rw (more i h, fails) (omega arith)
 
-  pub search-found : (i : ℕ) → i < count → Left i → f (decode (part m (base + size * i) size)) ≡ true → i ≡ whole
-  unfolding firstWhere
-  search-found i h l e = sym (l ∙ rw (more i h, e) (omega arith))
+    pub search-found : passing ≡ true → i ≡ whole
+    unfolding firstWhere
+    search-found e =
+        let passes : f (decode (part m (base + size * i) size)) ≡ true = cc in
+        sym (l ∙ rw (more i h, passes) (omega arith))
 
   pub search-none : (i : ℕ) → i ≤ count → count ≤ i → Left i → count ≡ whole
   unfolding firstWhere placesAt
@@ -143,13 +148,17 @@ module _ {A : Type 0} (decode : List ℕ → A) (f : A → Bool) (size base : �
       ∙ past-snoc f (placesAt decode size m base (left - 1)) (decode (part m (base + size * (left - 1)) size))
       ∙ rw (length-read (left - 1) base, ← e)
 
-  pub last-passed : (whole left : ℕ) → 0 < left → whole ≡ pastLast f (placesAt decode size m base left)
-      → f (decode (part m (base + size * (left - 1)) size)) ≡ false → whole ≡ pastLast f (placesAt decode size m base (left - 1))
-  last-passed whole left h l e = l ∙ last-place left h ∙ rw e
+  module _ (whole left : ℕ) {x : A} {passing : Bool} (h : 0 < left) (l : whole ≡ pastLast f (placesAt decode size m base left))
+      (read : x ≡ decode (part m (base + size * (left - 1)) size)) (test : passing ≡ f x) where
+    pub last-passed : passing ≡ false → whole ≡ pastLast f (placesAt decode size m base (left - 1))
+    last-passed e =
+        let fails : f (decode (part m (base + size * (left - 1)) size)) ≡ false = cc in
+        l ∙ last-place left h ∙ rw fails
 
-  pub last-found : (whole left : ℕ) → 0 < left → whole ≡ pastLast f (placesAt decode size m base left)
-      → f (decode (part m (base + size * (left - 1)) size)) ≡ true → left ≡ whole
-  last-found whole left h l e = sym (l ∙ last-place left h ∙ rw e)
+    pub last-found : passing ≡ true → left ≡ whole
+    last-found e =
+        let passes : f (decode (part m (base + size * (left - 1)) size)) ≡ true = cc in
+        sym (l ∙ last-place left h ∙ rw passes)
 
   pub last-none : (whole left : ℕ) → left ≤ 0 → whole ≡ pastLast f (placesAt decode size m base left) → 0 ≡ whole
   unfolding placesAt pastLast

@@ -1,10 +1,10 @@
 -- Positions in a list of places, for the contracts of the functions that look through the places. No call's own contract
 -- cites this file.
-use Prim.Native.Nat.{ℕ, zero, suc}
+use Prim.Native.Nat.{ℕ, zero, suc, _+_, _*_}
 use mathlib.Core.Bool.{Bool, true, false, cond}
 use mathlib.Core.List.{List, [], _∷_}
 use Rattle.model.specs.declared.Message.{Message}
-use Rattle.memory.specs.Layout.{headerSize, queueSize, outstandingSize, outstandingAt}
+use Rattle.memory.specs.Layout.{headerSize, queueSize, outstandingSize}
 use Rattle.memory.specs.Codec.{placesAt, entryOf, sentOf}
 use Rattle.memory.specs.Validity.{pendingMark, processedMark, waitingMark, later}
 use Rattle.memory.specs.declared.Entry.{Entry}
@@ -45,4 +45,4 @@ abbrev pub entriesIn : List ℕ → ℕ → List Entry
 entriesIn m count = placesAt entryOf queueSize m headerSize count
 
 abbrev pub sentIn : ℕ → List ℕ → ℕ → List Sent
-sentIn q m count = placesAt sentOf outstandingSize m (outstandingAt q 0) count
+sentIn q m count = placesAt sentOf outstandingSize m (headerSize + queueSize * q) count
