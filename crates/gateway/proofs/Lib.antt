@@ -3,3 +3,6 @@ pub mod Moves
 pub mod Positions
 pub mod Neighbours
 pub mod Matching
+pub mod Lists
+pub mod Searches
+pub mod Replies

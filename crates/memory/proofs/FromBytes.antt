@@ -14,9 +14,11 @@ use Rattle.buffer.proofs.Writes.{length-part, part-cons, part-nil}
 use Rattle.model.specs.Messages.{originOf, quantityOf, kindOf}
 use Rattle.model.specs.declared.Kind.{Kind}
 use Rattle.model.specs.declared.Kind.the-variants.{Failure, Request, Delivery, Restock, Start, Lvt, Update}
-use Rattle.memory.specs.Ranges.{All, nil, cons, StateRanged, MessageRanged, EntryRanged, SentRanged, HeaderRanged}
+use Rattle.memory.specs.Ranges.{RangedState}
 use Rattle.memory.specs.Codec.{phaseNumber, phaseOf, stateOf, messageOf, entryOf, sentOf, headerAt, headerFront, headerBack, placesAt}
 use Rattle.memory.proofs.Standing.{part-add}
+use Rattle.memory.proofs.Places.{All, nil, cons}
+use Rattle.memory.proofs.Fitting.{MessageFits, EntryFits, SentFits, HeaderFits}
 use Rattle.memory.proofs.RoundTrips.{byte-back}
 
 -- a part of bytes is bytes
@@ -54,7 +56,7 @@ unfolding choice
 kind-read n o q = kind-within (eqb n 0) (eqb n 1) (eqb n 2) (eqb n 3) (eqb n 4) (eqb n 5) o q
 
 -- states, messages and places
-pub state-ranged : (b : List ℕ) → 14 ≤ length b → Bytes b → StateRanged (stateOf b)
+pub state-ranged : (b : List ℕ) → 14 ≤ length b → Bytes b → RangedState (stateOf b)
 unfolding stateOf
 state-ranged b h bytes = record {
   stock = number-fits b 0 2 bytes (omega arith);
@@ -63,9 +65,9 @@ state-ranged b h bytes = record {
   short = number-fits b 10 4 bytes (omega arith);
 }
 
-pub message-ranged : (b : List ℕ) → 30 ≤ length b → Bytes b → MessageRanged (messageOf b)
+pub message-fits : (b : List ℕ) → 30 ≤ length b → Bytes b → MessageFits (messageOf b)
 unfolding messageOf
-message-ranged b h bytes =
+message-fits b h bytes =
     let kind = kind-read (getD b 1 0) (getD b 8 0) (numberOf (part b 10 2)) in
     record {
       hour = number-fits b 4 4 bytes (omega arith);
@@ -74,18 +76,17 @@ message-ranged b h bytes =
       origin = omega (arith, bytes 8);
       quantity = omega (arith, number-fits b 10 2 bytes (omega arith));
       lamp = length-part b 12 18 (omega arith);
-      bytes = bytes-part b 12 18 bytes;
     }
 
-pub entry-ranged : (b : List ℕ) → length b ≡ 64 → Bytes b → EntryRanged (entryOf b)
+pub entry-fits : (b : List ℕ) → length b ≡ 64 → Bytes b → EntryFits (entryOf b)
 unfolding entryOf
-entry-ranged b h bytes =
+entry-fits b h bytes =
     let saved : length (part b 30 14) ≡ 14 = length-part b 30 14 (omega arith) in
-    record { message = message-ranged b (omega arith) bytes; before = state-ranged (part b 30 14) (omega arith) (bytes-part b 30 14 bytes) }
+    record { message = message-fits b (omega arith) bytes; before = state-ranged (part b 30 14) (omega arith) (bytes-part b 30 14 bytes) }
 
-pub sent-ranged : (b : List ℕ) → length b ≡ 32 → Bytes b → SentRanged (sentOf b)
+pub sent-fits : (b : List ℕ) → length b ≡ 32 → Bytes b → SentFits (sentOf b)
 unfolding sentOf
-sent-ranged b h bytes = record { message = message-ranged b (omega arith) bytes }
+sent-fits b h bytes = record { message = message-fits b (omega arith) bytes }
 
 -- what holds of each place that bytes hold
 pub read-all : {A : Type 0} {p : A → Type 0} (g : List ℕ → A) (size : ℕ) (m : List ℕ) (at n : ℕ) → Bytes m → at + size * n ≤ length m
@@ -104,9 +105,9 @@ phase-again (suc (suc zero)) h = refl
 phase-again (suc (suc (suc n))) h = absurd (let z : _≡_ {A = ℕ} 0 1 = omega arith in omega arith)
 
 module _ (m : List ℕ) (bytes : Bytes m) (long : 40 ≤ length m) where
-  pub header-ranged : HeaderRanged (headerAt m)
+  pub header-fits : HeaderFits (headerAt m)
   unfolding headerAt
-  header-ranged = record {
+  header-fits = record {
     settings = record {
       n = bytes 0;
       own = bytes 1;

@@ -3,15 +3,17 @@ use mathlib.Core.Path.{_≡_, refl, sym, _∙_, ap}
 use Prim.Native.Nat.{ℕ, _+_, _*_, _≤_}
 use native.Mathlib.Omega.{arith}
 use mathlib.Core.List.{List, [], _∷_, _++_}
+use lib.Dec.{lit≤}
 use lib.ListN.{length}
 use Rattle.buffer.specs.Slice.{part, write}
-use Rattle.buffer.proofs.Writes.{length-write}
 use Rattle.memory.specs.Records.{Gateway, headerOf}
-use Rattle.memory.specs.Ranges.{All, Ranged, HeaderRanged}
 use Rattle.memory.specs.Layout.{headerSize, outstandingAt, sizeFor}
+use Rattle.memory.specs.Claims.{Untouched}
 use Rattle.memory.specs.Codec.{entryBytes, entryOf, sentBytes, sentOf, headerAt, headerFront, headerBack, placesAt, placesBytes, decode, encode}
-use Rattle.memory.proofs.Standing.{Stands, write-stands, stands-written, stands-before, stands-after}
-use Rattle.memory.proofs.Places.{Sized, Stored, all-map, length-places, read-stored}
+use Rattle.memory.proofs.Standing.{Stands}
+use Rattle.memory.proofs.FourWrites.{headed, FourWrites, four-writes}
+use Rattle.memory.proofs.Places.{All, Sized, Stored, all-map, length-places, read-stored}
+use Rattle.memory.proofs.Fitting.{HeaderFits, GatewayFits}
 use Rattle.memory.proofs.RoundTrips.{length-front, length-back, length-entry, length-sent, entry-stored, sent-stored, header-back}
 
 -- the memory is long enough for the gateway's settings, and no more places are used than there are
@@ -27,7 +29,7 @@ pub record Holds (g : Gateway) (m : List ℕ) : Type 0 where
   pub queue : Stands headerSize (placesBytes entryBytes (g .queue)) m
   pub outstanding : Stands (outstandingAt (g .settings .q) 0) (placesBytes sentBytes (g .outstanding)) m
 
-module _ (g : Gateway) (r : Ranged g) where
+module _ (g : Gateway) (r : GatewayFits g) where
   -- how long the gateway's bytes are
   pub queue-sized : All (Sized entryBytes 64) (g .queue)
   queue-sized = all-map length-entry (r .queue)
@@ -41,21 +43,11 @@ module _ (g : Gateway) (r : Ranged g) where
   pub length-outstanding : length (placesBytes sentBytes (g .outstanding)) ≡ 32 * length (g .outstanding)
   length-outstanding = length-places sentBytes 32 outstanding-sized
 
-module _ (g : Gateway) (m : List ℕ) (r : Ranged g) (room : Room g m) where
-  header-fits : HeaderRanged (headerOf g)
-  header-fits = record {
-    settings = r .settings;
-    state = r .state;
-    agreed = r .agreed;
-    round = r .round;
-    queued = omega (arith, room .queued, r .settings .q);
-    outstanding = omega (arith, room .sent, r .settings .u);
-  }
-
+module _ (g : Gateway) (m : List ℕ) (r : GatewayFits g) (room : Room g m) where
   -- reading memory that holds the gateway
   pub holds-header : Holds g m → headerAt m ≡ headerOf g
   holds-header s =
-      header-back (headerOf g) header-fits m (rw (length-front (headerOf g)) at (s .front)) (rw (length-back (headerOf g)) at (s .back))
+      header-back (headerOf g) (r .header) m (rw (length-front (headerOf g)) at (s .front)) (rw (length-back (headerOf g)) at (s .back))
 
   pub holds-decode : Holds g m → decode m ≡ g
   unfolding decode
@@ -77,21 +69,47 @@ module _ (g : Gateway) (m : List ℕ) (r : Ranged g) (room : Room g m) where
         outstanding = outstanding i;
       }
 
-  -- the four writes, one after the other
-  after-front : List ℕ
-  after-front = write 0 (headerFront (headerOf g)) m
+-- writing the gateway
+module _ (g : Gateway) (m : List ℕ) (r : GatewayFits g) (room : Room g m) where
+  pub writes : FourWrites (headerFront (headerOf g)) (headerBack (headerOf g)) (placesBytes entryBytes (g .queue)) (outstandingAt (g .settings .q) 0) (placesBytes sentBytes (g .outstanding)) m
+  writes =
+      four-writes (headerFront (headerOf g)) (headerBack (headerOf g)) (placesBytes entryBytes (g .queue)) (placesBytes sentBytes (g .outstanding)) m (outstandingAt (g .settings .q) 0)
+      (rw (length-front (headerOf g)) (lit≤ tt))
+      (rw (length-back (headerOf g)) (lit≤ tt))
+      (rw (length-queue g r) (omega (arith, room .queued)))
+      (rw (length-outstanding g r) (omega (arith, room .long, room .sent)))
 
-  after-back : List ℕ
-  after-back = write 6 (headerBack (headerOf g)) after-front
+  pub encode-length : length (encode g m) ≡ length m
+  unfolding encode
+  encode-length = writes .as-long
 
-  after-queue : List ℕ
-  after-queue = write headerSize (placesBytes entryBytes (g .queue)) after-back
+  pub encode-holds : Holds g (encode g m)
+  unfolding encode
+  encode-holds = record { front = writes .front-stands; back = writes .back-stands; queue = writes .queue-stands; outstanding = writes .sent-stands }
 
-  fits-outstanding : outstandingAt (g .settings .q) 0 + length (placesBytes sentBytes (g .outstanding)) ≤ length m
-  fits-outstanding = rw (length-outstanding g r) (omega (arith, room .long, room .sent))
+  pub encode-elsewhere : (from n : ℕ) → Untouched g from n → part (encode g m) from n ≡ part m from n
+  unfolding encode
+  encode-elsewhere from n u =
+      writes .elsewhere from n
+      (rw (length-front (headerOf g)) (u .front))
+      (rw (length-back (headerOf g)) (u .back))
+      (rw (length-queue g r) (u .queue))
+      (rw (length-outstanding g r) (u .outstanding))
 
-  fits-queue : headerSize + length (placesBytes entryBytes (g .queue)) ≤ outstandingAt (g .settings .q) 0
-  fits-queue = rw (length-queue g r) (omega (arith, room .queued))
+  -- writing over memory that holds the gateway changes nothing
+  pub encode-same : Holds g m → encode g m ≡ m
+  unfolding encode
+  encode-same s = writes .unchanged (s .front) (s .back) (s .queue) (s .outstanding)
 
-  fits-header : headerSize ≤ length m
-  fits-header = omega (arith, room .long)
+  -- the header may be written last, over what is written behind it
+  pub encode-by : {a b : List ℕ} → write headerSize (placesBytes entryBytes (g .queue)) m ≡ a → write (outstandingAt (g .settings .q) 0) (placesBytes sentBytes (g .outstanding)) a ≡ b
+      → encode g m ≡ headed (headerFront (headerOf g)) (headerBack (headerOf g)) b
+  unfolding encode
+  encode-by p q = writes .header-last ∙ rw (p, q)
+
+  pub encode-room : Room g (encode g m)
+  encode-room = record { long = rw encode-length (room .long); queued = room .queued; sent = room .sent }
+
+-- what is written is read again
+pub decode-encode : (g : Gateway) (m : List ℕ) → GatewayFits g → Room g m → decode (encode g m) ≡ g
+decode-encode g m r room = holds-decode g (encode g m) r (encode-room g m r room) (encode-holds g m r room)

@@ -4,16 +4,29 @@ use mathlib.Core.Path.{_≡_, refl, sym, _∙_, ap, ap₂}
 use Prim.Native.Nat.{ℕ, zero, suc, _+_, _*_, _≤_}
 use native.Mathlib.Nat.{add-assoc, add-zero, zero-add, suc-add, mul-zero}
 use native.Mathlib.Omega.{arith}
-use mathlib.Core.List.{List, [], _∷_, _++_, append-assoc, append-nil}
+use mathlib.Core.Logic.{⊎-elim}
+use mathlib.Core.List.{List, [], _∷_, _++_, append-assoc, append-nil, List·Memᴰ·head as here, List·Memᴰ·tail as there, List·Memᴰ·not-nil, List·Memᴰ·cases-cons}
 use lib.ListN.{length, length-append}
+use Rattle.routing.specs.Arcs.{_∈_}
 use Rattle.buffer.specs.Slice.{part, write}
 use Rattle.buffer.proofs.Writes.{part-nil, length-part}
-use Rattle.memory.specs.Ranges.{All, nil, cons}
 use Rattle.memory.specs.Codec.{placesAt, placesBytes}
 use Rattle.memory.proofs.Standing.{Stands, part-add, part-within, stands-front, stands-back, stands-append, write-behind, write-replaced, write-removed, write-inserted}
 
--- laws of All
+-- every element has the property
+pub data All {A : Type 0} (p : A → Type 0) : List A → Type 0 where
+  nil : All p []
+  cons : {x : A} {xs : List A} → p x → All p xs → All p (x ∷ xs)
+
 module _ {A : Type 0} {p : A → Type 0} where
+  pub all-of : (xs : List A) → ((x : A) → x ∈ xs → p x) → All p xs
+  all-of [] h = nil
+  all-of (x ∷ xs) h = cons (h x (here refl)) (all-of xs (λ y m. h y (there m)))
+
+  pub all-each : {xs : List A} → All p xs → (x : A) → x ∈ xs → p x
+  all-each nil x m = absurd (List·Memᴰ·not-nil m)
+  all-each (cons {x = y} h hs) x m = ⊎-elim (λ (e : x ≡ y). rw e h) (λ n. all-each hs x n) (List·Memᴰ·cases-cons m)
+
   pub all-append : {xs ys : List A} → All p xs → All p ys → All p (xs ++ ys)
   all-append nil ps = ps
   all-append (cons h hs) ps = cons h (all-append hs ps)
@@ -161,3 +174,26 @@ module _ {A : Type 0} (f : A → List ℕ) (size at : ℕ) (m : List ℕ) where
     insert-places stand =
         rw (in-three ys, ← before, ← between, ← behind)
         (write-inserted at (placesBytes f xs) (placesBytes f ys) (placesBytes f zs) m room (rw (places-append f xs zs) at stand))
+
+-- the same for one place
+module _ {A : Type 0} (f : A → List ℕ) (size at : ℕ) (m : List ℕ) where
+  pub append-place : (xs : List A) (x : A) → All (Sized f size) xs → Sized f size x → at + size * (length xs + 1) ≤ length m
+      → Stands at (placesBytes f xs) m → write at (placesBytes f (xs ++ (x ∷ []))) m ≡ write (at + size * length xs) (f x) m
+  append-place xs x ps p fits stand = append-places f size at m xs (x ∷ []) ps (cons p nil) fits stand ∙ rw (place-one f x)
+
+  module _ (xs : List A) (x : A) (zs : List A) (fits : at + size * (length xs + 1 + length zs) ≤ length m) where
+    next : at + size * length xs + size * length (x ∷ []) ≡ at + size * (length xs + 1)
+    next = omega arith
+
+    pub replace-place : (y : A) → All (Sized f size) (xs ++ (x ∷ zs)) → Sized f size y → Stands at (placesBytes f (xs ++ (x ∷ zs))) m
+        → write at (placesBytes f (xs ++ (y ∷ zs))) m ≡ write (at + size * length xs) (f y) m
+    replace-place y sized p stand = replace-places f size at m xs (x ∷ []) zs sized fits (y ∷ []) (cons p nil) refl stand ∙ rw (place-one f y)
+
+    pub remove-place : All (Sized f size) (xs ++ (x ∷ zs)) → Stands at (placesBytes f (xs ++ (x ∷ zs))) m
+        → write at (placesBytes f (xs ++ zs)) m ≡ write (at + size * length xs) (part m (at + size * (length xs + 1)) (size * length zs)) m
+    remove-place sized stand = rw next at (remove-places f size at m xs (x ∷ []) zs sized fits stand)
+
+    pub insert-place : All (Sized f size) (xs ++ (x ∷ zs)) → Stands at (placesBytes f (xs ++ zs)) m
+        → write at (placesBytes f (xs ++ (x ∷ zs))) m
+        ≡ write (at + size * length xs) (f x) (write (at + size * (length xs + 1)) (part m (at + size * length xs) (size * length zs)) m)
+    insert-place sized stand = rw (next, place-one f x) at (insert-places f size at m xs (x ∷ []) zs sized fits stand)

@@ -16,7 +16,7 @@ use Rattle.model.specs.declared.Kind.{Kind}
 use Rattle.model.specs.declared.Kind.the-variants.{Failure, Request, Delivery, Restock, Start, Lvt, Update}
 use Rattle.model.specs.declared.Message.{Message}
 use Rattle.model.specs.declared.State.{State}
-use Rattle.memory.specs.Ranges.{StateRanged, MessageRanged, EntryRanged, SentRanged, HeaderRanged}
+use Rattle.memory.specs.Ranges.{RangedState}
 use Rattle.memory.specs.Codec.{markNumber, markOf, phaseNumber, phaseOf, cancelNumber, stateBytes, stateOf, messageBytes, messageOf, entryBytes, entryOf, sentBytes, sentOf, headerAt, headerFront, headerBack}
 use Rattle.memory.specs.declared.Header.{Header}
 use Rattle.memory.specs.declared.Entry.{Entry}
@@ -27,6 +27,7 @@ use Rattle.memory.specs.declared.Phase.{Phase}
 use Rattle.memory.specs.declared.Phase.the-variants.{Idle, Counting, Stopped}
 use Rattle.memory.proofs.Standing.{part-front, part-back, getD-part}
 use Rattle.memory.proofs.Places.{Stored}
+use Rattle.memory.proofs.Fitting.{MessageFits, EntryFits, SentFits, HeaderFits}
 
 -- one byte
 pub byte-back : (n : ℕ) → n < 256 → n / 256 ^ 0 % 256 ≡ n
@@ -75,7 +76,7 @@ pub length-state : (s : State) → length (stateBytes s) ≡ 14
 unfolding stateBytes bytesOf
 length-state s = refl
 
-pub state-back : (s : State) → StateRanged s → stateOf (stateBytes s) ≡ s
+pub state-back : (s : State) → RangedState s → stateOf (stateBytes s) ≡ s
 unfolding stateBytes stateOf bytesOf part
 state-back s r = λ i. record {
   stock = number-of-bytes 2 (s .stock) (r .stock) i;
@@ -85,7 +86,7 @@ state-back s r = λ i. record {
 }
 
 -- a message, behind its mark and before whatever follows
-module _ (mark : ℕ) (m : Message) (rest : List ℕ) (r : MessageRanged m) where
+module _ (mark : ℕ) (m : Message) (rest : List ℕ) (r : MessageFits m) where
   pub length-message : length (messageBytes mark m) ≡ 30
   unfolding messageBytes bytesOf
   length-message = omega (arith, r .lamp)
@@ -106,7 +107,7 @@ module _ (mark : ℕ) (m : Message) (rest : List ℕ) (r : MessageRanged m) wher
   }
 
 -- a queue place
-module _ (e : Entry) (r : EntryRanged e) where
+module _ (e : Entry) (r : EntryFits e) where
   pub length-entry : length (entryBytes e) ≡ 64
   unfolding entryBytes
   length-entry =
@@ -135,7 +136,7 @@ module _ (e : Entry) (r : EntryRanged e) where
   }
 
 -- an outstanding place
-module _ (s : Sent) (r : SentRanged s) where
+module _ (s : Sent) (r : SentFits s) where
   pub length-sent : length (sentBytes s) ≡ 32
   unfolding sentBytes
   length-sent =
@@ -163,13 +164,17 @@ pub length-back : (h : Header) → length (headerBack h) ≡ 34
 unfolding headerBack bytesOf
 length-back h = refl
 
-module _ (h : Header) (r : HeaderRanged h) (m : List ℕ) (front : part m 0 5 ≡ headerFront h) (back : part m 6 34 ≡ headerBack h) where
+module _ (h : Header) (r : HeaderFits h) (m : List ℕ) (front : part m 0 5 ≡ headerFront h) (back : part m 6 34 ≡ headerBack h) where
   -- a byte of the front and a number of the back
   header-byte : (k x : ℕ) → k < 5 → getD (headerFront h) k 0 ≡ x / 256 ^ 0 % 256 → x < 256 → getD m (0 + k) 0 ≡ x
   header-byte k x lt e small = sym (getD-part m 0 5 k lt) ∙ (ap (λ l. getD l k 0) front ∙ (e ∙ byte-back x small))
 
   header-number : (k n x : ℕ) → k + n ≤ 34 → part (headerBack h) k n ≡ bytesOf n x → x < 256 ^ n → numberOf (part m (6 + k) n) ≡ x
   header-number k n x lt e small = ap numberOf (sym (part-part m 6 34 k n lt) ∙ (ap (λ l. part l k n) back ∙ e)) ∙ number-of-bytes n x small
+
+  pub phase-byte : getD m 3 0 ≡ phaseNumber (h .round .phase)
+  unfolding headerFront bytesOf
+  phase-byte = header-byte 3 (phaseNumber (h .round .phase)) (lit< tt) refl (phase-fits (h .round .phase))
 
   pub header-back : headerAt m ≡ h
   unfolding headerAt headerFront headerBack bytesOf part
@@ -190,7 +195,7 @@ module _ (h : Header) (r : HeaderRanged h) (m : List ℕ) (front : part m 0 5 �
     };
     agreed = header-number 14 4 (h .agreed) (lit≤ tt) refl (r .agreed) i;
     round = record {
-      phase = (ap phaseOf (header-byte 3 (phaseNumber (h .round .phase)) (lit< tt) refl (phase-fits (h .round .phase))) ∙ phase-back (h .round .phase)) i;
+      phase = (ap phaseOf phase-byte ∙ phase-back (h .round .phase)) i;
       arrived = header-byte 4 (h .round .arrived) (lit< tt) refl (r .round .arrived) i;
       note = header-number 18 4 (h .round .note) (lit≤ tt) refl (r .round .note) i;
     };

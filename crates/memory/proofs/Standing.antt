@@ -7,6 +7,7 @@ use mathlib.Core.List.{List, [], _∷_, _++_, append-assoc}
 use lib.ListN.{length, take, drop, getD, length-append, length-take, length-drop, take-append-drop}
 use lib.Seq.{take-at, drop-at, drop-drop, take-add, take-all, length-take-le, getD-take, getD-drop}
 use Rattle.buffer.specs.Slice.{part, write}
+use Rattle.memory.specs.Claims.{Apart, before, after}
 use Rattle.buffer.proofs.Writes.{length-part, length-write, part-written, write-join, part-before-write, part-after-write, part-part}
 
 -- the bytes xs stand at position at of m
@@ -47,6 +48,10 @@ write-part at n m h =
 pub write-stands : (at : ℕ) (xs m : List ℕ) → at + length xs ≤ length m → Stands at xs m → write at xs m ≡ m
 write-stands at xs m h s = ap (λ l. write at l m) (sym s) ∙ write-part at (length xs) m h
 
+-- a part stands where it was taken from
+pub stands-part : (at n : ℕ) (m : List ℕ) {xs : List ℕ} → at + n ≤ length m → xs ≡ part m at n → Stands at xs m
+stands-part at n m h e = rw (e, length-part m at n h)
+
 -- bytes stand one behind the other
 module _ (at : ℕ) (xs ys m : List ℕ) where
   pub stands-append : Stands at xs m → Stands (at + length xs) ys m → Stands at (xs ++ ys) m
@@ -75,6 +80,10 @@ module _ (at : ℕ) (xs m : List ℕ) (fits : at + length xs ≤ length m) where
 
   pub stands-after : (from : ℕ) (ys : List ℕ) → at + length xs ≤ from → Stands from ys m → Stands from ys (write at xs m)
   stands-after from ys h s = part-after-write at xs m from (length ys) fits h ∙ s
+
+pub part-apart : (at : ℕ) (xs m : List ℕ) (from n : ℕ) → at + length xs ≤ length m → Apart from n at (length xs) → part (write at xs m) from n ≡ part m from n
+part-apart at xs m from n fits (before h) = part-before-write at xs m from n fits h
+part-apart at xs m from n fits (after h) = part-after-write at xs m from n fits h
 
 -- a longer write of which the front or the back stands there already
 module _ (at : ℕ) (xs ys m : List ℕ) (fits : at + length xs + length ys ≤ length m) where

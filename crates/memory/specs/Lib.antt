@@ -5,3 +5,4 @@ pub mod Layout
 pub mod Codec
 pub mod Validity
 pub mod Soundness
+pub mod Claims
