@@ -6,3 +6,4 @@ pub mod Matching
 pub mod Lists
 pub mod Searches
 pub mod Replies
+pub mod Changing

@@ -9,3 +9,4 @@ pub mod SettingUp
 pub mod Calls
 pub mod Searching
 pub mod Receivers
+pub mod Premises

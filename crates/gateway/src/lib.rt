@@ -1,4 +1,5 @@
 // The gateway's calls.
+pub mod changes; // changes.rt: changes of the memory
 pub mod places; // places.rt: the places of the memory
 pub mod round; // round.rt: whom a gateway hears and tells
 
