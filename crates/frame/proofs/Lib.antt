@@ -5,3 +5,6 @@ pub mod Agreement
 pub mod Branches
 pub mod Walking
 pub mod Places
+pub mod Turning
+pub mod Output
+pub mod Accepted
