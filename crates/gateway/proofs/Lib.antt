@@ -7,3 +7,5 @@ pub mod Lists
 pub mod Searches
 pub mod Replies
 pub mod Changing
+pub mod LeastHours
+pub mod Acknowledging

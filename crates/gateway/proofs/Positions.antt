@@ -90,32 +90,33 @@ module _ {A : Type 0} (f : A → Bool) where
       here false true e r = rw (e, r)
       here false false e r = rw e
 
+-- the places from place i on, by the first of them
+pub more : {A : Type 0} (decode : List ℕ → A) (size base : ℕ) (m : List ℕ) (count i : ℕ) → i < count → placesAt decode size m (base + size * i) (count - i)
+    ≡ decode (part m (base + size * i) size) ∷ placesAt decode size m (base + size * (i + 1)) (count - (i + 1))
+unfolding placesAt
+more decode size base m count i h =
+    let e : count - i ≡ suc (count - (i + 1)) = omega arith in
+    let n : base + size * (i + 1) ≡ base + size * i + size = omega arith in
+    rw (e, n)
+
 -- a search of places from place start on, by what is left of it: at the start, past a place that does not pass, at one
 -- that does, past the last
 module _ {A : Type 0} (decode : List ℕ → A) (f : A → Bool) (size base : ℕ) (m : List ℕ) (count whole : ℕ) where
   abbrev pub Left : ℕ → Type 0
   Left i = whole ≡ i + firstWhere f (placesAt decode size m (base + size * i) (count - i))
 
-  more : (i : ℕ) → i < count → placesAt decode size m (base + size * i) (count - i)
-      ≡ decode (part m (base + size * i) size) ∷ placesAt decode size m (base + size * (i + 1)) (count - (i + 1))
-  unfolding placesAt
-  more i h =
-      let e : count - i ≡ suc (count - (i + 1)) = omega arith in
-      let n : base + size * (i + 1) ≡ base + size * i + size = omega arith in
-      rw (e, n)
-
   module _ (i : ℕ) {x : A} {passing : Bool} (h : i < count) (l : Left i) (read : x ≡ decode (part m (base + size * i) size)) (test : passing ≡ f x) where
     pub search-passed : passing ≡ false → Left (i + 1)
     unfolding firstWhere
     search-passed e =
         let fails : f (decode (part m (base + size * i) size)) ≡ false = cc in
-        l ∙ rw (more i h, fails) (omega arith)
+        l ∙ rw (more decode size base m count i h, fails) (omega arith)
 
     pub search-found : passing ≡ true → i ≡ whole
     unfolding firstWhere
     search-found e =
         let passes : f (decode (part m (base + size * i) size)) ≡ true = cc in
-        sym (l ∙ rw (more i h, passes) (omega arith))
+        sym (l ∙ rw (more decode size base m count i h, passes) (omega arith))
 
   pub search-none : (i : ℕ) → i ≤ count → count ≤ i → Left i → count ≡ whole
   unfolding firstWhere placesAt

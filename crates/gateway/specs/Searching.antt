@@ -6,7 +6,8 @@ use mathlib.Core.List.{List, [], _∷_}
 use Rattle.model.specs.declared.Message.{Message}
 use Rattle.memory.specs.Layout.{headerSize, queueSize, outstandingSize}
 use Rattle.memory.specs.Codec.{placesAt, entryOf, sentOf}
-use Rattle.memory.specs.Validity.{pendingMark, processedMark, waitingMark, later}
+use Rattle.memory.specs.Validity.{pendingMark, processedMark, waitingMark, isProcessed, later}
+use Rattle.frame.specs.Limits.{nothingDue}
 use Rattle.memory.specs.declared.Entry.{Entry}
 use Rattle.memory.specs.declared.Sent.{Sent}
 use Rattle.memory.specs.declared.Mark.{Mark}
@@ -46,3 +47,7 @@ entriesIn m count = placesAt entryOf queueSize m headerSize count
 
 abbrev pub sentIn : ℕ → List ℕ → ℕ → List Sent
 sentIn q m count = placesAt sentOf outstandingSize m (headerSize + queueSize * q) count
+
+-- an entry's hour, nothing due if it is processed
+abbrev pub dueHour : Entry → ℕ
+dueHour e = cond (isProcessed e) nothingDue (e .message .hour)

@@ -1,7 +1,11 @@
 // The gateway's calls.
+pub mod acknowledgment; // acknowledgment.rt: taking an acknowledgment
 pub mod changes; // changes.rt: changes of the memory
+pub mod least; // least.rt: the least hours in the memory
 pub mod places; // places.rt: the places of the memory
 pub mod round; // round.rt: whom a gateway hears and tells
+
+ghost use mathlib.Core.Path.{_≡_};
 
 // What taking a frame, the start call and commit answer: document 01's number, 0 where the call is accepted, and how many
 // bytes were written.
@@ -33,4 +37,11 @@ pub struct Opening {
 pub struct AgreedTime {
     pub number: u8,
     pub hour: u32,
+}
+
+// The answer of a call that is refused: nothing was written.
+pub fn refused(number: u8) -> Answer
+    ensures { λ r. ⌜ (r .number ≡ number) × (r .written ≡ 0) ⌝ }
+{
+    Answer { number, written: 0 }
 }
