@@ -9,3 +9,4 @@ pub mod Replies
 pub mod Changing
 pub mod LeastHours
 pub mod Acknowledging
+pub mod Announcing

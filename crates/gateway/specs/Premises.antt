@@ -3,6 +3,7 @@ use mathlib.Core.Path.{_≡_}
 use mathlib.Core.Bool.{true}
 use mathlib.Core.List.{List}
 use Prim.Native.Nat.{ℕ}
+use Rattle.memory.specs.Records.{Gateway}
 use Rattle.memory.specs.Codec.{headerAt}
 use Rattle.memory.specs.Soundness.{sound}
 use Rattle.memory.specs.declared.Header.{Header}
@@ -11,3 +12,21 @@ use Rattle.memory.specs.declared.Header.{Header}
 pub record Known (m : List ℕ) (h : Header) : Type 0 where
   pub soundness : sound m ≡ true
   pub header : h ≡ headerAt m
+
+-- the memory is sound, and this header has its settings and counts; the state, the agreed time and the round may differ
+pub record Changed (m : List ℕ) (h : Header) : Type 0 where
+  pub soundness : sound m ≡ true
+  pub settings : h .settings ≡ headerAt m .settings
+  pub queued : h .queued ≡ headerAt m .queued
+  pub outstanding : h .outstanding ≡ headerAt m .outstanding
+
+-- a gateway with the settings, state, agreed time and round of a header
+abbrev pub withHeader : Header → Gateway → Gateway
+withHeader h g = record {
+  settings = h .settings;
+  state = h .state;
+  agreed = h .agreed;
+  round = h .round;
+  queue = g .queue;
+  outstanding = g .outstanding;
+}

@@ -1,5 +1,6 @@
 // The gateway's calls.
 pub mod acknowledgment; // acknowledgment.rt: taking an acknowledgment
+pub mod announce; // announce.rt: telling other gateways of the round
 pub mod changes; // changes.rt: changes of the memory
 pub mod least; // least.rt: the least hours in the memory
 pub mod places; // places.rt: the places of the memory
