@@ -7,7 +7,7 @@ use mathlib.Core.List.{List}
 use lib.ListN.{length}
 use Rattle.buffer.specs.Slice.{part, write}
 use Rattle.buffer.proofs.Writes.{length-write}
-use Rattle.memory.specs.Claims.{Apart, before, after}
+use Rattle.memory.specs.Claims.{Apart, before}
 use Rattle.memory.proofs.Standing.{Stands, write-stands, stands-written, part-apart, write-swap}
 
 -- the header's two writes

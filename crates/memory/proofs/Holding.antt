@@ -1,8 +1,8 @@
 -- Memory that holds a gateway: its bytes stand in it. Writing the gateway makes it so, and reading gives the gateway.
-use mathlib.Core.Path.{_≡_, refl, sym, _∙_, ap}
-use Prim.Native.Nat.{ℕ, _+_, _*_, _≤_}
+use mathlib.Core.Path.{_≡_, _∙_, ap}
+use Prim.Native.Nat.{ℕ, _*_, _≤_}
 use native.Mathlib.Omega.{arith}
-use mathlib.Core.List.{List, [], _∷_, _++_}
+use mathlib.Core.List.{List}
 use lib.Dec.{lit≤}
 use lib.ListN.{length}
 use Rattle.buffer.specs.Slice.{part, write}
@@ -12,9 +12,9 @@ use Rattle.memory.specs.Claims.{Untouched}
 use Rattle.memory.specs.Codec.{entryBytes, entryOf, sentBytes, sentOf, headerAt, headerFront, headerBack, placesAt, placesBytes, decode, encode}
 use Rattle.memory.proofs.Standing.{Stands}
 use Rattle.memory.proofs.FourWrites.{headed, FourWrites, four-writes}
-use Rattle.memory.proofs.Places.{All, Sized, Stored, all-map, length-places, read-stored}
-use Rattle.memory.proofs.Fitting.{HeaderFits, GatewayFits}
-use Rattle.memory.proofs.RoundTrips.{length-front, length-back, length-entry, length-sent, entry-stored, sent-stored, header-back}
+use Rattle.memory.proofs.Places.{All, Sized, all-map, length-places, read-stored}
+use Rattle.memory.proofs.Fitting.{GatewayFits}
+use Rattle.memory.proofs.RoundTrips.{length-front, length-back, entry-length, sent-length, entry-kept, sent-kept, header-back}
 
 -- the memory is long enough for the gateway's settings, and no more places are used than there are
 pub record Room (g : Gateway) (m : List ℕ) : Type 0 where
@@ -32,10 +32,10 @@ pub record Holds (g : Gateway) (m : List ℕ) : Type 0 where
 module _ (g : Gateway) (r : GatewayFits g) where
   -- how long the gateway's bytes are
   pub queue-sized : All (Sized entryBytes 64) (g .queue)
-  queue-sized = all-map length-entry (r .queue)
+  queue-sized = all-map entry-length (r .queue)
 
   pub outstanding-sized : All (Sized sentBytes 32) (g .outstanding)
-  outstanding-sized = all-map length-sent (r .outstanding)
+  outstanding-sized = all-map sent-length (r .outstanding)
 
   pub length-queue : length (placesBytes entryBytes (g .queue)) ≡ 64 * length (g .queue)
   length-queue = length-places entryBytes 64 queue-sized
@@ -54,11 +54,11 @@ module _ (g : Gateway) (m : List ℕ) (r : GatewayFits g) (room : Room g m) wher
   holds-decode s =
       let h = holds-header s in
       let queue : placesAt entryOf 64 m 256 (headerAt m .queued) ≡ g .queue =
-      ap (λ k. placesAt entryOf 64 m 256 (k .queued)) h ∙ read-stored entryBytes entryOf 64 m 256 (all-map entry-stored (r .queue)) (s .queue)
+      ap (λ k. placesAt entryOf 64 m 256 (k .queued)) h ∙ read-stored entryBytes entryOf 64 m 256 (all-map entry-kept (r .queue)) (s .queue)
       in
       let outstanding : placesAt sentOf 32 m (outstandingAt (headerAt m .settings .q) 0) (headerAt m .outstanding) ≡ g .outstanding =
       ap (λ k. placesAt sentOf 32 m (outstandingAt (k .settings .q) 0) (k .outstanding)) h
-      ∙ read-stored sentBytes sentOf 32 m (outstandingAt (g .settings .q) 0) (all-map sent-stored (r .outstanding)) (s .outstanding)
+      ∙ read-stored sentBytes sentOf 32 m (outstandingAt (g .settings .q) 0) (all-map sent-kept (r .outstanding)) (s .outstanding)
       in
       λ i. record {
         settings = h i .settings;

@@ -1,4 +1,10 @@
 -- Laws of the bytes of a gateway.
+pub mod Stored
+pub mod Lamps
+pub mod Chains
+pub mod Deciding
+pub mod SameBytes
+pub mod Passing
 pub mod EventLaws
 pub mod Validated
 pub mod Standing
@@ -8,7 +14,6 @@ pub mod RoundTrips
 pub mod FromBytes
 pub mod FourWrites
 pub mod Holding
-pub mod Stored
-pub mod Lamps
 pub mod SoundMemory
 pub mod Changes
+pub mod ByParts

@@ -2,16 +2,17 @@
 -- same, and a change of the list is a write of the places that change.
 use mathlib.Core.Path.{_≡_, refl, sym, _∙_, ap, ap₂}
 use Prim.Native.Nat.{ℕ, zero, suc, _+_, _*_, _≤_}
-use native.Mathlib.Nat.{add-assoc, add-zero, zero-add, suc-add, mul-zero}
+use native.Mathlib.Nat.{add-zero, zero-add, suc-add, mul-zero}
 use native.Mathlib.Omega.{arith}
 use mathlib.Core.Logic.{⊎-elim}
 use mathlib.Core.List.{List, [], _∷_, _++_, append-assoc, append-nil, List·Memᴰ·head as here, List·Memᴰ·tail as there, List·Memᴰ·not-nil, List·Memᴰ·cases-cons}
 use lib.ListN.{length, length-append}
 use Rattle.routing.specs.Arcs.{_∈_}
 use Rattle.buffer.specs.Slice.{part, write}
-use Rattle.buffer.proofs.Writes.{part-nil, length-part}
+use Rattle.buffer.proofs.Writes.{part-nil}
 use Rattle.memory.specs.Codec.{placesAt, placesBytes}
-use Rattle.memory.proofs.Standing.{Stands, part-add, part-within, stands-front, stands-back, stands-append, write-behind, write-replaced, write-removed, write-inserted}
+use Rattle.memory.specs.Claims.{Apart}
+use Rattle.memory.proofs.Standing.{Stands, part-add, part-within, part-apart, stands-front, stands-back, write-past-front, write-replaced, write-removed, write-inserted}
 
 -- every element has the property
 pub data All {A : Type 0} (p : A → Type 0) : List A → Type 0 where
@@ -57,6 +58,14 @@ module _ {A : Type 0} (g : List ℕ → A) (size : ℕ) where
       let e : at + size * suc k ≡ at + size + size * k = omega arith in
       rw (suc-add, e) (ap (_∷_ (g (part m at size))) (read-add m (at + size) k n))
 
+  -- the place behind the first k
+  pub read-split : (m : List ℕ) (at k n : ℕ)
+      → placesAt g size m at (k + suc n) ≡ placesAt g size m at k ++ (g (part m (at + size * k) size) ∷ placesAt g size m (at + size * (k + 1)) n)
+  unfolding placesAt
+  read-split m at k n =
+      let e : at + size * k + size ≡ at + size * (k + 1) = omega arith in
+      rw e at (read-add m at k (suc n))
+
   pub read-same : (m k : List ℕ) (at n : ℕ) → part m at (size * n) ≡ part k at (size * n) → placesAt g size m at n ≡ placesAt g size k at n
   unfolding placesAt
   read-same m k at zero e = refl
@@ -64,6 +73,11 @@ module _ {A : Type 0} (g : List ℕ → A) (size : ℕ) where
       let whole : size * suc n ≡ size + size * n = omega arith in
       let here : part m at size ≡ part k at size = rw add-zero at (part-within m k at (size * suc n) 0 size (omega arith) e) in
       ap₂ _∷_ (ap g here) (read-same m k (at + size) n (part-within m k at (size * suc n) size (size * n) (omega arith) e))
+
+  -- a write apart from the places
+  pub read-apart : (from : ℕ) (xs m : List ℕ) (at n : ℕ) → from + length xs ≤ length m → Apart at (size * n) from (length xs)
+      → placesAt g size (write from xs m) at n ≡ placesAt g size m at n
+  read-apart from xs m at n fits apart = read-same (write from xs m) m at n (part-apart from xs m at (size * n) fits apart)
 
 -- the bytes of joined lists, and of one place
 module _ {A : Type 0} (f : A → List ℕ) where
@@ -134,7 +148,7 @@ module _ {A : Type 0} (f : A → List ℕ) (size at : ℕ) (m : List ℕ) where
   append-places xs ys ps qs fits stand =
       let l = length-places f size ps in
       let k = length-places f size qs in
-      rw (places-append f xs ys, ← l) (write-behind at (placesBytes f xs) (placesBytes f ys) m (rw (l, k) (omega arith)) stand)
+      rw (places-append f xs ys, ← l) (write-past-front at (placesBytes f xs) (placesBytes f ys) m (rw (l, k) (omega arith)) stand)
 
   module _ (xs ys zs : List A) (sized : All (Sized f size) (xs ++ (ys ++ zs))) (fits : at + size * (length xs + length ys + length zs) ≤ length m) where
     before : length (placesBytes f xs) ≡ size * length xs

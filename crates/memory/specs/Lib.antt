@@ -5,4 +5,5 @@ pub mod Layout
 pub mod Codec
 pub mod Validity
 pub mod Soundness
+pub mod Passes
 pub mod Claims

@@ -1,6 +1,8 @@
 // A gateway's lent memory: what stands where in its bytes, and when it is sound.
 pub mod header_bytes; // header_bytes.rt: the memory's first bytes
 pub mod place; // place.rt: queue places and outstanding places
+pub mod rules; // rules.rt: what a gateway keeps to
+pub mod soundness; // soundness.rt: whether lent memory is sound
 
 use model::Message;
 use model::State;

@@ -1,0 +1,18 @@
+-- `memory::rules::equal` meets its contract.
+use borrow.Author.Needs.{needs}
+use Rattle.memory.specs.Validity.{equal}
+use Rattle.memory.proofs.rules.equal.Statement.{statement}
+use Rattle.memory.proofs.rules.equal.Tie as tie
+
+compare-requires : tie.Need-compare-requires
+compare-requires c κs = search needs
+
+is-same-requires : tie.Need-is-same-requires
+is-same-requires c κs = search needs
+
+returns : tie.Need-returns
+unfolding equal
+returns c = cc
+
+pub equal-spec : {M : Type 1} → statement M
+equal-spec = tie.close (tie.spec compare-requires is-same-requires returns)

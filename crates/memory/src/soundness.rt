@@ -1,0 +1,192 @@
+// Whether lent memory is sound: its header, then one pass over the used queue places and one over the used outstanding places.
+use crate::Entry;
+use crate::Header;
+use crate::Mark;
+use crate::Sent;
+use crate::Settings;
+use crate::header_bytes::read_header;
+use crate::place::entry_of;
+use crate::place::sent_of;
+use crate::place::write_entry;
+use crate::place::write_sent;
+use crate::rules::entry_valid;
+use crate::rules::is_pending;
+use crate::rules::is_processed;
+use crate::rules::later;
+use crate::rules::meet;
+use crate::rules::round_possible;
+use crate::rules::sent_valid;
+use crate::rules::settings_valid;
+use crate::rules::size_for;
+ghost use mathlib.Core.Path.{_≡_};
+ghost use mathlib.Core.Bool.{_&&_, _||_};
+ghost use Prim.Native.Nat.{_+_, _*_, _≤_};
+ghost use lib.ListN.{length};
+ghost use Rattle.memory.specs.Codec.{headerAt, entryBytes, sentBytes};
+ghost use Rattle.memory.specs.Validity.{pendingMark, processedMark};
+ghost use Rattle.memory.specs.Soundness.{sameBytes, headerSound, sound};
+ghost use Rattle.memory.specs.Passes.{entryFits, queueSound, outstandingSound};
+
+pub fn sound(memory: &[u8]) -> bool
+    ensures { λ r. ⌜ r ≡ sound (now (memory .entry)) ⌝ }
+{
+    if memory.len() < 256 {
+        return false;
+    }
+    let header = read_header(memory);
+    let settings = header.settings;
+    let round = header.round;
+    if !header_sound(memory, header) {
+        return false;
+    }
+    if !round_possible(settings, round) {
+        return false;
+    }
+    if !queue_sound(memory, settings, header.queued as usize) {
+        return false;
+    }
+    let at = 256 + 64 * (settings.q as usize);
+    outstanding_sound(memory, settings, at, header.outstanding as usize)
+}
+
+fn header_sound(memory: &[u8], header: Header) -> bool
+    requires { ⌜ (256 ≤ length (now memory)) × (header ≡ headerAt (now memory)) ⌝ }
+    ensures { λ r. ⌜ r ≡ headerSound (now (memory .entry)) ⌝ }
+{
+    let settings = header.settings;
+    if !settings_valid(settings) {
+        return false;
+    }
+    if memory.len() < size_for(settings) {
+        return false;
+    }
+    if memory[3] > 2 {
+        return false;
+    }
+    if header.queued > settings.q {
+        return false;
+    }
+    header.outstanding <= settings.u
+}
+
+// One pass: each place in its one form, and its entry valid and rightly placed behind the one before it. The first entry has
+// none before it and is compared with itself.
+fn queue_sound(memory: &[u8], settings: Settings, count: usize) -> bool
+    requires { ⌜ (320 ≤ length (now memory)) × (256 + 64 * count ≤ length (now memory)) ⌝ }
+    ensures { λ r. ⌜ r ≡ queueSound settings (now (memory .entry)) count ⌝ }
+{
+    let mut before = entry_of(&memory[256..320]);
+    let mut seen = false;
+    let mut at = 256;
+    let mut left = count;
+    while left > 0 {
+        let end = at + 64;
+        let place = &memory[at..end];
+        let entry = entry_of(place);
+        if !entry_exact(place, entry) {
+            return false;
+        }
+        if !entry_fits(settings, before, seen, entry) {
+            return false;
+        }
+        let mark = entry.mark;
+        seen = pending_seen(seen, mark);
+        before = entry;
+        at += 64;
+        left -= 1;
+    }
+    true
+}
+
+fn outstanding_sound(memory: &[u8], settings: Settings, start: usize, count: usize) -> bool
+    requires { ⌜ start + 32 * count ≤ length (now memory) ⌝ }
+    ensures { λ r. ⌜ r ≡ outstandingSound settings (now (memory .entry)) start count ⌝ }
+{
+    let mut at = start;
+    let mut left = count;
+    while left > 0 {
+        let end = at + 32;
+        let place = &memory[at..end];
+        let sent = sent_of(place);
+        if !sent_exact(place, sent) {
+            return false;
+        }
+        if !sent_valid(settings, sent) {
+            return false;
+        }
+        at += 32;
+        left -= 1;
+    }
+    true
+}
+
+// Whether an entry is valid and may stand behind another.
+fn entry_fits(settings: Settings, before: Entry, seen: bool, entry: Entry) -> bool
+    ensures { λ r. ⌜ r ≡ entryFits settings before seen entry ⌝ }
+{
+    let first = before.message;
+    let second = entry.message;
+    let mark = entry.mark;
+    if !entry_valid(settings, entry) {
+        return false;
+    }
+    if later(first, second) {
+        return false;
+    }
+    if processed_behind(seen, mark) {
+        return false;
+    }
+    !meet(before, entry)
+}
+
+fn processed_behind(seen: bool, mark: Mark) -> bool
+    ensures { λ r. ⌜ r ≡ (seen && processedMark mark) ⌝ }
+{
+    if !seen {
+        return false;
+    }
+    is_processed(mark)
+}
+
+fn pending_seen(seen: bool, mark: Mark) -> bool
+    ensures { λ r. ⌜ r ≡ (seen || pendingMark mark) ⌝ }
+{
+    if seen {
+        return true;
+    }
+    is_pending(mark)
+}
+
+// Whether a queue place holds just the bytes of an entry.
+fn entry_exact(place: &[u8], entry: Entry) -> bool
+    requires { ⌜ length (now place) ≡ 64 ⌝ }
+    ensures { λ r. ⌜ r ≡ sameBytes (entryBytes entry) (now (place .entry)) ⌝ }
+{
+    let mut bytes = [0; 64];
+    write_entry(&mut bytes, 0, entry);
+    same_bytes(&bytes, place)
+}
+
+// Whether an outstanding place holds just the bytes of what was sent.
+fn sent_exact(place: &[u8], sent: Sent) -> bool
+    requires { ⌜ length (now place) ≡ 32 ⌝ }
+    ensures { λ r. ⌜ r ≡ sameBytes (sentBytes sent) (now (place .entry)) ⌝ }
+{
+    let mut bytes = [0; 32];
+    write_sent(&mut bytes, 0, sent);
+    same_bytes(&bytes, place)
+}
+
+fn same_bytes(a: &[u8], b: &[u8]) -> bool
+    requires { ⌜ length (now a) ≡ length (now b) ⌝ }
+    ensures { λ r. ⌜ r ≡ sameBytes (now (a .entry)) (now (b .entry)) ⌝ }
+{
+    let mut i = 0;
+    while i < a.len() {
+        if a[i] != b[i] {
+            return false;
+        }
+        i += 1;
+    }
+    true
+}
