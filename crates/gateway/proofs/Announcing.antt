@@ -45,7 +45,7 @@ kind-below Lvt = omega arith
 kind-below Update = omega arith
 
 -- a kind's whole length is small, and so are two of them
-kind-small : (kind : Kind) → wholeLength (mapOfKind (kindNumber kind)) ≤ 28
+pub kind-small : (kind : Kind) → wholeLength (mapOfKind (kindNumber kind)) ≤ 28
 unfolding wholeLength mapOfKind
 kind-small (Failure origin) = omega arith
 kind-small (Request origin) = omega arith

@@ -10,3 +10,6 @@ pub mod Changing
 pub mod LeastHours
 pub mod Acknowledging
 pub mod Announcing
+pub mod Calling
+pub mod Stepping
+pub mod Recording

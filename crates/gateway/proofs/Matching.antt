@@ -2,10 +2,7 @@
 use mathlib.Core.Path.{_≡_, refl, sym, _∙_, ap}
 use mathlib.Core.Bool.{Bool, true, false, cond, not, _&&_}
 use borrow.Author.Tests.{not-true, not-false}
-use Rattle.model.specs.EventOrder.{key, compared}
 use Rattle.model.specs.declared.Message.{Message}
-use Rattle.model.specs.declared.order.Comparison.{Comparison}
-use Rattle.model.specs.declared.order.Comparison.the-variants.{Before, Same, After}
 use Rattle.memory.specs.Validity.{equal, later, waitingMark}
 use Rattle.memory.specs.declared.Entry.{Entry}
 use Rattle.memory.specs.declared.Sent.{Sent}
@@ -13,31 +10,6 @@ use Rattle.gateway.specs.Taking.{isCancelOf, isPlain, isSent}
 use Rattle.gateway.specs.Searching.{passes}
 use Rattle.gateway.specs.declared.places.Search.{Search}
 use Rattle.gateway.specs.declared.places.Search.the-variants.{CancelOf, Later}
-
-module _ (a b : Message) {found : Comparison} (r : found ≡ compared (key a) (key b)) where
-  pub equal-before : found ≡ Before → false ≡ equal a b
-  unfolding equal
-  equal-before e = rw (← r, e)
-
-  pub equal-same : found ≡ Same → true ≡ equal a b
-  unfolding equal
-  equal-same e = rw (← r, e)
-
-  pub equal-after : found ≡ After → false ≡ equal a b
-  unfolding equal
-  equal-after e = rw (← r, e)
-
-  pub later-before : found ≡ Before → false ≡ later a b
-  unfolding later
-  later-before e = rw (← r, e)
-
-  pub later-same : found ≡ Same → false ≡ later a b
-  unfolding later
-  later-same e = rw (← r, e)
-
-  pub later-after : found ≡ After → true ≡ later a b
-  unfolding later
-  later-after e = rw (← r, e)
 
 -- a waiting cancel of the message, and a plain message that equals it
 module _ (m : Message) (e : Entry) {waits : Bool} (w : waits ≡ waitingMark (e .mark)) where

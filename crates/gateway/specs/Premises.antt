@@ -1,12 +1,17 @@
 -- What the functions inside a call are told of the memory. No call's own contract cites this file.
 use mathlib.Core.Path.{_≡_}
-use mathlib.Core.Bool.{true}
-use mathlib.Core.List.{List}
-use Prim.Native.Nat.{ℕ}
+use mathlib.Core.Bool.{true, cond}
+use mathlib.Core.List.{List, _++_}
+use Prim.Native.Nat.{ℕ, suc}
+use lib.Dec.{leb}
+use lib.ListN.{length, take, drop}
 use Rattle.memory.specs.Records.{Gateway}
 use Rattle.memory.specs.Codec.{headerAt}
 use Rattle.memory.specs.Soundness.{sound}
 use Rattle.memory.specs.declared.Header.{Header}
+use Rattle.memory.specs.declared.Entry.{Entry}
+use Rattle.gateway.specs.Effects.{Outcome, refused, withQueue}
+use Rattle.gateway.specs.Committing.{recordOf}
 
 -- the memory is sound, and this is its header
 pub record Known (m : List ℕ) (h : Header) : Type 0 where
@@ -30,3 +35,10 @@ withHeader h g = record {
   queue = g .queue;
   outstanding = g .outstanding;
 }
+
+-- committing the entry e in queue place k
+unfoldable pub recorded : ℕ → ℕ → Entry → Gateway → Outcome
+recorded room k e g =
+    cond (leb (length (recordOf e)) room)
+    (record { number = 0; gateway = withQueue (take k (g .queue) ++ drop (suc k) (g .queue)) g; output = recordOf e })
+    (refused 5 g)

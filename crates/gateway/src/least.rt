@@ -1,8 +1,8 @@
 // The least hours in a gateway's memory.
-use crate::places::is_processed;
 use memory::Entry;
 use memory::place::read_entry;
 use memory::place::read_sent;
+use memory::rules::is_processed;
 ghost use mathlib.Core.Path.{_≡_};
 ghost use Prim.Native.Nat.{_+_, _*_, _≤_, min};
 ghost use lib.ListN.{length};

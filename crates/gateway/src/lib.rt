@@ -1,10 +1,14 @@
 // The gateway's calls.
 pub mod acknowledgment; // acknowledgment.rt: taking an acknowledgment
+pub mod agreed; // agreed.rt: reading the agreed time
 pub mod announce; // announce.rt: telling other gateways of the round
 pub mod changes; // changes.rt: changes of the memory
+pub mod commit; // commit.rt: commit
 pub mod least; // least.rt: the least hours in the memory
 pub mod places; // places.rt: the places of the memory
 pub mod round; // round.rt: whom a gateway hears and tells
+pub mod round_steps; // round_steps.rt: the steps of a round
+pub mod start; // start.rt: the start call
 
 ghost use mathlib.Core.Path.{_≡_};
 

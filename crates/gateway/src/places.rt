@@ -4,15 +4,17 @@ use memory::Mark;
 use memory::Sent;
 use memory::place::read_entry;
 use memory::place::read_sent;
+use memory::rules::equal;
+use memory::rules::is_pending;
+use memory::rules::is_processed;
+use memory::rules::is_waiting;
+use memory::rules::later;
 use model::Message;
-use model::order::Comparison;
-use model::order::compare;
 ghost use mathlib.Core.Path.{_≡_};
 ghost use Prim.Native.Nat.{_+_, _*_, _-_, _≤_};
 ghost use lib.ListN.{length};
 ghost use Rattle.buffer.specs.Slice.{part, write};
 ghost use Rattle.memory.specs.Codec.{placesAt, entryOf};
-ghost use Rattle.memory.specs.Validity.{pendingMark, processedMark, waitingMark, equal, later};
 ghost use Rattle.gateway.specs.Taking.{isCancelOf, isPlain, isSent};
 ghost use Rattle.gateway.specs.Searching.{firstWhere, pastLast, passes, hasMark, sameMark, entriesIn, sentIn};
 
@@ -173,57 +175,5 @@ pub fn move_up(memory: &mut [u8], from: usize, at: usize, count: usize)
     while left > 0 {
         left -= 1;
         memory[at + left] = memory[from + left];
-    }
-}
-
-pub fn is_pending(mark: Mark) -> bool
-    ensures { λ r. ⌜ r ≡ pendingMark mark ⌝ }
-{
-    match mark {
-        Mark::Pending => true,
-        Mark::Processed => false,
-        Mark::Waiting => false,
-    }
-}
-
-pub fn is_processed(mark: Mark) -> bool
-    ensures { λ r. ⌜ r ≡ processedMark mark ⌝ }
-{
-    match mark {
-        Mark::Pending => false,
-        Mark::Processed => true,
-        Mark::Waiting => false,
-    }
-}
-
-pub fn is_waiting(mark: Mark) -> bool
-    ensures { λ r. ⌜ r ≡ waitingMark mark ⌝ }
-{
-    match mark {
-        Mark::Pending => false,
-        Mark::Processed => false,
-        Mark::Waiting => true,
-    }
-}
-
-pub fn equal(a: Message, b: Message) -> bool
-    ensures { λ r. ⌜ r ≡ equal a b ⌝ }
-{
-    let found = compare(a, b);
-    match found {
-        Comparison::Before => false,
-        Comparison::Same => true,
-        Comparison::After => false,
-    }
-}
-
-pub fn later(a: Message, b: Message) -> bool
-    ensures { λ r. ⌜ r ≡ later a b ⌝ }
-{
-    let found = compare(a, b);
-    match found {
-        Comparison::Before => false,
-        Comparison::Same => false,
-        Comparison::After => true,
     }
 }
