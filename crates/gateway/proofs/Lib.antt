@@ -13,3 +13,4 @@ pub mod Announcing
 pub mod Calling
 pub mod Stepping
 pub mod Recording
+pub mod Arriving

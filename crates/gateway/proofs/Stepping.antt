@@ -42,19 +42,19 @@ module _ (m : List ℕ) (h : Header) (k : Known m h) where
     outstanding = ap (λ (x : Header). x .outstanding) (k .header);
   })
 
-  gateway-is : (agreed : ℕ) (round : Round) → withHeader (changedTo h agreed round) (decode m) ≡ withAgreed agreed (withRound round (decode m))
+  pub gateway-is : (agreed : ℕ) (round : Round) → withHeader (changedTo h agreed round) (decode m) ≡ withAgreed agreed (withRound round (decode m))
   unfolding decode
   gateway-is agreed round = rw (k .header)
 
-  agreed-is : h .agreed ≡ decode m .agreed
+  pub agreed-is : h .agreed ≡ decode m .agreed
   unfolding decode
   agreed-is = rw (k .header)
 
-  settings-are : h .settings ≡ decode m .settings
+  pub settings-are : h .settings ≡ decode m .settings
   unfolding decode
   settings-are = rw (k .header)
 
-  round-is : h .round ≡ decode m .round
+  pub round-is : h .round ≡ decode m .round
   unfolding decode
   round-is = rw (k .header)
 
@@ -87,7 +87,7 @@ module _ (m : List ℕ) (h : Header) (k : Known m h) where
 
   -- a refusal with 4
   module _ (output : List ℕ) {r : Answer} (four : (r .number ≡ 4) × (r .written ≡ 0)) where
-    out-of-turn : (g : Gateway) → record { answer = r; memory = m; output = output } ≡ leaving (refused 4 g) m output
+    pub out-of-turn : (g : Gateway) → record { answer = r; memory = m; output = output } ≡ leaving (refused 4 g) m output
     unfolding leaving
     out-of-turn g = λ i. record { answer = record { number = four .0 i; written = four .1 i }; memory = m; output = output }
 

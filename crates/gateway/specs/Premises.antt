@@ -1,16 +1,18 @@
 -- What the functions inside a call are told of the memory. No call's own contract cites this file.
 use mathlib.Core.Path.{_≡_}
 use mathlib.Core.Bool.{true, cond}
-use mathlib.Core.List.{List, _++_}
+use mathlib.Core.List.{List, [], _++_}
 use Prim.Native.Nat.{ℕ, suc}
-use lib.Dec.{leb}
+use lib.Dec.{leb, eqb}
 use lib.ListN.{length, take, drop}
 use Rattle.memory.specs.Records.{Gateway}
 use Rattle.memory.specs.Codec.{headerAt}
 use Rattle.memory.specs.Soundness.{sound}
 use Rattle.memory.specs.declared.Header.{Header}
 use Rattle.memory.specs.declared.Entry.{Entry}
-use Rattle.gateway.specs.Effects.{Outcome, refused, withQueue}
+use Rattle.memory.specs.declared.Phase.the-variants.{Idle, Stopped}
+use Rattle.gateway.specs.Effects.{Effect, Outcome, refused, withQueue, withRound}
+use Rattle.gateway.specs.Rounds.{begun, finished}
 use Rattle.gateway.specs.Committing.{recordOf}
 
 -- the memory is sound, and this is its header
@@ -42,3 +44,16 @@ recorded room k e g =
     cond (leb (length (recordOf e)) room)
     (record { number = 0; gateway = withQueue (take k (g .queue) ++ drop (suc k) (g .queue)) g; output = recordOf e })
     (refused 5 g)
+
+-- one more Start is in, or one more Lvt; all are those whose bits are told
+unfoldable pub startIn : ℕ → ℕ → Gateway → Effect
+startIn all arrived g =
+    cond (eqb arrived all)
+    (begun g)
+    (record { gateway = withRound (record { phase = Idle; arrived = arrived; note = g .round .note }) g; frames = [] })
+
+unfoldable pub lvtIn : ℕ → ℕ → ℕ → Gateway → Effect
+lvtIn all arrived value g =
+    cond (eqb arrived all)
+    (finished value g)
+    (record { gateway = withRound (record { phase = Stopped; arrived = arrived; note = value }) g; frames = [] })

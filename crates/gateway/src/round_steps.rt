@@ -24,7 +24,7 @@ ghost use Rattle.memory.specs.Codec.{decode};
 ghost use Rattle.gateway.specs.Effects.{settled};
 ghost use Rattle.gateway.specs.Rounds.{idle, isIdle, finished, begun, start, stands, takeStart, takeLvt, takeUpdate, valueIn};
 ghost use Rattle.gateway.specs.Calls.{leaving};
-ghost use Rattle.gateway.specs.Premises.{Known};
+ghost use Rattle.gateway.specs.Premises.{Known, startIn, lvtIn};
 
 // With all Lvts in: gateway 0 closes the round and sends Updates, another sends its Lvt along from.
 fn finish(memory: &mut [u8], output: &mut [u8], header: Header, value: u32) -> Answer
@@ -115,6 +115,128 @@ pub fn take_update(memory: &mut [u8], output: &mut [u8], header: Header, k: u8, 
         hour,
         children(settings.n, settings.own),
     )
+}
+
+// Taking a Start from gateway k.
+pub fn take_start(memory: &mut [u8], output: &mut [u8], header: Header, k: u8) -> Answer
+    requires { ⌜ Known (now memory) header ⌝ }
+    ensures { λ r. ⌜ record { answer = r; memory = now (memory .exit); output = now (output .exit) } ≡ leaving (takeStart (length (now (output .entry))) k (decode (now (memory .entry)))) (now (memory .entry)) (now (output .entry)) ⌝ }
+{
+    let settings = header.settings;
+    let round = header.round;
+    let phase = round.phase;
+    if !is_idle(phase) {
+        return refused(4);
+    }
+    let among = heard(settings.n, settings.own);
+    let bit = bit_of(k, among);
+    if !awaited(bit, round.arrived) {
+        return refused(4);
+    }
+    start_in(memory, output, header, all_bits(among), round.arrived + bit)
+}
+
+// Taking an Lvt from gateway k: it lowers the value, which the first one fixes.
+pub fn take_lvt(memory: &mut [u8], output: &mut [u8], header: Header, k: u8, hour: u32) -> Answer
+    requires { ⌜ Known (now memory) header ⌝ }
+    ensures { λ r. ⌜ record { answer = r; memory = now (memory .exit); output = now (output .exit) } ≡ leaving (takeLvt (length (now (output .entry))) k hour (decode (now (memory .entry)))) (now (memory .entry)) (now (output .entry)) ⌝ }
+{
+    let settings = header.settings;
+    let round = header.round;
+    let phase = round.phase;
+    if is_idle(phase) {
+        return refused(4);
+    }
+    let among = told(settings.n, settings.own);
+    let bit = bit_of(k, among);
+    if !awaited(bit, round.arrived) {
+        return refused(4);
+    }
+    let value = lesser(value_in(memory, header), hour);
+    lvt_in(
+        memory,
+        output,
+        header,
+        all_bits(among),
+        round.arrived + bit,
+        value,
+    )
+}
+
+// One more Start is in; with all in the round begins here.
+fn start_in(memory: &mut [u8], output: &mut [u8], header: Header, all: u8, arrived: u8) -> Answer
+    requires { ⌜ Known (now memory) header ⌝ }
+    ensures { λ r. ⌜ record { answer = r; memory = now (memory .exit); output = now (output .exit) } ≡ leaving (settled (length (now (output .entry))) (decode (now (memory .entry))) (startIn all arrived (decode (now (memory .entry))))) (now (memory .entry)) (now (output .entry)) ⌝ }
+{
+    if arrived == all {
+        return begin(memory, output, header);
+    }
+    let round = header.round;
+    let next = changed(header, header.agreed, waiting(arrived, round.note));
+    announce(memory, output, next, Kind::Start, 0, nobody())
+}
+
+// One more Lvt is in; with all in the round is finished here.
+fn lvt_in(
+    memory: &mut [u8],
+    output: &mut [u8],
+    header: Header,
+    all: u8,
+    arrived: u8,
+    value: u32,
+) -> Answer
+    requires { ⌜ Known (now memory) header ⌝ }
+    ensures { λ r. ⌜ record { answer = r; memory = now (memory .exit); output = now (output .exit) } ≡ leaving (settled (length (now (output .entry))) (decode (now (memory .entry))) (lvtIn all arrived value (decode (now (memory .entry))))) (now (memory .entry)) (now (output .entry)) ⌝ }
+{
+    if arrived == all {
+        return finish(memory, output, header, value);
+    }
+    let next = changed(header, header.agreed, stopped(arrived, value));
+    announce(memory, output, next, Kind::Lvt, 0, nobody())
+}
+
+// The value before an Lvt: the first one stops the note and takes the value then.
+fn value_in(memory: &[u8], header: Header) -> u32
+    requires { ⌜ Known (now memory) header ⌝ }
+    ensures { λ r. ⌜ r ≡ valueIn (header .round .phase) (decode (now (memory .entry))) ⌝ }
+{
+    let round = header.round;
+    let phase = round.phase;
+    match phase {
+        Phase::Idle => 0,
+        Phase::Counting => lesser(round.note, least_queued(memory, header.queued as usize)),
+        Phase::Stopped => round.note,
+    }
+}
+
+// Whether a bit stands for a gateway, and has not yet arrived.
+fn awaited(bit: u8, arrived: u8) -> bool
+    ensures { λ r. ⌜ r ≡ (leb 1 bit && not (stands bit arrived)) ⌝ }
+{
+    if bit == 0 {
+        return false;
+    }
+    arrived / bit % 2 != 1
+}
+
+fn waiting(arrived: u8, note: u32) -> Round
+    ensures { λ r. ⌜ r ≡ record { phase = Phase.Idle; arrived = arrived; note = note } ⌝ }
+{
+    Round {
+        phase: Phase::Idle,
+        arrived,
+        note,
+    }
+}
+
+fn stopped(arrived: u8, value: u32) -> Round
+    ensures { λ r. ⌜ r ≡ record { phase = Phase.Stopped; arrived = arrived; note = value } ⌝ }
+{
+    Round {
+        phase: Phase::Stopped,
+        arrived,
+        note: value,
+    }
 }
 
 // The header with another agreed time and round.
