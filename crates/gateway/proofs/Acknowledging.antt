@@ -1,18 +1,17 @@
 -- A law for each branch of taking an acknowledgment.
-use mathlib.Core.Path.{_≡_, refl, sym, _∙_, ap}
-use mathlib.Core.Bool.{Bool, true, false, cond}
-use mathlib.Core.List.{List, [], _∷_, _++_}
-use Prim.Native.Nat.{ℕ, suc, _+_, _*_, _≤_, _<_}
+use mathlib.Core.Path.{_≡_}
+use mathlib.Core.Bool.{Bool}
+use mathlib.Core.List.{List, _++_}
+use Prim.Native.Nat.{ℕ, suc, _+_, _<_}
 use native.Mathlib.Omega.{arith}
-use lib.ListN.{length, take, drop}
-use Rattle.buffer.specs.Slice.{write}
+use lib.ListN.{take, drop}
 use Rattle.buffer.proofs.Writes.{write-nil}
 use Rattle.model.specs.declared.Message.{Message}
 use Rattle.memory.specs.Codec.{decode, encode}
 use Rattle.memory.specs.declared.Header.{Header}
 use Rattle.gateway.specs.Effects.{withOutstanding}
-use Rattle.gateway.specs.Taking.{any, withoutFirst, isSent, takeAcknowledgment}
-use Rattle.gateway.specs.Calls.{Left, leaving}
+use Rattle.gateway.specs.Taking.{isSent, takeAcknowledgment}
+use Rattle.gateway.specs.Calls.{leaving}
 use Rattle.gateway.specs.Premises.{Known}
 use Rattle.gateway.specs.Searching.{firstWhere, sentIn}
 use Rattle.gateway.specs.declared.Answer.{Answer}

@@ -1,13 +1,13 @@
 -- Laws of a round's frames to at most two gateways, and of a header written together with them.
 use mathlib.Core.Path.{_≡_, refl, sym, _∙_, ap}
-use mathlib.Core.Bool.{Bool, true, false, cond, _&&_}
-use mathlib.Core.List.{List, [], _∷_, _++_, append-nil}
-use Prim.Native.Nat.{ℕ, zero, suc, _+_, _-_, _*_, _^_, _≤_, _<_}
+use mathlib.Core.Bool.{Bool, true, false}
+use mathlib.Core.List.{List, [], _++_, append-nil}
+use Prim.Native.Nat.{ℕ, _+_, _-_, _*_, _^_, _≤_, _<_}
 use native.Mathlib.Nat.{zero-add, mul-le-mul-right}
 use native.Mathlib.Omega.{arith}
-use lib.Dec.{leb, eqb, lit≤}
+use lib.Dec.{eqb, lit≤}
 use lib.ListN.{length, length-append}
-use borrow.Author.Tests.{eq-eqb, ne-eqb, eqb-true, eqb-false, le-leb, lt-leb}
+use borrow.Author.Tests.{ne-eqb, eqb-true, eqb-false, le-leb, lt-leb}
 use Rattle.buffer.specs.Slice.{Bytes, write}
 use Rattle.buffer.proofs.Writes.{write-nil, write-join, length-write}
 use Rattle.model.specs.Messages.{kindNumber}
@@ -20,16 +20,16 @@ use Rattle.frame.specs.declared.Frame.{Frame}
 use Rattle.frame.proofs.Output.{whole-size}
 use Rattle.memory.specs.Records.{Gateway, headerOf}
 use Rattle.memory.specs.Layout.{outstandingAt}
-use Rattle.memory.specs.Codec.{headerAt, headerFront, headerBack, entryBytes, sentBytes, placesBytes, decode, encode}
+use Rattle.memory.specs.Codec.{headerFront, headerBack, entryBytes, sentBytes, placesBytes, decode, encode}
 use Rattle.memory.specs.declared.Header.{Header}
 use Rattle.memory.proofs.Standing.{write-stands}
 use Rattle.memory.proofs.RoundTrips.{length-front, length-back}
 use Rattle.memory.proofs.FourWrites.{four-writes}
 use Rattle.memory.proofs.Holding.{Room, length-queue, length-outstanding}
 use Rattle.memory.proofs.SoundMemory.{sound-facts, sound-holds, sound-room, sound-fits, header-held}
-use Rattle.gateway.specs.Effects.{Effect, bytesOfFrames, fits, settled}
+use Rattle.gateway.specs.Effects.{bytesOfFrames, fits, settled}
 use Rattle.gateway.specs.Rounds.{roundFrame, frames}
-use Rattle.gateway.specs.Calls.{Left, leaving}
+use Rattle.gateway.specs.Calls.{leaving}
 use Rattle.gateway.specs.Premises.{Changed, withHeader}
 use Rattle.gateway.specs.Receivers.{listed}
 use Rattle.gateway.specs.declared.round.Few.{Few}
@@ -189,9 +189,6 @@ module _ (m : List ℕ) (h : Header) (c : Changed m h) (bytes : Bytes m) where
       ∙ (w .header-last ∙ rw (queue, sent)))
 
   module _ (kind : Kind) (hour : ℕ) (to : Few) (few : to .count ≤ 2) (output : List ℕ) {n map one : ℕ} (a : n ≡ kindNumber kind) (b : map ≡ mapOfKind n) (d : one ≡ wholeLength map) where
-    announced : Effect
-    announced = record { gateway = withHeader h (decode m); frames = frames kind hour (h .settings .own) (listed to) }
-
     size : to .count * one ≡ length (bytesOfFrames (frames kind hour (h .settings .own) (listed to)))
     size = rw (d, b, a) (sym (frames-size kind hour (h .settings .own) to few))
 

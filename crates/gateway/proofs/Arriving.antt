@@ -1,8 +1,8 @@
 -- A law for each branch of taking a Start or an Lvt.
-use mathlib.Core.Path.{_≡_, refl, sym, _∙_, ap}
-use mathlib.Core.Bool.{Bool, true, false, cond, not, _&&_}
-use mathlib.Core.List.{List, [], _∷_}
-use Prim.Native.Nat.{ℕ, zero, suc, _+_, _*_, _/_, _%_, _≤_, _<_, min}
+use mathlib.Core.Path.{_≡_, sym, _∙_}
+use mathlib.Core.Bool.{Bool, true, false, not, _&&_}
+use mathlib.Core.List.{List, []}
+use Prim.Native.Nat.{ℕ, zero, suc, _+_, _/_, _%_, _≤_, _<_, min}
 use native.Mathlib.Omega.{arith}
 use lib.Dec.{leb, eqb}
 use lib.ListN.{length}
@@ -13,11 +13,10 @@ use Rattle.model.specs.declared.Kind.the-variants.{Start, Lvt}
 use Rattle.memory.specs.Codec.{decode}
 use Rattle.memory.specs.declared.Header.{Header}
 use Rattle.memory.specs.declared.Round.{Round}
-use Rattle.memory.specs.declared.Phase.{Phase}
 use Rattle.memory.specs.declared.Phase.the-variants.{Idle, Counting, Stopped}
-use Rattle.memory.proofs.Validated.{and-left, and-right}
+use Rattle.memory.proofs.Validated.{and-right}
 use Rattle.memory.proofs.SoundMemory.{sound-facts, sound-fits}
-use Rattle.gateway.specs.Effects.{Effect, settled}
+use Rattle.gateway.specs.Effects.{settled}
 use Rattle.gateway.specs.Rounds.{leastQueued, frames, finished, begun, isIdle, bitOf, allBits, stands, oneStart, oneLvt, takeStart, takeLvt, valueIn}
 use Rattle.gateway.specs.Calls.{Left, leaving}
 use Rattle.gateway.specs.Premises.{Known, withHeader, startIn, lvtIn}

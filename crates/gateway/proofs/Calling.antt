@@ -1,7 +1,7 @@
 -- A law for each branch of a call before it looks at what it was asked: memory that is not sound, and memory that is.
-use mathlib.Core.Path.{_≡_, refl, sym, _∙_, ap}
-use mathlib.Core.Bool.{Bool, true, false, cond, not}
-use mathlib.Core.List.{List, [], _∷_}
+use mathlib.Core.Path.{_≡_, refl, sym, _∙_}
+use mathlib.Core.Bool.{Bool, true, false, not}
+use mathlib.Core.List.{List}
 use Prim.Native.Nat.{ℕ, _≤_}
 use native.Mathlib.Omega.{arith}
 use lib.ListN.{length}
@@ -13,10 +13,9 @@ use Rattle.memory.specs.declared.Header.{Header}
 use Rattle.memory.proofs.SoundMemory.{sound-facts}
 use Rattle.gateway.specs.Effects.{Outcome}
 use Rattle.gateway.specs.Rounds.{start}
-use Rattle.gateway.specs.Calls.{Left, leaving, onSound, refusedWith, agreedTime, started}
+use Rattle.gateway.specs.Calls.{Left, leaving, onSound, agreedTime, started}
 use Rattle.gateway.specs.Premises.{Known}
 use Rattle.gateway.specs.declared.Answer.{Answer}
-use Rattle.gateway.specs.declared.AgreedTime.{AgreedTime}
 
 module _ (m : List ℕ) {ok : Bool} (e : ok ≡ sound m) where
   pub is-sound : not ok ≡ false → sound m ≡ true

@@ -1,8 +1,7 @@
 -- What is known of sound memory, and what a change of a place comes to in the memory.
-use mathlib.Core.Path.{_≡_, refl, sym, _∙_, ap, subst}
-use mathlib.Core.Bool.{true}
+use mathlib.Core.Path.{_≡_, refl, sym, _∙_, subst}
 use mathlib.Core.List.{List, [], _∷_, _++_}
-use Prim.Native.Nat.{ℕ, zero, suc, _+_, _-_, _*_, _≤_, _<_}
+use Prim.Native.Nat.{ℕ, suc, _+_, _-_, _*_, _≤_, _<_}
 use native.Mathlib.Nat.{add-zero}
 use native.Mathlib.Omega.{arith}
 use lib.ListN.{length, take, drop, getD, length-append, length-take, length-drop, take-append-drop}
@@ -13,17 +12,16 @@ use Rattle.buffer.specs.Slice.{Bytes, part, write}
 use Rattle.memory.specs.Records.{Gateway, headerOf}
 use Rattle.memory.specs.Layout.{outstandingAt}
 use Rattle.memory.specs.Codec.{headerAt, headerFront, headerBack, entryBytes, entryOf, sentBytes, sentOf, placesAt, placesBytes, decode, encode}
-use Rattle.memory.specs.Soundness.{sound}
 use Rattle.memory.specs.declared.Header.{Header}
 use Rattle.memory.specs.declared.Entry.{Entry}
 use Rattle.memory.specs.declared.Sent.{Sent}
 use Rattle.memory.proofs.Validated.{ValidSettings, settings-facts}
 use Rattle.memory.proofs.Standing.{Stands}
 use Rattle.memory.proofs.Places.{All, all-append, all-front, all-back, Sized, remove-place, length-read}
-use Rattle.memory.proofs.Fitting.{EntryFits, SentFits, GatewayFits, HeaderFits}
+use Rattle.memory.proofs.Fitting.{GatewayFits}
 use Rattle.memory.proofs.Holding.{Room, Holds, queue-sized, outstanding-sized}
-use Rattle.memory.proofs.SoundMemory.{Sound, sound-facts, sound-holds, sound-room, sound-fits, header-held}
-use Rattle.memory.proofs.Changes.{queue-changed, outstanding-changed, header-changed}
+use Rattle.memory.proofs.SoundMemory.{sound-facts, sound-holds, sound-room, sound-fits, header-held}
+use Rattle.memory.proofs.Changes.{queue-changed, outstanding-changed}
 use Rattle.gateway.specs.Effects.{withQueue, withOutstanding}
 use Rattle.gateway.specs.Premises.{Known}
 

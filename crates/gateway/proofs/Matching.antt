@@ -1,6 +1,6 @@
 -- A law for each branch of the tests that the searches make.
-use mathlib.Core.Path.{_≡_, refl, sym, _∙_, ap}
-use mathlib.Core.Bool.{Bool, true, false, cond, not, _&&_}
+use mathlib.Core.Path.{_≡_, _∙_}
+use mathlib.Core.Bool.{Bool, true, false, not}
 use borrow.Author.Tests.{not-true, not-false}
 use Rattle.model.specs.declared.Message.{Message}
 use Rattle.memory.specs.Validity.{equal, later, waitingMark}

@@ -4,12 +4,12 @@ use mathlib.Core.Bool.{Bool, true, false, cond, _||_}
 use mathlib.Core.List.{List, [], _∷_, _++_}
 use Prim.Native.Nat.{ℕ, zero, suc, _+_, _-_, _*_, _≤_, _<_}
 use native.Mathlib.Nat.{add-zero, zero-add, sub-zero, mul-zero}
-use native.Mathlib.Numerals.{add-one}
 use native.Mathlib.Omega.{arith}
 use lib.ListN.{length, take, drop, getD}
 use Rattle.buffer.specs.Slice.{part}
 use Rattle.memory.specs.Codec.{placesAt}
-use Rattle.gateway.specs.Taking.{any, withoutFirst, beforeLast, fromLast}
+use Rattle.memory.proofs.Places.{length-read}
+use Rattle.gateway.specs.Taking.{any, withoutFirst}
 use Rattle.gateway.specs.Searching.{firstWhere, pastLast}
 
 module _ {A : Type 0} (f : A → Bool) where
@@ -135,11 +135,6 @@ module _ {A : Type 0} (decode : List ℕ → A) (f : A → Bool) (size base : �
       let e : at + size * suc i ≡ at + size + size * i = omega arith in
       rw e (ap (_∷_ (decode (part m at size))) (read-snoc i (at + size)))
 
-  length-read : (i : ℕ) (at : ℕ) → length (placesAt decode size m at i) ≡ i
-  unfolding placesAt
-  length-read zero at = refl
-  length-read (suc i) at = ap suc (length-read i (at + size))
-
   last-place : (left : ℕ) → 0 < left → pastLast f (placesAt decode size m base left)
       ≡ cond (f (decode (part m (base + size * (left - 1)) size))) left (pastLast f (placesAt decode size m base (left - 1)))
   last-place left h =
@@ -147,7 +142,7 @@ module _ {A : Type 0} (decode : List ℕ → A) (f : A → Bool) (size base : �
       ap (λ (n : ℕ). pastLast f (placesAt decode size m base n)) e
       ∙ ap (pastLast f) (read-snoc (left - 1) base)
       ∙ past-snoc f (placesAt decode size m base (left - 1)) (decode (part m (base + size * (left - 1)) size))
-      ∙ rw (length-read (left - 1) base, ← e)
+      ∙ rw (length-read decode size m base (left - 1), ← e)
 
   module _ (whole left : ℕ) {x : A} {passing : Bool} (h : 0 < left) (l : whole ≡ pastLast f (placesAt decode size m base left))
       (read : x ≡ decode (part m (base + size * (left - 1)) size)) (test : passing ≡ f x) where

@@ -1,18 +1,16 @@
 -- A law for each branch of commit.
-use mathlib.Core.Path.{_≡_, refl, sym, _∙_, ap}
+use mathlib.Core.Path.{_≡_, refl, sym, _∙_}
 use mathlib.Core.Bool.{Bool, true, false, cond}
 use mathlib.Core.List.{List, [], _∷_, _++_}
 use Prim.Native.Nat.{ℕ, zero, suc, _+_, _-_, _*_, _≤_, _<_}
 use native.Mathlib.Nat.{zero-add, sub-zero, add-zero, mul-zero}
 use native.Mathlib.Omega.{arith}
-use lib.Dec.{leb, ltb, eqb}
 use lib.ListN.{length, take, drop, getD, length-append}
 use borrow.Author.Tests.{lt-ltb, le-ltb, le-leb, lt-leb}
 use Rattle.buffer.specs.Slice.{part, write}
 use Rattle.buffer.proofs.Writes.{write-join, length-write, length-part}
-use Rattle.model.specs.Doing.{after, sent, Gives}
+use Rattle.model.specs.Doing.{after, Gives}
 use Rattle.model.specs.declared.Message.{Message}
-use Rattle.model.specs.declared.State.{State}
 use Rattle.model.specs.declared.event.Outcome.{Outcome as Done}
 use Rattle.frame.specs.Layout.{wholeLength}
 use Rattle.frame.specs.Kinds.{mapOf}
@@ -25,9 +23,8 @@ use Rattle.memory.specs.declared.Header.{Header}
 use Rattle.memory.specs.declared.Entry.{Entry}
 use Rattle.memory.specs.declared.Mark.the-variants.{Processed}
 use Rattle.memory.proofs.Stored.{length-state}
-use Rattle.gateway.specs.Effects.{Outcome, refused, withQueue}
+use Rattle.gateway.specs.Effects.{withQueue}
 use Rattle.gateway.specs.Undoing.{processedOf}
-use Rattle.gateway.specs.Taking.{withoutFirst}
 use Rattle.gateway.specs.Committing.{recordOf, commit}
 use Rattle.gateway.specs.Calls.{Left, leaving, onSound, committed}
 use Rattle.gateway.specs.Premises.{Known, recorded}

@@ -1,20 +1,18 @@
 -- A law for each branch of the steps of a round: what is announced is what the definition says.
-use mathlib.Core.Path.{_≡_, refl, sym, _∙_, ap, subst}
-use mathlib.Core.Bool.{Bool, true, false, cond, not, _&&_}
-use mathlib.Core.List.{List, [], _∷_, _++_}
-use Prim.Native.Nat.{ℕ, suc, _+_, _-_, _*_, _/_, _≤_, _<_, min, max}
+use mathlib.Core.Path.{_≡_, sym, _∙_, ap, subst}
+use mathlib.Core.Bool.{Bool, true, false, not}
+use mathlib.Core.List.{List, _++_}
+use Prim.Native.Nat.{ℕ, _+_, _-_, _*_, _/_, min, max}
 use native.Mathlib.Omega.{arith}
-use lib.Dec.{leb, ltb, eqb}
 use lib.ListN.{length}
 use borrow.Author.Tests.{eq-eqb, ne-eqb, le-leb, lt-leb, not-true, not-false}
 use Rattle.routing.specs.Arcs.{from, to}
 use Rattle.model.specs.declared.Kind.the-variants.{Start, Lvt, Update}
 use Rattle.memory.specs.Records.{Gateway}
-use Rattle.memory.specs.Codec.{headerAt, decode, placesAt, entryOf, sentOf}
+use Rattle.memory.specs.Codec.{decode}
 use Rattle.memory.specs.declared.Header.{Header}
 use Rattle.memory.specs.declared.Round.{Round}
-use Rattle.memory.specs.declared.Phase.{Phase}
-use Rattle.memory.specs.declared.Phase.the-variants.{Idle, Counting, Stopped}
+use Rattle.memory.specs.declared.Phase.the-variants.{Counting}
 use Rattle.gateway.specs.Effects.{Effect, settled, withAgreed, withRound, refused}
 use Rattle.gateway.specs.Rounds.{leastOutstanding, leastQueued, frames, ifBelow, children, idle, finished, begun, isIdle, start, takeUpdate}
 use Rattle.gateway.specs.Calls.{Left, leaving}

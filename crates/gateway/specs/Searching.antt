@@ -1,7 +1,7 @@
 -- Positions in a list of places, for the contracts of the functions that look through the places. No call's own contract
 -- cites this file.
-use Prim.Native.Nat.{ℕ, zero, suc, _+_, _*_}
-use mathlib.Core.Bool.{Bool, true, false, cond}
+use Prim.Native.Nat.{ℕ, suc, _+_, _*_}
+use mathlib.Core.Bool.{Bool, cond}
 use mathlib.Core.List.{List, [], _∷_}
 use Rattle.model.specs.declared.Message.{Message}
 use Rattle.memory.specs.Layout.{headerSize, queueSize, outstandingSize}

@@ -1,5 +1,4 @@
 -- `gateway::commit::put_record` meets its contract.
-use native.Mathlib.Omega.{arith}
 use Rattle.gateway.proofs.Recording.{frame-room, state-room, record-put}
 use borrow.Author.Needs.{needs}
 use Rattle.gateway.proofs.commit.put_record.Statement.{statement}

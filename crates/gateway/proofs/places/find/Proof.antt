@@ -1,6 +1,5 @@
 -- `gateway::places::find` meets its contract.
-use mathlib.Core.Path.{_≡_, refl}
-use Prim.Native.Nat.{_≤_, _-_, _+_, _*_}
+use Prim.Native.Nat.{_≤_, _-_}
 use native.Mathlib.Omega.{arith}
 use Rattle.memory.specs.Codec.{entryOf}
 use Rattle.gateway.specs.Searching.{firstWhere, passes, entriesIn}

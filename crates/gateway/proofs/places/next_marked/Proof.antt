@@ -1,5 +1,5 @@
 -- `gateway::places::next_marked` meets its contract.
-use mathlib.Core.Path.{_≡_, refl}
+use mathlib.Core.Path.{refl}
 use Prim.Native.Nat.{_≤_, _-_, _+_, _*_}
 use native.Mathlib.Omega.{arith}
 use Rattle.memory.specs.Codec.{placesAt, entryOf}

@@ -1,8 +1,7 @@
 -- `gateway::places::past_last_equal` meets its contract.
 use mathlib.Core.Path.{_≡_, refl}
-use Prim.Native.Nat.{_≤_, _-_, _+_, _*_}
+use Prim.Native.Nat.{_≤_, _-_}
 use native.Mathlib.Omega.{arith}
-use Rattle.memory.specs.Codec.{entryOf}
 use Rattle.gateway.specs.Taking.{isPlain}
 use Rattle.gateway.specs.Searching.{pastLast, entriesIn}
 use Rattle.gateway.proofs.Positions.{last-passed, last-found, last-none}

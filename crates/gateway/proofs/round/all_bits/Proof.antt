@@ -1,6 +1,5 @@
 -- `gateway::round::all_bits` meets its contract.
 use Rattle.gateway.proofs.Neighbours.{all-none, all-one, all-two}
-use borrow.Author.Needs.{needs}
 use Rattle.gateway.proofs.round.all_bits.Statement.{statement}
 use Rattle.gateway.proofs.round.all_bits.Tie as tie
 

@@ -1,7 +1,6 @@
 -- `gateway::round::bit_of` meets its contract.
 use native.Mathlib.Omega.{arith}
 use Rattle.gateway.proofs.Neighbours.{bit-none, bit-first, bit-one, bit-second, bit-other}
-use borrow.Author.Needs.{needs}
 use Rattle.gateway.proofs.round.bit_of.Statement.{statement}
 use Rattle.gateway.proofs.round.bit_of.Tie as tie
 
