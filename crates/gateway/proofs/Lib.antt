@@ -1,4 +1,4 @@
--- Laws of the gateway's calls: every call leaves a valid gateway valid.
+-- Laws of the gateway's calls: what the code's steps come to, and that every call leaves a valid gateway valid.
 pub mod Lists
 pub mod Searches
 pub mod Replies
@@ -11,3 +11,15 @@ pub mod Keeps
 pub mod Openings
 pub mod SoundAfter
 pub mod Table
+pub mod Moves
+pub mod Positions
+pub mod Neighbours
+pub mod Matching
+pub mod Changing
+pub mod LeastHours
+pub mod Acknowledging
+pub mod Announcing
+pub mod Calling
+pub mod Stepping
+pub mod Recording
+pub mod Arriving

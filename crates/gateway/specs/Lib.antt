@@ -9,3 +9,6 @@ pub mod SettingUp
 pub mod Calls
 pub mod Claims
 pub mod Examples
+pub mod Searching
+pub mod Receivers
+pub mod Premises

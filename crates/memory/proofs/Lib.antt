@@ -1,4 +1,4 @@
--- Laws of a gateway's memory.
+-- Laws of the bytes of a gateway.
 pub mod Stored
 pub mod Lamps
 pub mod Chains

@@ -1,0 +1,189 @@
+-- What is known of sound memory, and what a change of a place comes to in the memory.
+use mathlib.Core.Path.{_≡_, refl, sym, _∙_, subst}
+use mathlib.Core.List.{List, [], _∷_, _++_}
+use Prim.Native.Nat.{ℕ, suc, _+_, _-_, _*_, _≤_, _<_}
+use native.Mathlib.Nat.{add-zero}
+use native.Mathlib.Omega.{arith}
+use lib.ListN.{length, take, drop, getD, length-append, length-take, length-drop, take-append-drop}
+use lib.Seq.{split-at, length-take-le}
+use mir.Syntax.{w8}
+use mir.Val.{Fits}
+use Rattle.buffer.specs.Slice.{Bytes, part, write}
+use Rattle.memory.specs.Records.{Gateway, headerOf}
+use Rattle.memory.specs.Layout.{outstandingAt}
+use Rattle.memory.specs.Codec.{headerAt, headerFront, headerBack, entryBytes, entryOf, sentBytes, sentOf, placesAt, placesBytes, decode, encode}
+use Rattle.memory.specs.declared.Header.{Header}
+use Rattle.memory.specs.declared.Entry.{Entry}
+use Rattle.memory.specs.declared.Sent.{Sent}
+use Rattle.memory.proofs.Validated.{ValidSettings, settings-facts}
+use Rattle.memory.proofs.Standing.{Stands}
+use Rattle.memory.proofs.Places.{All, all-append, all-front, all-back, Sized, remove-place, length-read}
+use Rattle.memory.proofs.Fitting.{GatewayFits}
+use Rattle.memory.proofs.Holding.{Room, Holds, queue-sized, outstanding-sized}
+use Rattle.memory.proofs.SoundMemory.{sound-facts, sound-holds, sound-room, sound-fits, header-held}
+use Rattle.memory.proofs.Changes.{queue-changed, outstanding-changed}
+use Rattle.gateway.specs.Effects.{withQueue, withOutstanding}
+use Rattle.gateway.specs.Premises.{Known}
+
+-- the bytes of a slice, from what a function is told of it
+pub bytes-known : (m : List ℕ) → ((i : ℕ) → Fits w8 (getD m i 0)) → Bytes m
+bytes-known m told = λ i. told i .fits
+
+-- a list without its element at k
+module _ {A : Type 0} {p : A → Type 0} (xs : List A) (k : ℕ) where
+  pub all-without : All p xs → All p (take k xs ++ drop (suc k) xs)
+  all-without ps = all-append (all-front (take k xs) (drop k xs) (rw take-append-drop ps)) (all-back (take (suc k) xs) (drop (suc k) xs) (rw take-append-drop ps))
+
+pub length-without : {A : Type 0} (xs : List A) (k : ℕ) → k < length xs → length (take k xs ++ drop (suc k) xs) ≡ length xs - 1
+length-without xs k h = simp (length-append, length-take, length-drop) (omega arith)
+
+-- places with one taken out: those behind it are moved down
+module _ {A : Type 0} (f : A → List ℕ) (size at : ℕ) (m : List ℕ) (xs : List A) (k : ℕ) (d : A) (h : k < length xs)
+    (sized : All (Sized f size) xs) (fits : at + size * length xs ≤ length m) (stand : Stands at (placesBytes f xs) m) where
+  pub remove-at : write at (placesBytes f (take k xs ++ drop (suc k) xs)) m ≡ write (at + size * k) (part m (at + size * (k + 1)) (size * (length xs - k - 1))) m
+  remove-at =
+      let e : xs ≡ take k xs ++ getD xs k d ∷ drop (suc k) xs = split-at xs k d h in
+      let a : length (take k xs) ≡ k = length-take-le k xs (omega arith) in
+      let b : length (drop (suc k) xs) ≡ length xs - k - 1 = length-drop (suc k) xs ∙ omega arith in
+      let n : length (take k xs) + 1 + length (drop (suc k) xs) ≡ length xs = rw (a, b) (omega arith) in
+      rw (a, b) at
+      (remove-place f size at m (take k xs) (getD xs k d) (drop (suc k) xs) (rw n fits)
+      (subst (λ (l : List A). All (Sized f size) l) e sized)
+      (subst (λ (l : List A). Stands at (placesBytes f l) m) e stand))
+
+-- sizes and counts of memory that is known to be sound
+pub record Sizes (m : List ℕ) (h : Header) : Type 0 where
+  pub long : 256 + 64 * h .settings .q + 32 * h .settings .u ≤ length m
+  pub queued : h .queued ≤ h .settings .q
+  pub outstanding : h .outstanding ≤ h .settings .u
+  pub settings : ValidSettings (h .settings)
+
+pub sizes : (m : List ℕ) (h : Header) → Known m h → Sizes m h
+sizes m h k =
+    let s = sound-facts m (k .soundness) in
+    let all : Sizes m (headerAt m) = record { long = s .long; queued = s .queued; outstanding = s .sent; settings = settings-facts _ (s .settings) } in
+    subst (λ (x : Header). Sizes m x) (sym (k .header)) all
+
+-- the gateway in the memory, by its header
+module _ (m : List ℕ) (h : Header) (k : Known m h) where
+  pub queue-places : decode m .queue ≡ placesAt entryOf 64 m 256 (h .queued)
+  unfolding decode
+  queue-places = rw (k .header)
+
+  pub outstanding-places : decode m .outstanding ≡ placesAt sentOf 32 m (256 + 64 * h .settings .q) (h .outstanding)
+  unfolding decode
+  outstanding-places = rw (k .header, add-zero)
+
+  pub queue-count : length (decode m .queue) ≡ h .queued
+  queue-count = rw queue-places (length-read entryOf 64 m 256 (h .queued))
+
+  pub outstanding-count : length (decode m .outstanding) ≡ h .outstanding
+  outstanding-count = rw outstanding-places (length-read sentOf 32 m (256 + 64 * h .settings .q) (h .outstanding))
+
+  pub settings-held : decode m .settings ≡ h .settings
+  unfolding decode
+  settings-held = rw (k .header)
+
+-- the memory after a place is taken out and the header written
+module _ (m : List ℕ) (h : Header) (bytes : Bytes m) (k : Known m h) where
+  held : Holds (decode m) m
+  held = sound-holds m bytes (sound-facts m (k .soundness))
+
+  room : Room (decode m) m
+  room = sound-room m bytes (sound-facts m (k .soundness))
+
+  fits : GatewayFits (decode m)
+  fits = sound-fits m bytes (sound-facts m (k .soundness))
+
+  header-is : headerOf (decode m) ≡ h
+  header-is = header-held m bytes (sound-facts m (k .soundness)) ∙ sym (k .header)
+
+  module _ (i : ℕ) (below : i < h .queued) where
+    queue : List Entry
+    queue = decode m .queue
+
+    fewer : List Entry
+    fewer = take i queue ++ drop (suc i) queue
+
+    inside : i < length queue
+    unfolding queue
+    inside = rw (queue-count m h k) below
+
+    entry-gone : Gateway
+    entry-gone = withQueue fewer (decode m)
+
+    pub without-entry : {a b : List ℕ} → a ≡ write (256 + 64 * i) (part m (256 + 64 * i + 64) (64 * (h .queued - i - 1))) m
+        → b ≡ write 6 (headerBack (record { settings = h .settings; state = h .state; agreed = h .agreed; round = h .round; queued = h .queued - 1; outstanding = h .outstanding }))
+        (write 0 (headerFront (record { settings = h .settings; state = h .state; agreed = h .agreed; round = h .round; queued = h .queued - 1; outstanding = h .outstanding })) a)
+        → b ≡ encode (withQueue (take i (decode m .queue) ++ drop (suc i) (decode m .queue)) (decode m)) m
+    unfolding queue fewer entry-gone
+    without-entry p q =
+        let z = sizes m h k in
+        let e = header-is in
+        let n : length queue ≡ h .queued = queue-count m h k in
+        let one : length fewer ≡ length queue - 1 = length-without queue i inside in
+        let count : length fewer ≡ h .queued - 1 = one ∙ rw n in
+        let new-fits : GatewayFits entry-gone = record {
+          header = record {
+            settings = fits .header .settings;
+            state = fits .header .state;
+            agreed = fits .header .agreed;
+            round = fits .header .round;
+            queued = omega (arith, fits .header .queued);
+            outstanding = fits .header .outstanding;
+          };
+          queue = all-without queue i (fits .queue);
+          outstanding = fits .outstanding;
+        } in
+        let new-room : Room entry-gone m = record { long = room .long; queued = omega (arith, room .queued); sent = room .sent } in
+        let header : headerOf entry-gone ≡ record { settings = h .settings; state = h .state; agreed = h .agreed; round = h .round; queued = h .queued - 1; outstanding = h .outstanding } =
+        λ j. record { settings = e j .settings; state = e j .state; agreed = e j .agreed; round = e j .round; queued = count j; outstanding = e j .outstanding } in
+        let at : 256 + 64 * (i + 1) ≡ 256 + 64 * i + 64 = omega arith in
+        let moved = rw (n, at) at (remove-at entryBytes 64 256 m queue i (entryOf []) inside (queue-sized (decode m) fits) (omega (arith, room .long, room .queued)) (held .queue)) in
+        q ∙ rw p (sym (rw header at (queue-changed (decode m) entry-gone m new-fits new-room held refl refl moved)))
+
+  module _ (i : ℕ) (below : i < h .outstanding) where
+    sents : List Sent
+    sents = decode m .outstanding
+
+    fewer-sents : List Sent
+    fewer-sents = take i sents ++ drop (suc i) sents
+
+    inside-sents : i < length sents
+    unfolding sents
+    inside-sents = rw (outstanding-count m h k) below
+
+    sent-gone : Gateway
+    sent-gone = withOutstanding fewer-sents (decode m)
+
+    pub without-sent : {a b : List ℕ} → a ≡ write (256 + 64 * h .settings .q + 32 * i) (part m (256 + 64 * h .settings .q + 32 * i + 32) (32 * (h .outstanding - i - 1))) m
+        → b ≡ write 6 (headerBack (record { settings = h .settings; state = h .state; agreed = h .agreed; round = h .round; queued = h .queued; outstanding = h .outstanding - 1 }))
+        (write 0 (headerFront (record { settings = h .settings; state = h .state; agreed = h .agreed; round = h .round; queued = h .queued; outstanding = h .outstanding - 1 })) a)
+        → b ≡ encode (withOutstanding (take i (decode m .outstanding) ++ drop (suc i) (decode m .outstanding)) (decode m)) m
+    unfolding sents fewer-sents sent-gone
+    without-sent p q =
+        let z = sizes m h k in
+        let e = header-is in
+        let n : length sents ≡ h .outstanding = outstanding-count m h k in
+        let one : length fewer-sents ≡ length sents - 1 = length-without sents i inside-sents in
+        let count : length fewer-sents ≡ h .outstanding - 1 = one ∙ rw n in
+        let new-fits : GatewayFits sent-gone = record {
+          header = record {
+            settings = fits .header .settings;
+            state = fits .header .state;
+            agreed = fits .header .agreed;
+            round = fits .header .round;
+            queued = fits .header .queued;
+            outstanding = omega (arith, fits .header .outstanding);
+          };
+          queue = fits .queue;
+          outstanding = all-without sents i (fits .outstanding);
+        } in
+        let new-room : Room sent-gone m = record { long = room .long; queued = room .queued; sent = omega (arith, room .sent) } in
+        let header : headerOf sent-gone ≡ record { settings = h .settings; state = h .state; agreed = h .agreed; round = h .round; queued = h .queued; outstanding = h .outstanding - 1 } =
+        λ j. record { settings = e j .settings; state = e j .state; agreed = e j .agreed; round = e j .round; queued = e j .queued; outstanding = count j } in
+        let q-is : decode m .settings .q ≡ h .settings .q = λ j. e j .settings .q in
+        let at : outstandingAt (decode m .settings .q) 0 + 32 * i ≡ 256 + 64 * h .settings .q + 32 * i = rw q-is (omega arith) in
+        let next : outstandingAt (decode m .settings .q) 0 + 32 * (i + 1) ≡ 256 + 64 * h .settings .q + 32 * i + 32 = rw q-is (omega arith) in
+        let moved = rw (n, at, next) at (remove-at sentBytes 32 (outstandingAt (decode m .settings .q) 0) m sents i (sentOf []) inside-sents (outstanding-sized (decode m) fits) (omega (arith, room .long, room .sent)) (held .outstanding)) in
+        q ∙ rw p (sym (rw header at (outstanding-changed (decode m) sent-gone m new-fits new-room held refl refl moved)))

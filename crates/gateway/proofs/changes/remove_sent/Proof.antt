@@ -1,0 +1,71 @@
+-- `gateway::changes::remove_sent` meets its contract.
+use Rattle.gateway.proofs.Changing.{sizes, bytes-known, without-sent}
+use native.Mathlib.Omega.{arith}
+use borrow.Author.Needs.{needs}
+use Rattle.gateway.proofs.changes.remove_sent.Statement.{statement}
+use Rattle.gateway.proofs.changes.remove_sent.Tie as tie
+
+cast-at : tie.Need-cast-at
+cast-at c = search needs
+
+mul-at : tie.Need-mul-at
+mul-at c = search needs
+
+add-at : tie.Need-add-at
+add-at c = search needs
+
+mul-at-2 : tie.Need-mul-at-2
+mul-at-2 c = search needs
+
+add-at-2 : tie.Need-add-at-2
+add-at-2 c = search needs
+
+cast-behind : tie.Need-cast-behind
+cast-behind c = search needs
+
+sub-behind : tie.Need-sub-behind
+sub-behind c = search needs
+
+sub-behind-2 : tie.Need-sub-behind-2
+sub-behind-2 c = search needs
+
+add-move-down : tie.Need-add-move-down
+add-move-down c = search needs
+
+mul-move-down : tie.Need-mul-move-down
+mul-move-down c = search needs
+
+move-down-requires : tie.Need-move-down-requires
+move-down-requires c κs = let z = sizes _ _ (c .before .before .before .before .before .pre .0) in (omega arith, omega arith)
+
+sub-next : tie.Need-sub-next
+sub-next c = search needs
+
+write-header-requires : tie.Need-write-header-requires
+write-header-requires c κs = let z = sizes _ _ (c .before .before .before .before .before .before .before .before .before .before .pre .0) in omega arith
+
+same-length : tie.Need-same-length
+same-length c = search needs
+
+returns : tie.Need-returns
+returns c = without-sent _ _ (bytes-known (c .before .before .before .before .before .before .before .before .before .before .before .before .before .args .memory .now) (c .before .before .before .before .before .before .before .before .before .before .before .before .slice-known .given)) (c .before .before .before .before .before .before .before .before .before .before .before .before .before .pre .0) _ (c .before .before .before .before .before .before .before .before .before .before .before .before .before .pre .1) (c .before .before .before .before .before .before .before .move-down .ensures) (c .before .before .write-header .ensures)
+
+pub remove-sent-spec : {M : Type 1} → statement M
+remove-sent-spec =
+    tie.close
+    (tie.spec
+    cast-at
+    mul-at
+    add-at
+    mul-at-2
+    add-at-2
+    cast-behind
+    sub-behind
+    sub-behind-2
+    add-move-down
+    mul-move-down
+    move-down-requires
+    sub-next
+    write-header-requires
+    same-length
+    returns)

@@ -1,0 +1,34 @@
+-- `gateway::commit::put_record` meets its contract.
+use Rattle.gateway.proofs.Recording.{frame-room, state-room, record-put}
+use borrow.Author.Needs.{needs}
+use Rattle.gateway.proofs.commit.put_record.Statement.{statement}
+use Rattle.gateway.proofs.commit.put_record.Tie as tie
+
+perform-requires : tie.Need-perform-requires
+perform-requires c κs = search needs
+
+frame-if-requires : tie.Need-frame-if-requires
+frame-if-requires c κs = search needs
+
+put-requires : tie.Need-put-requires
+put-requires c κs = frame-room (c .before .before .before .before .before .before .before .before .args .entry) (c .before .before .before .before .before .before .before .before .args .output .now) (c .before .before .before .before .before .before .before .before .pre) (c .frame-if .ensures)
+
+write-state-requires : tie.Need-write-state-requires
+write-state-requires c κs = state-room (c .before .before .before .before .before .before .before .before .before .before .before .before .args .entry) (c .before .before .before .before .before .before .before .before .before .before .before .before .args .output .now) (c .before .before .before .before .before .before .before .before .before .before .before .before .pre) (c .before .before .before .before .frame-if .ensures) (c .before .before .before .put .ensures)
+
+same-length : tie.Need-same-length
+same-length c = search needs
+
+returns : tie.Need-returns
+returns c = record-put (c .before .before .before .before .before .before .before .before .before .before .before .before .before .before .before .args .entry) (c .before .before .before .before .before .before .before .before .before .before .before .before .before .before .before .args .output .now) (c .before .before .before .before .before .before .before .before .before .before .before .before .before .before .before .pre) (c .before .before .before .before .before .before .before .frame-if .ensures) (c .before .before .before .before .before .before .put .ensures) (c .before .before .before .before .before .before .before .before .before .before .perform .ensures) (c .before .before .write-state .ensures)
+
+pub put-record-spec : {M : Type 1} → statement M
+put-record-spec =
+    tie.close
+    (tie.spec
+    perform-requires
+    frame-if-requires
+    put-requires
+    write-state-requires
+    same-length
+    returns)

@@ -1,0 +1,18 @@
+-- `gateway::round::heard` meets its contract.
+use native.Mathlib.Omega.{arith}
+use Rattle.gateway.proofs.Neighbours.{from-few, from-around, narrow, narrow-listed}
+use borrow.Author.Needs.{needs}
+use Rattle.gateway.proofs.round.heard.Statement.{statement}
+use Rattle.gateway.proofs.round.heard.Tie as tie
+
+neighbours-of-requires : tie.Need-neighbours-of-requires
+neighbours-of-requires c κs = search needs
+
+narrowed-requires : tie.Need-narrowed-requires
+narrowed-requires c κs = narrow (omega arith) (from-few _ _ (omega arith)) (from-around (omega arith) (omega arith) (c .before .neighbours-of .ensures))
+
+returns : tie.Need-returns
+returns c = narrow-listed (omega arith) (from-few _ _ (omega arith)) (from-around (omega arith) (omega arith) (c .before .before .neighbours-of .ensures)) (c .narrowed .ensures)
+
+pub heard-spec : {M : Type 1} → statement M
+heard-spec = tie.close (tie.spec neighbours-of-requires narrowed-requires returns)

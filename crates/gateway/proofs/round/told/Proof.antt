@@ -1,0 +1,18 @@
+-- `gateway::round::told` meets its contract.
+use native.Mathlib.Omega.{arith}
+use Rattle.gateway.proofs.Neighbours.{to-few, to-around, narrow, narrow-listed}
+use borrow.Author.Needs.{needs}
+use Rattle.gateway.proofs.round.told.Statement.{statement}
+use Rattle.gateway.proofs.round.told.Tie as tie
+
+neighbours-of-requires : tie.Need-neighbours-of-requires
+neighbours-of-requires c κs = search needs
+
+narrowed-requires : tie.Need-narrowed-requires
+narrowed-requires c κs = narrow (omega arith) (to-few _ _ (omega arith)) (to-around (omega arith) (omega arith) (c .before .neighbours-of .ensures))
+
+returns : tie.Need-returns
+returns c = narrow-listed (omega arith) (to-few _ _ (omega arith)) (to-around (omega arith) (omega arith) (c .before .before .neighbours-of .ensures)) (c .narrowed .ensures)
+
+pub told-spec : {M : Type 1} → statement M
+told-spec = tie.close (tie.spec neighbours-of-requires narrowed-requires returns)

@@ -1,0 +1,100 @@
+// Commit: the oldest processed event leaves the queue if its hour is below the agreed time, and its record is written.
+use crate::Answer;
+use crate::changes::remove_entry;
+use crate::places::next_marked;
+use crate::refused;
+use frame::tables::whole_length;
+use frame::writer::map_of;
+use frame::writer::put;
+use memory::Entry;
+use memory::Header;
+use memory::Mark;
+use memory::header_bytes::read_header;
+use memory::place::read_entry;
+use memory::place::write_state;
+use memory::rules::frame_if;
+use memory::soundness::sound;
+use model::Site;
+use model::event::perform;
+ghost use mathlib.Core.Path.{_≡_};
+ghost use mathlib.Core.Bool.{cond};
+ghost use mathlib.Core.List.{_++_};
+ghost use Prim.Native.Nat.{suc, _≤_, _<_};
+ghost use lib.Dec.{leb};
+ghost use lib.ListN.{length, take, drop};
+ghost use Rattle.buffer.specs.Slice.{write};
+ghost use Rattle.memory.specs.Codec.{decode};
+ghost use Rattle.gateway.specs.Committing.{recordOf, commit};
+ghost use Rattle.gateway.specs.Calls.{leaving, committed};
+ghost use Rattle.gateway.specs.Premises.{Known, recorded};
+
+pub fn commit(memory: &mut [u8], output: &mut [u8]) -> Answer
+    ensures { λ r. ⌜ record { answer = r; memory = now (memory .exit); output = now (output .exit) } ≡ committed (now (memory .entry)) (now (output .entry)) ⌝ }
+{
+    if !sound(memory) {
+        return refused(10);
+    }
+    let header = read_header(memory);
+    commit_oldest(memory, output, header)
+}
+
+// Any event at the agreed hour stays, as a message of that very hour may still come.
+fn commit_oldest(memory: &mut [u8], output: &mut [u8], header: Header) -> Answer
+    requires { ⌜ Known (now memory) header ⌝ }
+    ensures { λ r. ⌜ record { answer = r; memory = now (memory .exit); output = now (output .exit) } ≡ leaving (commit (length (now (output .entry))) (decode (now (memory .entry)))) (now (memory .entry)) (now (output .entry)) ⌝ }
+{
+    let queued = header.queued as usize;
+    let k = next_marked(memory, 0, queued, Mark::Processed);
+    if k == queued {
+        return refused(6);
+    }
+    let entry = read_entry(memory, 256 + 64 * k);
+    let message = entry.message;
+    if header.agreed <= message.hour {
+        return refused(6);
+    }
+    commit_place(memory, output, header, k, entry)
+}
+
+// Takes the event out of queue place k and writes its record, if there is room for it.
+fn commit_place(
+    memory: &mut [u8],
+    output: &mut [u8],
+    header: Header,
+    k: usize,
+    entry: Entry,
+) -> Answer
+    requires { ⌜ Known (now memory) header × (k < header .queued) × (length (entry .message .lamp) ≡ 18) ⌝ }
+    ensures { λ r. ⌜ record { answer = r; memory = now (memory .exit); output = now (output .exit) } ≡ leaving (recorded (length (now (output .entry))) k entry (decode (now (memory .entry)))) (now (memory .entry)) (now (output .entry)) ⌝ }
+{
+    let message = entry.message;
+    let size = whole_length(map_of(frame_if(false, message))) + 14;
+    if output.len() < size {
+        return refused(5);
+    }
+    put_record(output, header, entry);
+    remove_entry(memory, header, k);
+    Answer {
+        number: 0,
+        written: size,
+    }
+}
+
+// Puts an event's record: its frame, then the state after it.
+fn put_record(output: &mut [u8], header: Header, entry: Entry)
+    requires { ⌜ length (recordOf entry) ≤ length (now output) ⌝ }
+    ensures { λ _. ⌜ now (output .exit) ≡ write 0 (recordOf entry) (now (output .entry)) ⌝ }
+{
+    let settings = header.settings;
+    let message = entry.message;
+    let before = entry.before;
+    let site = Site {
+        own: settings.own,
+        supplier: settings.supplier,
+        last: settings.last,
+    };
+    let done = perform(site, before, message);
+    let state = done.state;
+    let next = put(output, 0, frame_if(false, message));
+    write_state(output, next, state);
+}
