@@ -1,0 +1,2 @@
+-- The proofs of demand 3.
+pub mod FigureGraph
