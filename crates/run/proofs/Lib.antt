@@ -1,2 +1,4 @@
 -- The proofs of demand 3.
 pub mod FigureGraph
+pub mod ArrivalBits
+pub mod Standing
