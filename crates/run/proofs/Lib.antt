@@ -2,3 +2,4 @@
 pub mod FigureGraph
 pub mod ArrivalBits
 pub mod Standing
+pub mod RoundCounters

@@ -15,7 +15,7 @@ use Rattle.timewarp.specs.Families.{change, put}
 use Rattle.timewarp.specs.Arcs.{Graph, Arc, times}
 use Rattle.timewarp.specs.RoundSteps.{idle, counting, stopped, finished, noted}
 use Rattle.timewarp.proofs.FamilyLaws.{Same, same, other, same?, Changed, at, off, change?, change-at, change-off, Put, put?, put-at, put-off}
-use Rattle.run.proofs.ArrivalBits.{bitsOf, alike, one-more, none-in}
+use Rattle.run.proofs.ArrivalBits.{bitsOf, howMany, alike, one-more, none-in}
 
 -- the Starts that have come to i, and the Lvts
 module _ (G : Graph) (ar : ℕ → ℕ → ℕ) (i : ℕ) where
@@ -30,6 +30,27 @@ module _ (G : Graph) (ar : ℕ → ℕ → ℕ) (i : ℕ) where
 
   abbrev pub lvtBits : ℕ
   lvtBits = bitsOf lvtIn (G .to i)
+
+-- a first Start along an arc leaves the Lvts that have come
+pub lvts-after-start : (G : Graph) (ar : ℕ → ℕ → ℕ) (i j : ℕ) → ar i j ≡ 0 → (k x : ℕ) → lvtIn G (put i j 1 ar) k x ≡ lvtIn G ar k x
+lvts-after-start G ar i j z k x = go (put? i j 1 ar k x)
+  where
+    go : Put i j 1 ar k x → lvtIn G (put i j 1 ar) k x ≡ lvtIn G ar k x
+    go (at p q e) = rw (e, ← p, ← q, z) refl
+    go (off n e) = rw e refl
+
+-- an Lvt to i leaves those that have come to others, and adds one
+pub lvts-elsewhere : (G : Graph) (ar : ℕ → ℕ → ℕ) (i j k : ℕ) → i ≢ k → (x : ℕ) → lvtIn G (put i j 2 ar) k x ≡ lvtIn G ar k x
+lvts-elsewhere G ar i j k n x = ap (λ (y : ℕ). eqb y 2) (put-off i j 2 ar k x (λ p. absurd (n p)))
+
+pub lvts-here : (G : Graph) (ar : ℕ → ℕ → ℕ) (i j : ℕ) → Arc G i j → ar i j ≡ 1
+    → (lvtBits G ar i + bitOf j (G .to i) ≡ lvtBits G (put i j 2 ar) i)
+    × (suc (howMany (lvtIn G ar i) (G .to i)) ≡ howMany (lvtIn G (put i j 2 ar) i) (G .to i))
+lvts-here G ar i j c z =
+    one-more (lvtIn G ar i) (lvtIn G (put i j 2 ar) i) j (ap (λ (y : ℕ). eqb y 2) z)
+    (ap (λ (y : ℕ). eqb y 2) (put-at i j 2 ar i j refl refl))
+    (λ x n. ap (λ (y : ℕ). eqb y 2) (sym (put-off i j 2 ar i x (λ p. n))))
+    (G .to i) (omega (arith, G .once i j))
 
 -- Gateway i's phase, arrivals and note. In memory one that has sent its Lvts and one that has not begun are the same.
 pub data Standing (G : Graph) (st mk : ℕ → ℕ) (ar : ℕ → ℕ → ℕ) (i : ℕ) (phase : Phase) (arrived note : ℕ) : Type 0 where
@@ -166,13 +187,9 @@ module _ (G : Graph) (st mk : ℕ → ℕ) (ar : ℕ → ℕ → ℕ) (rs : ℕ 
           alike (startIn G (put i j 1 ar) k) (startIn G ar k) (G .from k)
           (λ x m. ap (λ (y : ℕ). eqb y 1) (put-off i j 1 ar x k (λ p. n))) .0
 
-      lvt-kept : (k x : ℕ) → Put i j 1 ar k x → lvtIn G (put i j 1 ar) k x ≡ lvtIn G ar k x
-      lvt-kept k x (at p q e) = rw (e, ← p, ← q, z) refl
-      lvt-kept k x (off n e) = rw e refl
-
       as-before : (k : ℕ) → lvtBits G (put i j 1 ar) k ≡ lvtBits G ar k
       as-before k =
-          alike (lvtIn G (put i j 1 ar) k) (lvtIn G ar k) (G .to k) (λ x m. lvt-kept k x (put? i j 1 ar k x)) .0
+          alike (lvtIn G (put i j 1 ar) k) (lvtIn G ar k) (G .to k) (λ x m. lvts-after-start G ar i j z k x) .0
 
   -- gateway i, which has stopped, takes the Lvt of hour t from j, which has finished; it is the first along this arc
   pub lvt-standings : (j i t : ℕ) → i ≤ G .last → Arc G i j → st i ≡ stopped → st j ≡ finished → ar i j ≡ 1
@@ -184,22 +201,13 @@ module _ (G : Graph) (st mk : ℕ → ℕ) (ar : ℕ → ℕ → ℕ) (rs : ℕ 
       (go (h i l))
       (λ k m n. unchanged (h k m) refl (change-off i (min (mk i) t) mk k n) (λ s. elsewhere k (λ e. omega (arith, ap st e))) (λ s. as-before k n))
     where
-      one : (x : ℕ) → j ≢ x → lvtIn G ar i x ≡ lvtIn G (put i j 2 ar) i x
-      one x n = ap (λ (y : ℕ). eqb y 2) (sym (put-off i j 2 ar i x (λ p. n)))
-
       go : StandingAt G st mk ar i (rs i)
           → Standing G st (change i (min (mk i) t) mk) (put i j 2 ar) i Stopped (rs i .arrived + bitOf j (G .to i)) (min (rs i .note) t)
       go (is-idle e d b) = absurd (omega arith)
       go (is-finished e d b) = absurd (omega arith)
       go (is-counting e d b n) = absurd (omega arith)
       go (is-stopped e d b n) =
-          is-stopped refl d
-          (omega (
-            arith,
-            one-more (lvtIn G ar i) (lvtIn G (put i j 2 ar) i) j (ap (λ (y : ℕ). eqb y 2) z)
-                (ap (λ (y : ℕ). eqb y 2) (put-at i j 2 ar i j refl refl)) one (G .to i) (omega (arith, G .once i j)) .0,
-          ))
-          (omega (arith, change-at i (min (mk i) t) mk i refl))
+          is-stopped refl d (omega (arith, lvts-here G ar i j c z .0)) (omega (arith, change-at i (min (mk i) t) mk i refl))
 
       elsewhere : (k : ℕ) → j ≢ k → startBits G (put i j 2 ar) k ≡ startBits G ar k
       elsewhere k n =
@@ -207,6 +215,4 @@ module _ (G : Graph) (st mk : ℕ → ℕ) (ar : ℕ → ℕ → ℕ) (rs : ℕ 
           (λ x m. ap (λ (y : ℕ). eqb y 1) (put-off i j 2 ar x k (λ p. n))) .0
 
       as-before : (k : ℕ) → i ≢ k → lvtBits G (put i j 2 ar) k ≡ lvtBits G ar k
-      as-before k n =
-          alike (lvtIn G (put i j 2 ar) k) (lvtIn G ar k) (G .to k)
-          (λ x m. ap (λ (y : ℕ). eqb y 2) (put-off i j 2 ar k x (λ p. absurd (n p)))) .0
+      as-before k n = alike (lvtIn G (put i j 2 ar) k) (lvtIn G ar k) (G .to k) (λ x m. lvts-elsewhere G ar i j k n x) .0
