@@ -3,3 +3,4 @@ pub mod FigureGraph
 pub mod ArrivalBits
 pub mod Standing
 pub mod RoundCounters
+pub mod RoundChains
