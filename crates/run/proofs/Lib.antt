@@ -4,3 +4,4 @@ pub mod ArrivalBits
 pub mod Standing
 pub mod RoundCounters
 pub mod RoundChains
+pub mod RoundsUnderWay
