@@ -5,3 +5,4 @@ pub mod Standing
 pub mod RoundCounters
 pub mod RoundChains
 pub mod RoundsUnderWay
+pub mod RoundCalls

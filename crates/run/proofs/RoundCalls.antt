@@ -1,0 +1,159 @@
+-- The start call, Start, Lvt and Update at a gateway: each is a chain of the theory's steps.
+use mathlib.Core.Path.{_≡_, refl, sym, _∙_, ap, subst}
+use mathlib.Core.Logic.{_≢_}
+use mathlib.Core.Bool.{Bool, true, false, cond, _&&_, true≢false, false≢true}
+use mathlib.Core.List.{List, [], _∷_, _++_, map, append-assoc, append-nil}
+use Prim.Native.Nat.{ℕ, zero, suc, _+_, _*_, _-_, _≤_, _<_, min, max}
+use native.Mathlib.Omega.{arith}
+use lib.Dec.{eqb, eqb→eq}
+use lib.ListN.{length, length-map}
+use Rattle.routing.specs.Arcs.{from, to}
+use Rattle.model.specs.declared.Kind.the-variants.{Start, Lvt, Update}
+use Rattle.memory.specs.Records.{Gateway}
+use Rattle.memory.specs.declared.Round.{Round}
+use Rattle.memory.specs.declared.Phase.{Phase}
+use Rattle.memory.specs.declared.Phase.the-variants.{Idle, Counting, Stopped}
+use Rattle.gateway.specs.Effects.{Effect, withRound, withAgreed}
+use Rattle.gateway.specs.Rounds.{leastOutstanding, leastQueued, frames, children, finished, begun, oneStart, oneLvt, valueIn, valueAt, bitOf, allBits, isIdle, idle}
+use Rattle.timewarp.specs.Lists.{All, Insert}
+use Rattle.timewarp.specs.Families.{change, put}
+use Rattle.timewarp.specs.Arcs
+use Rattle.timewarp.specs.Models.{Model}
+use Rattle.timewarp.specs.RoundSteps
+use Rattle.timewarp.specs.RoundSteps.{RoundFrame, start, lvt, update}
+use Rattle.timewarp.specs.Worlds.{World}
+use Rattle.timewarp.specs.Worlds
+use Rattle.timewarp.proofs.Joined.{Good}
+use Rattle.timewarp.proofs.FamilyLaws.{Same, same, other, same?, Changed, at, off, change?, change-at, change-off}
+use Rattle.timewarp.proofs.RoundCarried.{all-from, all-to}
+use Rattle.run.specs.World
+use Rattle.run.proofs.FigureGraph.{figureGraph, tells-is, hears-is}
+use Rattle.run.proofs.ArrivalBits.{AllIn, all-in, not-all, all-in?}
+use Rattle.run.proofs.Standing.{startIn, lvtIn, Standing, is-idle, is-finished, is-counting, is-stopped, roundOf}
+use Rattle.run.proofs.RoundCounters.{Counted, oneMore, same-counted}
+use Rattle.run.proofs.RoundChains
+use Rattle.run.proofs.RoundsUnderWay.{roundsOf, starts-are, lvts-are, updates-are, same-children}
+
+module _ (n : ℕ) (some : 1 ≤ n) (M : Model) (equal : n - 1 ≡ M .last) where
+  abbrev S : Worlds.Setting
+  S = RoundChains.setting n some M equal
+
+  abbrev G : Arcs.Graph
+  G = figureGraph n some
+
+  module _ (w : World S) (k : Good S w) (rs : ℕ → Round) (times : ℕ → ℕ) (i : ℕ) (inside : i ≤ n - 1) where
+    abbrev Now : Round → ℕ → World.Rounds → RoundSteps.Rounds → Type 0
+    Now = RoundChains.Now n some M equal w k rs times i inside
+
+    -- The gateway g that the call is at: its settings, and the two least hours that the round asks of it.
+    pub record Called (g : Gateway) : Type 0 where
+      pub gateways : g .settings .n ≡ n
+      pub own : g .settings .own ≡ i
+      pub outstanding : leastOutstanding (g .outstanding) ≡ Worlds.leastOutstanding S (w .events .gateways i)
+      pub queued : leastQueued (g .queue) ≡ Worlds.leastWaiting S (w .events .gateways i)
+
+    -- The effect e is a chain of steps: to the round and agreed time after it, the counters c, and the frames of round t
+    -- written behind those under way.
+    pub record Done (e : Effect) (c : World.Rounds) (underWay : List RoundFrame) (t : ℕ) : Type 0 where
+      pub after : RoundSteps.Rounds
+      pub now : Now (e .gateway .round) (e .gateway .agreed) c after
+      pub frames : after .frames ≡ underWay ++ roundsOf t (e .frames)
+
+    module _ {g : Gateway} (a : Called g) where
+      children-are : children (g .settings) ≡ Arcs.children (n - 1) i
+      children-are =
+          same-children (g .settings) (omega (arith, a .gateways))
+          ∙ ap (λ (m : ℕ). Arcs.children (m - 1) (g .settings .own)) (a .gateways)
+          ∙ ap (λ (o : ℕ). Arcs.children (n - 1) o) (a .own)
+
+      to-is : to (g .settings .n) (g .settings .own) ≡ G .to i
+      to-is =
+          ap (λ (m : ℕ). to m (g .settings .own)) (a .gateways)
+          ∙ ap (λ (o : ℕ). to n o) (a .own)
+          ∙ sym (tells-is n some i (omega arith))
+
+      from-is : from (g .settings .n) (g .settings .own) ≡ G .from i
+      from-is =
+          ap (λ (m : ℕ). from m (g .settings .own)) (a .gateways)
+          ∙ ap (λ (o : ℕ). from n o) (a .own)
+          ∙ sym (hears-is n some i (omega arith))
+
+      -- the frames that it writes
+      updates-written : (t v : ℕ) → roundsOf t (frames Update v (g .settings .own) (children (g .settings))) ≡ map (λ j. update i j t v) (Arcs.children (n - 1) i)
+      updates-written t v =
+          updates-are t v (g .settings .own) (children (g .settings))
+          ∙ ap (λ (o : ℕ). map (λ j. update o j t v) (children (g .settings))) (a .own)
+          ∙ ap (map (λ j. update i j t v)) children-are
+
+      starts-written : (t v : ℕ) → roundsOf t (frames Start v (g .settings .own) (to (g .settings .n) (g .settings .own))) ≡ map (λ j. start i j t) (G .to i)
+      starts-written t v =
+          starts-are t v (g .settings .own) (to (g .settings .n) (g .settings .own))
+          ∙ ap (λ (o : ℕ). map (λ j. start o j t) (to (g .settings .n) (g .settings .own))) (a .own)
+          ∙ ap (map (λ j. start i j t)) to-is
+
+      lvts-written : (t v : ℕ) → roundsOf t (frames Lvt v (g .settings .own) (from (g .settings .n) (g .settings .own))) ≡ map (λ j. lvt i j t v) (G .from i)
+      lvts-written t v =
+          lvts-are t v (g .settings .own) (from (g .settings .n) (g .settings .own))
+          ∙ ap (λ (o : ℕ). map (λ j. lvt o j t v) (from (g .settings .n) (g .settings .own))) (a .own)
+          ∙ ap (map (λ j. lvt i j t v)) from-is
+
+    -- what `finished` comes to at 0 and elsewhere
+    abbrev closing : ℕ → Gateway → Effect
+    closing v g = record { gateway = withAgreed v (withRound idle g); frames = frames Update v (g .settings .own) (children (g .settings)) }
+
+    abbrev sending : ℕ → Gateway → Effect
+    sending v g =
+        record { gateway = withRound idle g; frames = frames Lvt v (g .settings .own) (from (g .settings .n) (g .settings .own)) }
+
+    at-zero : {g : Gateway} → Called g → i ≡ 0 → eqb (g .settings .own) 0 ≡ true
+    at-zero a z = ap (λ (o : ℕ). eqb o 0) (a .own ∙ z)
+
+    finished-closing : {g : Gateway} → Called g → (v : ℕ) → i ≡ 0 → finished v g ≡ closing v g
+    unfolding finished
+    finished-closing a v z = rw (at-zero a z) refl
+
+    not-zero : {g : Gateway} → Called g → 0 < i → eqb (g .settings .own) 0 ≡ false
+    not-zero a p = ap (λ (o : ℕ). eqb o 0) (a .own) ∙ go (same? i 0)
+      where
+        go : Same i 0 → eqb i 0 ≡ false
+        go (same q e) = absurd (omega arith)
+        go (other q e) = e
+
+    finished-sending : {g : Gateway} → Called g → (v : ℕ) → 0 < i → finished v g ≡ sending v g
+    unfolding finished
+    finished-sending a v p = rw (not-zero a p) refl
+
+    -- With all Lvts in.
+    module _ {g : Gateway} {rd : Round} {c : World.Rounds} {r : RoundSteps.Rounds} (a : Called g) (h : Now rd (g .agreed) c r)
+        (s : r .status i ≡ RoundSteps.stopped) (all : (j : ℕ) → Arcs.Arc G i j → r .arrived i j ≡ 2) (v : ℕ) (value : r .mark i ≡ v) where
+      -- at 0 the round is closed
+      closing-done : i ≡ 0 → Done (finished v g) (World.closes (World.tookMore (c .opened) (length (finished v g .frames)) c)) (r .frames) (r .tag)
+      unfolding RoundSteps.close
+      closing-done z =
+          subst (λ e. Done e (World.closes (World.tookMore (c .opened) (length (e .frames)) c)) (r .frames) (r .tag)) (sym (finished-closing a v z))
+          (record {
+            after = RoundSteps.close G r;
+            now =
+                rw (length-map, children-are a)
+                (subst (λ (x : ℕ). Now (roundOf Idle 0 0) x (World.closes (World.tookMore (c .opened) (length (Arcs.children (n - 1) i)) c)) (RoundSteps.close G r)) value
+                (RoundChains.close-now n some M equal w k rs times i inside h s all 0 z));
+            frames = ap (λ l. r .frames ++ l) (zero-updates ∙ sym (updates-written a (r .tag) v));
+          })
+        where
+          zero-updates : map (λ j. update 0 j (r .tag) (r .mark 0)) (Arcs.children (n - 1) 0) ≡ map (λ j. update i j (r .tag) v) (Arcs.children (n - 1) i)
+          zero-updates =
+              ap (λ (x : ℕ). map (λ j. update x j (r .tag) (r .mark x)) (Arcs.children (n - 1) x)) (sym z)
+              ∙ ap (λ (x : ℕ). map (λ j. update i j (r .tag) x) (Arcs.children (n - 1) i)) value
+
+      -- elsewhere the Lvts go out
+      sending-done : 0 < i → Done (finished v g) (World.tookMore (c .opened) (length (finished v g .frames)) c) (r .frames) (r .tag)
+      unfolding RoundSteps.finish
+      sending-done p =
+          subst (λ e. Done e (World.tookMore (c .opened) (length (e .frames)) c) (r .frames) (r .tag)) (sym (finished-sending a v p))
+          (record {
+            after = RoundSteps.finish G i r;
+            now = rw (length-map, from-is a) (RoundChains.finish-now n some M equal w k rs times i inside h s all 0 p);
+            frames =
+                ap (λ l. r .frames ++ l)
+                (ap (λ (x : ℕ). map (λ j. lvt i j (r .tag) x) (G .from i)) value ∙ sym (lvts-written a (r .tag) v));
+          })
