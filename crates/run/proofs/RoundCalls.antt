@@ -5,6 +5,7 @@ use mathlib.Core.Bool.{Bool, true, false, cond, _&&_, true≢false, false≢true
 use mathlib.Core.List.{List, [], _∷_, _++_, map, append-assoc, append-nil}
 use Prim.Native.Nat.{ℕ, zero, suc, _+_, _*_, _-_, _≤_, _<_, min, max}
 use native.Mathlib.Omega.{arith}
+use native.Mathlib.Decide.{ℕ-discrete}
 use lib.Dec.{eqb, eqb→eq}
 use lib.ListN.{length, length-map}
 use Rattle.routing.specs.Arcs.{from, to}
@@ -24,13 +25,14 @@ use Rattle.timewarp.specs.RoundSteps.{RoundFrame, start, lvt, update}
 use Rattle.timewarp.specs.Worlds.{World}
 use Rattle.timewarp.specs.Worlds
 use Rattle.timewarp.proofs.Joined.{Good}
+use Rattle.timewarp.proofs.ListLaws.{count-nil}
 use Rattle.timewarp.proofs.FamilyLaws.{Same, same, other, same?, Changed, at, off, change?, change-at, change-off}
 use Rattle.timewarp.proofs.RoundCarried.{all-from, all-to}
 use Rattle.run.specs.World
-use Rattle.run.proofs.FigureGraph.{figureGraph, tells-is, hears-is}
+use Rattle.run.proofs.FigureGraph.{figureGraph, arcLaws, tells-is, hears-is}
 use Rattle.run.proofs.ArrivalBits.{AllIn, all-in, not-all, all-in?}
 use Rattle.run.proofs.Standing.{startIn, lvtIn, Standing, is-idle, is-finished, is-counting, is-stopped, roundOf}
-use Rattle.run.proofs.RoundCounters.{Counted, oneMore, same-counted}
+use Rattle.run.proofs.RoundCounters.{Counted, oneMore, same-counted, same-change}
 use Rattle.run.proofs.RoundChains
 use Rattle.run.proofs.RoundsUnderWay.{roundsOf, starts-are, lvts-are, updates-are, same-children}
 
@@ -157,3 +159,110 @@ module _ (n : ℕ) (some : 1 ≤ n) (M : Model) (equal : n - 1 ≡ M .last) wher
                 ap (λ l. r .frames ++ l)
                 (ap (λ (x : ℕ). map (λ j. lvt i j (r .tag) x) (G .from i)) value ∙ sym (lvts-written a (r .tag) v));
           })
+
+    -- a round that took nothing more
+    took-none : {rd : Round} {time : ℕ} (t m : ℕ) (c : World.Rounds) {r : RoundSteps.Rounds} → m ≡ 0 → Now rd time (World.tookMore t m c) r → Now rd time c r
+    took-none {rd} {time} t m c {r} z h =
+        record {
+          steps = h .steps;
+          standing = h .standing;
+          agreed = h .agreed;
+          counted = same-counted G (World.tookMore t m c) r (h .counted) c refl refl refl (λ u. same-number u (change? t (c .took t + m) (c .took) (suc u))) refl refl;
+          unfinished = h .unfinished;
+        }
+      where
+        same-number : (u : ℕ) → Changed t (c .took t + m) (c .took) (suc u) → c .took (suc u) ≡ World.tookMore t m c .took (suc u)
+        same-number u (at p e) = omega (arith, same-change t (c .took t + m) (c .took) (suc u), ap (c .took) p)
+        same-number u (off p e) = omega (arith, same-change t (c .took t + m) (c .took) (suc u))
+
+    -- What `begun` comes to at the last gateway and elsewhere.
+    abbrev counting : Gateway → Effect
+    counting g =
+        let note = leastOutstanding (g .outstanding) in
+        record {
+          gateway = withRound (roundOf Counting 0 note) g;
+          frames = frames Start 0 (g .settings .own) (to (g .settings .n) (g .settings .own));
+        }
+
+    begun-counting : {g : Gateway} → Called g → i ≢ n - 1 → begun g ≡ counting g
+    unfolding begun
+    begun-counting {g} a l = rw (go (same? (g .settings .own + 1) (g .settings .n))) refl
+      where
+        go : Same (g .settings .own + 1) (g .settings .n) → eqb (g .settings .own + 1) (g .settings .n) ≡ false
+        go (same p e) = absurd (l (omega (arith, a .own, a .gateways)))
+        go (other p e) = e
+
+    begun-last : {g : Gateway} → Called g → i ≡ n - 1 → begun g ≡ finished (valueAt (leastOutstanding (g .outstanding)) g) g
+    unfolding begun
+    begun-last {g} a l = rw (go (same? (g .settings .own + 1) (g .settings .n))) refl
+      where
+        go : Same (g .settings .own + 1) (g .settings .n) → eqb (g .settings .own + 1) (g .settings .n) ≡ true
+        go (same p e) = e
+        go (other p e) = absurd (p (omega (arith, a .own, a .gateways)))
+
+    -- the last gateway tells none
+    tells-none : i ≡ n - 1 → G .to i ≡ []
+    tells-none l = tells-is n some i (omega arith) ∙ arcLaws n some .last i (omega arith) .1 (omega arith)
+
+    -- With all Starts in.
+    module _ {g : Gateway} {rd : Round} {c : World.Rounds} {r : RoundSteps.Rounds} (a : Called g) (h : Now rd (g .agreed) c r)
+        (idles : r .status i ≡ RoundSteps.idle) (all : (j : ℕ) → Arcs.Arc G j i → r .arrived j i ≡ 1) where
+      abbrev note : ℕ
+      note = leastOutstanding (g .outstanding)
+
+      began : RoundSteps.Rounds
+      began = RoundSteps.begin G i note r
+
+      -- the last gateway stops as it starts
+      module _ (l : i ≡ n - 1) {d : World.Rounds} (b : Now (roundOf Counting 0 note) (g .agreed) d began) where
+        halted : RoundSteps.Rounds
+        halted = RoundSteps.stop i (leastQueued (g .queue)) began
+
+        halted-now : Now (roundOf Stopped 0 (valueAt note g)) (g .agreed) d halted
+        unfolding began halted RoundSteps.begin
+        halted-now =
+            RoundChains.stop-now n some M equal w k rs times i inside b (leastQueued (g .queue))
+            (change-at i RoundSteps.counting (r .status) i refl) (RoundSteps.as-it-starts l) (a .queued)
+
+        halted-status : halted .status i ≡ RoundSteps.stopped
+        unfolding halted RoundSteps.stop
+        halted-status = change-at i RoundSteps.stopped (began .status) i refl
+
+        halted-mark : halted .mark i ≡ valueAt note g
+        unfolding halted began RoundSteps.stop RoundSteps.begin
+        halted-mark =
+            change-at i (min (began .mark i) (leastQueued (g .queue))) (began .mark) i refl
+            ∙ ap (λ (x : ℕ). min x (leastQueued (g .queue))) (change-at i note (r .mark) i refl)
+
+        halted-all : (j : ℕ) → Arcs.Arc G i j → halted .arrived i j ≡ 2
+        halted-all j x = absurd (go (subst (λ m. 1 ≤ Arcs.times j m) (tells-none l) x))
+          where
+            go : 1 ≤ Arcs.times j [] → ⊥
+            go y = omega (arith, count-nil ℕ-discrete j)
+
+        -- no Start is written
+        halted-frames : halted .frames ≡ r .frames
+        unfolding halted began RoundSteps.stop RoundSteps.begin
+        halted-frames = rw (tells-none l) (append-nil (r .frames))
+
+      -- a gateway but 0
+      pub begun-done : 0 < i → Done (begun g) (World.tookMore (c .opened) (length (begun g .frames)) c) (r .frames) (r .tag)
+      unfolding began halted RoundSteps.begin RoundSteps.stop
+      begun-done p = go (same? i (n - 1))
+        where
+          first : Now (roundOf Counting 0 note) (g .agreed) (World.tookMore (c .opened) (length (G .to i)) c) began
+          first = RoundChains.begin-now n some M equal w k rs times i inside h idles all note (a .outstanding) p
+
+          go : Same i (n - 1) → Done (begun g) (World.tookMore (c .opened) (length (begun g .frames)) c) (r .frames) (r .tag)
+          go (same l e) =
+              let b = took-none (c .opened) (length (G .to i)) c (ap length (tells-none l)) first in
+              subst (λ x. Done x (World.tookMore (c .opened) (length (x .frames)) c) (r .frames) (r .tag)) (sym (begun-last a l))
+              (subst (λ f. Done (finished (valueAt note g) g) (World.tookMore (c .opened) (length (finished (valueAt note g) g .frames)) c) f (r .tag)) (halted-frames l b)
+              (sending-done a (halted-now l b) (halted-status l b) (halted-all l b) (valueAt note g) (halted-mark l b) p))
+          go (other l e) =
+              subst (λ x. Done x (World.tookMore (c .opened) (length (x .frames)) c) (r .frames) (r .tag)) (sym (begun-counting a l))
+              (record {
+                after = began;
+                now = rw (length-map, to-is a) first;
+                frames = ap (λ f. r .frames ++ f) (sym (starts-written a (r .tag) 0));
+              })
