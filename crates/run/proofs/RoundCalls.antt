@@ -31,7 +31,7 @@ use Rattle.timewarp.proofs.RoundCarried.{all-from, all-to}
 use Rattle.run.specs.World
 use Rattle.run.proofs.FigureGraph.{figureGraph, arcLaws, tells-is, hears-is}
 use Rattle.run.proofs.ArrivalBits.{AllIn, all-in, not-all, all-in?}
-use Rattle.run.proofs.Standing.{startIn, lvtIn, Standing, is-idle, is-finished, is-counting, is-stopped, roundOf}
+use Rattle.run.proofs.Standing.{startIn, lvtIn, StandingAt, Standing, is-idle, is-finished, is-counting, is-stopped, roundOf}
 use Rattle.run.proofs.RoundCounters.{Counted, oneMore, same-counted, same-change}
 use Rattle.run.proofs.RoundChains
 use Rattle.run.proofs.RoundsUnderWay.{roundsOf, starts-are, lvts-are, updates-are, same-children}
@@ -160,20 +160,26 @@ module _ (n : ℕ) (some : 1 ≤ n) (M : Model) (equal : n - 1 ≡ M .last) wher
                 (ap (λ (x : ℕ). map (λ j. lvt i j (r .tag) x) (G .from i)) value ∙ sym (lvts-written a (r .tag) v));
           })
 
+    -- other counters that count the same
+    recounted : {rd : Round} {time : ℕ} {c : World.Rounds} {r : RoundSteps.Rounds} → Now rd time c r → (d : World.Rounds) → Counted G d r → Now rd time d r
+    recounted h d counted =
+        record { steps = h .steps; standing = h .standing; agreed = h .agreed; counted = counted; unfinished = h .unfinished }
+
     -- a round that took nothing more
-    took-none : {rd : Round} {time : ℕ} (t m : ℕ) (c : World.Rounds) {r : RoundSteps.Rounds} → m ≡ 0 → Now rd time (World.tookMore t m c) r → Now rd time c r
-    took-none {rd} {time} t m c {r} z h =
-        record {
-          steps = h .steps;
-          standing = h .standing;
-          agreed = h .agreed;
-          counted = same-counted G (World.tookMore t m c) r (h .counted) c refl refl refl (λ u. same-number u (change? t (c .took t + m) (c .took) (suc u))) refl refl;
-          unfinished = h .unfinished;
-        }
+    nothing-more : (t m : ℕ) (c : World.Rounds) → m ≡ 0 → (u : ℕ) → World.tookMore t m c .took u ≡ c .took u
+    nothing-more t m c z u = go (change? t (c .took t + m) (c .took) u)
       where
-        same-number : (u : ℕ) → Changed t (c .took t + m) (c .took) (suc u) → c .took (suc u) ≡ World.tookMore t m c .took (suc u)
-        same-number u (at p e) = omega (arith, same-change t (c .took t + m) (c .took) (suc u), ap (c .took) p)
-        same-number u (off p e) = omega (arith, same-change t (c .took t + m) (c .took) (suc u))
+        go : Changed t (c .took t + m) (c .took) u → World.tookMore t m c .took u ≡ c .took u
+        go (at p e) = omega (arith, same-change t (c .took t + m) (c .took) u, ap (c .took) p)
+        go (off p e) = omega (arith, same-change t (c .took t + m) (c .took) u)
+
+    took-none : {rd : Round} {time : ℕ} (t m : ℕ) (c : World.Rounds) {r : RoundSteps.Rounds} → m ≡ 0 → Now rd time (World.tookMore t m c) r → Now rd time c r
+    took-none t m c {r} z h =
+        recounted h c (same-counted G (World.tookMore t m c) r (h .counted) c refl refl refl (λ u. sym (nothing-more t m c z (suc u))) refl refl)
+
+    none-took : {rd : Round} {time : ℕ} (t m : ℕ) (c : World.Rounds) {r : RoundSteps.Rounds} → m ≡ 0 → Now rd time c r → Now rd time (World.tookMore t m c) r
+    none-took t m c {r} z h =
+        recounted h (World.tookMore t m c) (same-counted G c r (h .counted) (World.tookMore t m c) refl refl refl (λ u. nothing-more t m c z (suc u)) refl refl)
 
     -- What `begun` comes to at the last gateway and elsewhere.
     abbrev counting : Gateway → Effect
@@ -266,3 +272,53 @@ module _ (n : ℕ) (some : 1 ≤ n) (M : Model) (equal : n - 1 ≡ M .last) wher
                 now = rw (length-map, to-is a) first;
                 frames = ap (λ f. r .frames ++ f) (sym (starts-written a (r .tag) 0));
               })
+
+      -- gateway 0 opens the round; the only gateway does the whole of it
+      pub opening-done : i ≡ 0
+          → Done (begun g)
+          (let took = World.tookMore (World.opens c .opened) (length (begun g .frames)) (World.opens c) in cond (eqb n 1) (World.closes took) took)
+          (r .frames) (r .tag)
+      unfolding began halted RoundSteps.begin RoundSteps.stop
+      opening-done z = go (same? i (n - 1)) (same? n 1)
+        where
+          d : World.Rounds
+          d = World.opens c
+
+          first : Now (roundOf Counting 0 note) (g .agreed) (World.tookMore (d .opened) (length (G .to i)) d) began
+          first = RoundChains.open-now n some M equal w k rs times i inside h idles all note (a .outstanding) z
+
+          go : Same i (n - 1) → Same n 1
+              → Done (begun g) (let took = World.tookMore (d .opened) (length (begun g .frames)) d in cond (eqb n 1) (World.closes took) took) (r .frames) (r .tag)
+          go (same l e) (same m f) =
+              let b = took-none (d .opened) (length (G .to i)) d (ap length (tells-none l)) first in
+              rw f
+              (subst (λ x. Done x (World.closes (World.tookMore (d .opened) (length (x .frames)) d)) (r .frames) (r .tag)) (sym (begun-last a l))
+              (subst (λ y. Done (finished (valueAt note g) g) (World.closes (World.tookMore (d .opened) (length (finished (valueAt note g) g .frames)) d)) y (r .tag)) (halted-frames l b)
+              (closing-done a (halted-now l b) (halted-status l b) (halted-all l b) (valueAt note g) (halted-mark l b) z)))
+          go (same l e) (other m f) = absurd (omega arith)
+          go (other l e) (same m f) = absurd (omega arith)
+          go (other l e) (other m f) =
+              rw f
+              (subst (λ x. Done x (World.tookMore (d .opened) (length (x .frames)) d) (r .frames) (r .tag)) (sym (begun-counting a l))
+              (record {
+                after = began;
+                now = rw (length-map, to-is a) first;
+                frames = ap (λ f. r .frames ++ f) (sym (starts-written a (r .tag) 0));
+              }))
+
+    -- The start call, which is accepted at gateway 0 in no open round.
+    pub start-done : {g : Gateway} {c : World.Rounds} {r : RoundSteps.Rounds} → Called g → Now (g .round) (g .agreed) c r → i ≡ 0 → isIdle (g .round .phase) ≡ true
+        → Done (begun g)
+        (let took = World.tookMore (World.opens c .opened) (length (begun g .frames)) (World.opens c) in cond (eqb n 1) (World.closes took) took)
+        (r .frames) (r .tag)
+    start-done {g} {c} {r} a h z f =
+        opening-done a h (idles (RoundChains.here n some M equal w k rs times i inside h)) none-heard z
+      where
+        idles : StandingAt G (r .status) (r .mark) (r .arrived) i (g .round) → r .status i ≡ RoundSteps.idle
+        idles (is-idle e s b) = s
+        idles (is-finished e s b) = absurd (h .unfinished (omega (arith, ap (r .status) z)))
+        idles (is-counting e s b v) = absurd (true≢false (sym f ∙ ap isIdle e))
+        idles (is-stopped e s b v) = absurd (true≢false (sym f ∙ ap isIdle e))
+
+        none-heard : (j : ℕ) → Arcs.Arc G j i → r .arrived j i ≡ 1
+        none-heard j x = absurd (omega (arith, G .upward j i x .0))

@@ -124,7 +124,7 @@ module _ (n : ℕ) (some : 1 ≤ n) (M : Model) (equal : n - 1 ≡ M .last) wher
     module _ {rd : Round} {time : ℕ} {c : World.Rounds} {r : Rounds} (h : Now rd time c r) where
       open Rounds r using (status, mark, arrived, frames, tag)
 
-      sound : RoundSound G (M .never) (λ j t. OutstandingFrom M (w .events .gateways j) t) (λ j t. WaitingFrom M (w .events .gateways j) t) r
+      pub sound : RoundSound G (M .never) (λ j t. OutstandingFrom M (w .events .gateways j) t) (λ j t. WaitingFrom M (w .events .gateways j) t) r
       sound = good-steps setting k (h .steps) .rounds-sound
 
       -- where gateway i stands
