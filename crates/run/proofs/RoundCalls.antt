@@ -28,13 +28,53 @@ use Rattle.timewarp.proofs.Joined.{Good}
 use Rattle.timewarp.proofs.ListLaws.{count-nil}
 use Rattle.timewarp.proofs.FamilyLaws.{Same, same, other, same?, Changed, at, off, change?, change-at, change-off}
 use Rattle.timewarp.proofs.RoundCarried.{all-from, all-to}
+use Rattle.timewarp.proofs.RoundInvariants.{in-turn}
 use Rattle.run.specs.World
 use Rattle.run.proofs.FigureGraph.{figureGraph, arcLaws, tells-is, hears-is}
 use Rattle.run.proofs.ArrivalBits.{AllIn, all-in, not-all, all-in?}
-use Rattle.run.proofs.Standing.{startIn, lvtIn, StandingAt, Standing, is-idle, is-finished, is-counting, is-stopped, roundOf}
+use Rattle.run.proofs.Standing.{startIn, lvtIn, startBits, lvtBits, StandingAt, Standing, is-idle, is-finished, is-counting, is-stopped, roundOf}
 use Rattle.run.proofs.RoundCounters.{Counted, oneMore, same-counted, same-change}
 use Rattle.run.proofs.RoundChains
 use Rattle.run.proofs.RoundsUnderWay.{roundsOf, starts-are, lvts-are, updates-are, same-children}
+
+-- what the test of two numbers says
+equal-test : (x y : ℕ) → x ≡ y → eqb x y ≡ true
+equal-test x y p = go (same? x y)
+  where
+    go : Same x y → eqb x y ≡ true
+    go (same q e) = e
+    go (other q e) = absurd (q p)
+
+unequal-test : (x y : ℕ) → x ≢ y → eqb x y ≡ false
+unequal-test x y p = go (same? x y)
+  where
+    go : Same x y → eqb x y ≡ false
+    go (same q e) = absurd (p q)
+    go (other q e) = e
+
+-- an effect that writes nothing
+abbrev silent : Round → Gateway → Effect
+silent rd g = record { gateway = withRound rd g; frames = [] }
+
+-- one more Start, with all in and not
+all-heard : (heard : List ℕ) (arrived : ℕ) (g : Gateway) → eqb arrived (allBits heard) ≡ true → oneStart heard arrived g ≡ begun g
+unfolding oneStart
+all-heard heard arrived g e = rw e refl
+
+not-all-heard : (heard : List ℕ) (arrived : ℕ) (g : Gateway) → eqb arrived (allBits heard) ≡ false
+    → oneStart heard arrived g ≡ silent (roundOf Idle arrived (g .round .note)) g
+unfolding oneStart
+not-all-heard heard arrived g e = rw e refl
+
+-- one more Lvt, with all in and not
+all-back : (told : List ℕ) (arrived v : ℕ) (g : Gateway) → eqb arrived (allBits told) ≡ true → oneLvt told arrived v g ≡ finished v g
+unfolding oneLvt
+all-back told arrived v g e = rw e refl
+
+not-all-back : (told : List ℕ) (arrived v : ℕ) (g : Gateway) → eqb arrived (allBits told) ≡ false
+    → oneLvt told arrived v g ≡ silent (roundOf Stopped arrived v) g
+unfolding oneLvt
+not-all-back told arrived v g e = rw e refl
 
 module _ (n : ℕ) (some : 1 ≤ n) (M : Model) (equal : n - 1 ≡ M .last) where
   abbrev S : Worlds.Setting
@@ -322,3 +362,51 @@ module _ (n : ℕ) (some : 1 ≤ n) (M : Model) (equal : n - 1 ≡ M .last) wher
 
         none-heard : (j : ℕ) → Arcs.Arc G j i → r .arrived j i ≡ 1
         none-heard j x = absurd (omega (arith, G .upward j i x .0))
+
+    -- an effect that writes nothing
+    silent-done : (g : Gateway) {rd : Round} {c : World.Rounds} {r : RoundSteps.Rounds} → Now rd (g .agreed) c r → (t : ℕ) → Done (silent rd g) c (r .frames) t
+    unfolding roundsOf
+    silent-done g {r = r} h t = record { after = r; now = h; frames = sym (append-nil (r .frames)) }
+
+    -- Taking a Start that is under way.
+    module _ {g : Gateway} {c : World.Rounds} {r : RoundSteps.Rounds} (a : Called g) (h : Now (g .round) (g .agreed) c r)
+        (j t : ℕ) (rest : List RoundFrame) (x : Insert (start j i t) rest (r .frames)) where
+      abbrev pub heard : List ℕ
+      heard = from (g .settings .n) (g .settings .own)
+
+      abbrev pub arrivals : ℕ
+      arrivals = g .round .arrived + bitOf j heard
+
+      told : RoundSteps.Rounds
+      told = RoundSteps.hear j i rest r
+
+      told-now : Now (roundOf Idle arrivals (g .round .note)) (g .agreed) c told
+      unfolding told
+      told-now = rw (from-is a) (RoundChains.hear-now n some M equal w k rs times i inside h j t rest x)
+
+      pub start-taken : Done (oneStart heard arrivals g) (World.tookMore (c .opened) (length (oneStart heard arrivals g .frames)) c) rest (r .tag)
+      unfolding told RoundSteps.hear
+      start-taken =
+          go (in-turn G _ _ _ r (RoundChains.sound n some M equal w k rs times i inside h) (start j i t) rest x)
+          (RoundChains.here n some M equal w k rs times i inside told-now)
+        where
+          all-of : All (λ y. startIn G (told .arrived) i y ≡ true) (G .from i) → (y : ℕ) → Arcs.Arc G y i → told .arrived y i ≡ 1
+          all-of b y c = eqb→eq (told .arrived y i) 1 (rw (all-from G i b y c) tt)
+
+          standing : r .status i ≡ RoundSteps.idle → j < i → arrivals ≡ startBits G (told .arrived) i → AllIn (startIn G (told .arrived) i) (G .from i)
+              → Done (oneStart heard arrivals g) (World.tookMore (c .opened) (length (oneStart heard arrivals g .frames)) c) rest (r .tag)
+          standing s l b (all-in y e f) =
+              let test : eqb arrivals (allBits heard) ≡ true = equal-test arrivals (allBits heard) (b ∙ e ∙ ap allBits (sym (from-is a))) in
+              subst (λ e. Done e (World.tookMore (c .opened) (length (e .frames)) c) rest (r .tag)) (sym (all-heard heard arrivals g test))
+              (begun-done a told-now s (all-of y) (omega arith))
+          standing s l b (not-all e f) =
+              let test : eqb arrivals (allBits heard) ≡ false = unequal-test arrivals (allBits heard) (λ q. omega (arith, ap allBits (from-is a))) in
+              subst (λ e. Done e (World.tookMore (c .opened) (length (e .frames)) c) rest (r .tag)) (sym (not-all-heard heard arrivals g test))
+              (silent-done g (none-took (c .opened) 0 c refl told-now) (r .tag))
+
+          go : RoundSteps.InTurn G r (start j i t) → StandingAt G (told .status) (told .mark) (told .arrived) i (roundOf Idle arrivals (g .round .note))
+              → Done (oneStart heard arrivals g) (World.tookMore (c .opened) (length (oneStart heard arrivals g .frames)) c) rest (r .tag)
+          go (RoundSteps.start-in-turn y s z e) (is-idle d q b) = standing s (G .upward j i y .0) b (all-in? (startIn G (told .arrived) i) (G .from i))
+          go (RoundSteps.start-in-turn y s z e) (is-finished d q b) = absurd (omega arith)
+          go (RoundSteps.start-in-turn y s z e) (is-counting d q b v) = absurd (omega arith)
+          go (RoundSteps.start-in-turn y s z e) (is-stopped d q b v) = absurd (omega arith)
