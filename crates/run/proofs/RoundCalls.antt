@@ -31,7 +31,7 @@ use Rattle.timewarp.proofs.RoundCarried.{all-from, all-to}
 use Rattle.timewarp.proofs.RoundInvariants.{in-turn}
 use Rattle.run.specs.World
 use Rattle.run.proofs.FigureGraph.{figureGraph, arcLaws, tells-is, hears-is}
-use Rattle.run.proofs.ArrivalBits.{AllIn, all-in, not-all, all-in?}
+use Rattle.run.proofs.ArrivalBits.{howMany, AllIn, all-in, not-all, all-in?}
 use Rattle.run.proofs.Standing.{startIn, lvtIn, startBits, lvtBits, StandingAt, Standing, is-idle, is-finished, is-counting, is-stopped, roundOf}
 use Rattle.run.proofs.RoundCounters.{Counted, oneMore, same-counted, same-change}
 use Rattle.run.proofs.RoundChains
@@ -410,3 +410,88 @@ module _ (n : ℕ) (some : 1 ≤ n) (M : Model) (equal : n - 1 ≡ M .last) wher
           go (RoundSteps.start-in-turn y s z e) (is-finished d q b) = absurd (omega arith)
           go (RoundSteps.start-in-turn y s z e) (is-counting d q b v) = absurd (omega arith)
           go (RoundSteps.start-in-turn y s z e) (is-stopped d q b v) = absurd (omega arith)
+
+    -- Taking an Lvt at a gateway that has stopped, with that value before it.
+    module _ {g : Gateway} {c : World.Rounds} {r : RoundSteps.Rounds} (a : Called g) (value : ℕ)
+        (h : Now (roundOf Stopped (g .round .arrived) value) (g .agreed) c r) (s : r .status i ≡ RoundSteps.stopped)
+        (j t v : ℕ) (rest : List RoundFrame) (x : Insert (lvt j i t v) rest (r .frames)) where
+      abbrev pub told-by : List ℕ
+      told-by = to (g .settings .n) (g .settings .own)
+
+      abbrev pub come-back : ℕ
+      come-back = g .round .arrived + bitOf j told-by
+
+      abbrev pub lvtEffect : Effect
+      lvtEffect = oneLvt told-by come-back (min value v) g
+
+      lowered : RoundSteps.Rounds
+      lowered = RoundSteps.takeLvt j i v rest r
+
+      -- with all Lvts in or not, the counters being d
+      module _ {d : World.Rounds} (b : Now (roundOf Stopped come-back (min value v)) (g .agreed) d lowered) where
+        all-of : All (λ y. lvtIn G (lowered .arrived) i y ≡ true) (G .to i) → (y : ℕ) → Arcs.Arc G i y → lowered .arrived i y ≡ 2
+        all-of f y q = eqb→eq (lowered .arrived i y) 2 (rw (all-to G i f y q) tt)
+
+        facts : StandingAt G (lowered .status) (lowered .mark) (lowered .arrived) i (roundOf Stopped come-back (min value v))
+            → (come-back ≡ lvtBits G (lowered .arrived) i) × (lowered .mark i ≡ min value v)
+        unfolding lowered RoundSteps.takeLvt
+        facts (is-idle e q y) = absurd (omega arith)
+        facts (is-finished e q y) = absurd (omega arith)
+        facts (is-counting e q y z) = absurd (omega arith)
+        facts (is-stopped e q y z) = (y, sym z)
+
+        bits : (come-back ≡ lvtBits G (lowered .arrived) i) × (lowered .mark i ≡ min value v)
+        bits = facts (RoundChains.here n some M equal w k rs times i inside b)
+
+        every : All (λ y. lvtIn G (lowered .arrived) i y ≡ true) (G .to i) → lvtBits G (lowered .arrived) i ≡ allBits (G .to i) → lvtEffect ≡ finished (min value v) g
+        every f e =
+            all-back told-by come-back (min value v) g
+            (equal-test come-back (allBits told-by) (bits .0 ∙ e ∙ ap allBits (sym (to-is a))))
+
+        some-left : lvtBits G (lowered .arrived) i < allBits (G .to i) → lvtEffect ≡ silent (roundOf Stopped come-back (min value v)) g
+        some-left e =
+            not-all-back told-by come-back (min value v) g
+            (unequal-test come-back (allBits told-by) (λ q. omega (arith, bits .0, ap allBits (to-is a))))
+
+      -- at a gateway but 0
+      pub lvt-elsewhere : 0 < i → Done lvtEffect (World.tookMore (c .opened) (length (lvtEffect .frames)) c) rest (r .tag)
+      unfolding lowered RoundSteps.takeLvt
+      lvt-elsewhere p = go (all-in? (lvtIn G (lowered .arrived) i) (G .to i))
+        where
+          b : Now (roundOf Stopped come-back (min value v)) (g .agreed) c lowered
+          b = rw (to-is a) (RoundChains.lvt-now n some M equal w k rs times i inside h j t v rest x s p)
+
+          go : AllIn (lvtIn G (lowered .arrived) i) (G .to i) → Done lvtEffect (World.tookMore (c .opened) (length (lvtEffect .frames)) c) rest (r .tag)
+          go (all-in f e q) =
+              subst (λ e. Done e (World.tookMore (c .opened) (length (e .frames)) c) rest (r .tag)) (sym (every b f e))
+              (sending-done a b s (all-of b f) (min value v) (bits b .1) p)
+          go (not-all e q) =
+              subst (λ e. Done e (World.tookMore (c .opened) (length (e .frames)) c) rest (r .tag)) (sym (some-left b e))
+              (silent-done g (none-took (c .opened) 0 c refl b) (r .tag))
+
+      -- at gateway 0, where the last one closes the round
+      pub lvt-at-0 : i ≡ 0 → Done lvtEffect (World.oneLvt n (World.tookMore (c .opened) (length (lvtEffect .frames)) c)) rest (r .tag)
+      unfolding lowered RoundSteps.takeLvt World.oneLvt
+      lvt-at-0 z = go (all-in? (lvtIn G (lowered .arrived) i) (G .to i))
+        where
+          b : Now (roundOf Stopped come-back (min value v)) (g .agreed) (oneMore c) lowered
+          b = rw (to-is a) (RoundChains.own-lvt-now n some M equal w k rs times i inside h j t v rest x s z)
+
+          -- how many Lvts gateway 0 has accepted
+          accepted : suc (c .lvts) ≡ howMany (lvtIn G (lowered .arrived) i) (G .to i)
+          accepted =
+              b .counted .lvts (RoundChains.open-by n some M equal w k rs times i inside b i inside (omega arith))
+              ∙ ap (λ (y : ℕ). howMany (lvtIn G (lowered .arrived) y) (G .to y)) (sym z)
+
+          awaited : length (to n 0) ≡ length (G .to i)
+          awaited = ap length (ap (λ (y : ℕ). to n y) (sym z) ∙ sym (tells-is n some i (omega arith)))
+
+          go : AllIn (lvtIn G (lowered .arrived) i) (G .to i) → Done lvtEffect (World.oneLvt n (World.tookMore (c .opened) (length (lvtEffect .frames)) c)) rest (r .tag)
+          go (all-in f e q) =
+              rw (equal-test (suc (c .lvts)) (length (to n 0)) (omega (arith, accepted, awaited)))
+              (subst (λ e. Done e (World.closes (oneMore (World.tookMore (c .opened) (length (e .frames)) c))) rest (r .tag)) (sym (every b f e))
+              (closing-done a b s (all-of b f) (min value v) (bits b .1) z))
+          go (not-all e q) =
+              rw (unequal-test (suc (c .lvts)) (length (to n 0)) (λ y. omega (arith, accepted, awaited)))
+              (subst (λ e. Done e (oneMore (World.tookMore (c .opened) (length (e .frames)) c)) rest (r .tag)) (sym (some-left b e))
+              (silent-done g (none-took (c .opened) 0 (oneMore c) refl b) (r .tag)))

@@ -157,7 +157,7 @@ module _ (n : ℕ) (some : 1 ≤ n) (M : Model) (equal : n - 1 ≡ M .last) wher
               }
 
       -- the round is open once a gateway has begun
-      open-by : (j : ℕ) → j ≤ n - 1 → 1 ≤ status j → c .open? ≡ true
+      pub open-by : (j : ℕ) → j ≤ n - 1 → 1 ≤ status j → c .open? ≡ true
       open-by j l s = h .counted .is-open ∙ go (status 0) refl
         where
           go : (x : ℕ) → status 0 ≡ x → isOpen x ≡ true
