@@ -495,3 +495,66 @@ module _ (n : ℕ) (some : 1 ≤ n) (M : Model) (equal : n - 1 ≡ M .last) wher
               rw (unequal-test (suc (c .lvts)) (length (to n 0)) (λ y. omega (arith, accepted, awaited)))
               (subst (λ e. Done e (oneMore (World.tookMore (c .opened) (length (e .frames)) c)) rest (r .tag)) (sym (some-left b e))
               (silent-done g (none-took (c .opened) 0 (oneMore c) refl b) (r .tag)))
+
+    -- Taking an Lvt that is under way: the first one stops the note and takes the value then.
+    module _ {g : Gateway} {c : World.Rounds} {r : RoundSteps.Rounds} (a : Called g) (h : Now (g .round) (g .agreed) c r)
+        (j t v : ℕ) (rest : List RoundFrame) (x : Insert (lvt j i t v) rest (r .frames)) where
+      abbrev pub takenLvt : ℕ → Effect
+      takenLvt value =
+          let told = to (g .settings .n) (g .settings .own) in
+          oneLvt told (g .round .arrived + bitOf j told) (min value v) g
+
+      abbrev pub lvtCounters : ℕ → World.Rounds
+      lvtCounters value =
+          let took = World.tookMore (c .opened) (length (takenLvt value .frames)) c in
+          cond (eqb i 0) (World.oneLvt n took) took
+
+      abbrev LvtDone : ℕ → Type 0
+      LvtDone value = Done (takenLvt value) (lvtCounters value) rest (r .tag)
+
+      -- with the value before it
+      module _ {q : RoundSteps.Rounds} (value : ℕ) (b : Now (roundOf Stopped (g .round .arrived) value) (g .agreed) c q)
+          (s : q .status i ≡ RoundSteps.stopped) (y : Insert (lvt j i t v) rest (q .frames)) where
+        either : Same i 0
+            → Done (lvtEffect a value b s j t v rest y)
+            (let took = World.tookMore (c .opened) (length (lvtEffect a value b s j t v rest y .frames)) c in cond (eqb i 0) (World.oneLvt n took) took)
+            rest (q .tag)
+        either (same z e) = rw e (lvt-at-0 a value b s j t v rest y z)
+        either (other z e) = rw e (lvt-elsewhere a value b s j t v rest y (omega arith))
+
+      pub lvt-taken : Done (takenLvt (valueIn (g .round .phase) g)) (lvtCounters (valueIn (g .round .phase) g)) rest (r .tag)
+      unfolding RoundSteps.stop
+      lvt-taken =
+          go (in-turn G _ _ _ r (RoundChains.sound n some M equal w k rs times i inside h) (lvt j i t v) rest x)
+          (RoundChains.here n some M equal w k rs times i inside h)
+        where
+          go : RoundSteps.InTurn G r (lvt j i t v) → StandingAt G (r .status) (r .mark) (r .arrived) i (g .round) → LvtDone (valueIn (g .round .phase) g)
+          go (RoundSteps.lvt-in-turn y l m z f d) (is-idle e s b) = absurd (omega arith)
+          go (RoundSteps.lvt-in-turn y l m z f d) (is-finished e s b) = absurd (omega arith)
+          go (RoundSteps.lvt-in-turn y l m z f d) (is-counting e s b o) =
+              subst LvtDone (sym (ap (λ p. valueIn p g) e))
+              (either (valueAt (g .round .note) g)
+              (RoundChains.stop-now n some M equal w k rs times i inside h (leastQueued (g .queue)) s (RoundSteps.at-an-lvt x) (a .queued))
+              (change-at i RoundSteps.stopped (r .status) i refl) x (same? i 0))
+          go (RoundSteps.lvt-in-turn y l m z f d) (is-stopped e s b o) =
+              subst LvtDone (sym (ap (λ p. valueIn p g) e))
+              (either (g .round .note) (subst (λ p. Now (roundOf p (g .round .arrived) (g .round .note)) (g .agreed) c r) e h) s x (same? i 0))
+
+    -- Taking an Update that is under way.
+    module _ {g : Gateway} {c : World.Rounds} {r : RoundSteps.Rounds} (a : Called g) (h : Now (g .round) (g .agreed) c r)
+        (j t v : ℕ) (rest : List RoundFrame) (x : Insert (update j i t v) rest (r .frames)) where
+      abbrev pub takenUpdate : Effect
+      takenUpdate =
+          record {
+            gateway = withAgreed (max (g .agreed) v) g;
+            frames = frames Update v (g .settings .own) (children (g .settings));
+          }
+
+      pub update-taken : Done takenUpdate (World.accepts (suc t) i (World.tookMore (suc t) (length (takenUpdate .frames)) c)) rest t
+      unfolding RoundSteps.takeUpdate
+      update-taken =
+          record {
+            after = RoundSteps.takeUpdate G i t v rest r;
+            now = rw (length-map, children-are a) (RoundChains.update-now n some M equal w k rs times i inside h j t v rest x);
+            frames = ap (λ l. rest ++ l) (sym (updates-written a t v));
+          }
