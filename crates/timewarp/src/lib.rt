@@ -1,0 +1,1 @@
+// The theory of the optimistic run, in specs/ (definitions) and proofs/ (laws). There is no code.
