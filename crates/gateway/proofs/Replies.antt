@@ -1,0 +1,78 @@
+-- What doing a stored message sends may be stored too, and the state after it fits its fields.
+use mathlib.Core.Path.{_≡_, refl, sym, _∙_, ap, subst}
+use mathlib.Core.Logic.{⊎-elim}
+use mathlib.Core.Bool.{Bool, true, false, cond, _&&_}
+use mathlib.Core.List.{List, [], _∷_, List·Memᴰ·not-nil, List·Memᴰ·eq-of-singleton}
+use Prim.Native.Nat.{ℕ, _+_, _-_, _≤_, _<_, min}
+use native.Mathlib.Omega.{arith}
+use lib.Dec.{leb, ltb}
+use lib.ListN.{length}
+use borrow.Author.Tests.{leb-true, le-leb, ne-eqb}
+use Rattle.routing.specs.Arcs.{_∈_}
+use Rattle.model.specs.Messages.{kindNumber, originOf, quantityOf}
+use Rattle.model.specs.Doing.{after, counted, shelved, notPast, reply, sent, sentFor, requestHours, deliveryHours, lifeHours}
+use Rattle.model.specs.declared.Kind.{Kind}
+use Rattle.model.specs.declared.Kind.the-variants.{Failure, Request, Delivery, Restock, Start, Lvt, Update}
+use Rattle.model.specs.declared.Message.{Message}
+use Rattle.model.specs.declared.State.{State}
+use Rattle.frame.specs.Kinds.{hasLamp, senseNumber}
+use Rattle.frame.specs.Writing.{wellFormed, lampFits, allBetween, gatewaysAgree, senseAllowed, hourFits}
+use Rattle.memory.specs.Records.{siteOf}
+use Rattle.memory.specs.Validity.{frameIf, senseIf}
+use Rattle.memory.specs.declared.Settings.{Settings}
+use Rattle.memory.specs.declared.Sent.{Sent}
+use Rattle.memory.specs.Ranges.{RangedState, RangedMessage}
+use Rattle.memory.proofs.Validated.{and-left, and-right, ValidSettings, Storable, ValidSent}
+
+-- a message that may be stored as it is, and whose numbers fit their fields
+pub record Good (s : Settings) (cancel : Bool) (m : Message) : Type 0 where
+  pub storable : Storable s cancel m
+  pub ranged : RangedMessage m
+
+-- an outstanding one
+pub record GoodSent (s : Settings) (x : Sent) : Type 0 where
+  pub valid : ValidSent s x
+  pub ranged : RangedMessage (x .message)
+
+-- the lamp of a message of kind 0 to 2
+lamp-printable : (cancel : Bool) (m : Message) → kindNumber (m .kind) ≤ 2 → wellFormed (frameIf cancel m) ≡ true → allBetween 33 126 (m .lamp) ≡ true
+unfolding wellFormed lampFits
+lamp-printable cancel m k h =
+    let fits : lampFits m ≡ true = search (and-left, and-right) in
+    rw (le-leb (kindNumber (m .kind)) 2 k) at fits
+
+-- a message of kind 0 to 2 is well formed whatever its sense, if its lamp and its gateways are
+lamp-formed : (cancel : Bool) (m : Message) → kindNumber (m .kind) ≤ 2 → allBetween 33 126 (m .lamp) ≡ true → gatewaysAgree (m .from) (m .to) (m .kind) ≡ true
+    → wellFormed (frameIf cancel m) ≡ true
+unfolding wellFormed lampFits
+lamp-formed cancel m k lamp gateways = rw (le-leb (kindNumber (m .kind)) 2 k, ne-eqb (kindNumber (m .kind)) 4 (λ e. omega arith), lamp, gateways)
+
+module _ (s : Settings) (v : ValidSettings s) {cancel : Bool} (m : Message) (good : Good s cancel m) (some : kindNumber (m .kind) ≤ 2) (again : Bool) where
+  reply-good : (hours to : ℕ) (kind : Kind) → kindNumber kind ≤ 2 → gatewaysAgree (s .own) to kind ≡ true → to < s .n → originOf kind < s .n → quantityOf kind ≡ 0
+      → (x : Message) → x ∈ notPast (s .last) (reply (siteOf s) m hours to kind) → GoodSent s (record { message = x; cancel = again })
+  reply-good hours to kind k agree t o q x n = by-case (leb (m .hour + hours) (s .last)) refl n
+    where
+      r : Message
+      r = reply (siteOf s) m hours to kind
+
+      good-reply : m .hour + hours ≤ s .last → GoodSent s (record { message = r; cancel = again })
+      good-reply h =
+          record {
+            valid = record {
+              message = record {
+                kind = omega arith;
+                form = lamp-formed again r k (lamp-printable cancel m some (good .storable .form)) agree;
+                from = v .own;
+                to = t;
+                origin = o;
+                hour = h;
+              };
+              kind = k;
+              from = refl;
+            };
+            ranged = record { quantity = omega arith; lamp = good .ranged .lamp };
+          }
+
+      by-case : (b : Bool) → leb (m .hour + hours) (s .last) ≡ b → x ∈ cond b (r ∷ []) [] → GoodSent s (record { message = x; cancel = again })
+      by-case true e n = subst (λ (y : Message). GoodSent s (record { message = y; cancel = again })) (sym (List·Memᴰ·eq-of-singleton n)) (good-reply (leb-true (m .hour + hours) (s .last) e))
+      by-case false e n = absurd (List·Memᴰ·not-nil n)

@@ -1,0 +1,161 @@
+-- What is read from bytes: its numbers fit their fields, and the header is made of the same bytes again.
+use mathlib.Core.Path.{_≡_, refl, sym, _∙_, ap, ap₂}
+use Prim.Native.Nat.{ℕ, zero, suc, _+_, _*_, _^_, _≤_, _<_}
+use native.Mathlib.Omega.{arith}
+use mathlib.Core.Bool.{Bool, true, false, cond}
+use mathlib.Core.List.{List, [], _∷_, _++_}
+use lib.Dec.{eqb, lit<}
+use lib.ListN.{length, getD, take, drop}
+use lib.Seq.{getD-drop}
+use Rattle.buffer.specs.Slice.{Bytes, part}
+use Rattle.buffer.specs.Number.{bytesOf, numberOf}
+use Rattle.buffer.proofs.Numbers.{number-below, bytes-of-number}
+use Rattle.buffer.proofs.Writes.{length-part, part-cons, part-nil}
+use Rattle.model.specs.Messages.{originOf, quantityOf, kindOf}
+use Rattle.model.specs.declared.Kind.{Kind}
+use Rattle.model.specs.declared.Kind.the-variants.{Failure, Request, Delivery, Restock, Start, Lvt, Update}
+use Rattle.memory.specs.Ranges.{RangedState}
+use Rattle.memory.specs.Codec.{phaseNumber, phaseOf, stateOf, messageOf, entryOf, sentOf, headerAt, headerFront, headerBack, placesAt}
+use Rattle.memory.proofs.Standing.{part-add}
+use Rattle.memory.proofs.Places.{All, nil, cons}
+use Rattle.memory.proofs.Fitting.{MessageFits, EntryFits, SentFits, HeaderFits}
+use Rattle.memory.proofs.RoundTrips.{byte-back}
+
+-- a part of bytes is bytes
+bytes-take : (n : ℕ) (l : List ℕ) → Bytes l → Bytes (take n l)
+bytes-take zero l h i = lit< tt
+bytes-take (suc n) [] h i = lit< tt
+bytes-take (suc n) (x ∷ l) h zero = h 0
+bytes-take (suc n) (x ∷ l) h (suc i) = bytes-take n l (λ j. h (suc j)) i
+
+pub bytes-part : (m : List ℕ) (at n : ℕ) → Bytes m → Bytes (part m at n)
+unfolding part
+bytes-part m at n h = bytes-take n (drop at m) (λ i. rw (getD-drop at m i 0) (h (at + i)))
+
+-- a number in bytes fits them
+pub number-fits : (m : List ℕ) (at n : ℕ) → Bytes m → at + n ≤ length m → numberOf (part m at n) < 256 ^ n
+number-fits m at n h fits = rw (length-part m at n fits) at (number-below (part m at n) (bytes-part m at n h))
+
+-- a kind's own fields are those that it was made of, or zero
+choice : Bool → Bool → Bool → Bool → Bool → Bool → ℕ → ℕ → Kind
+choice b₀ b₁ b₂ b₃ b₄ b₅ origin quantity =
+    cond b₀ (Failure origin) (cond b₁ (Request origin) (cond b₂ (Delivery origin) (cond b₃ (Restock quantity) (cond b₄ Start (cond b₅ Lvt Update)))))
+
+kind-within : (b₀ b₁ b₂ b₃ b₄ b₅ : Bool) (o q : ℕ) → (originOf (choice b₀ b₁ b₂ b₃ b₄ b₅ o q) ≤ o) × (quantityOf (choice b₀ b₁ b₂ b₃ b₄ b₅ o q) ≤ q)
+unfolding choice
+kind-within true b₁ b₂ b₃ b₄ b₅ o q = (omega arith, omega arith)
+kind-within false true b₂ b₃ b₄ b₅ o q = (omega arith, omega arith)
+kind-within false false true b₃ b₄ b₅ o q = (omega arith, omega arith)
+kind-within false false false true b₄ b₅ o q = (omega arith, omega arith)
+kind-within false false false false true b₅ o q = (omega arith, omega arith)
+kind-within false false false false false true o q = (omega arith, omega arith)
+kind-within false false false false false false o q = (omega arith, omega arith)
+
+kind-read : (n o q : ℕ) → (originOf (kindOf n o q) ≤ o) × (quantityOf (kindOf n o q) ≤ q)
+unfolding choice
+kind-read n o q = kind-within (eqb n 0) (eqb n 1) (eqb n 2) (eqb n 3) (eqb n 4) (eqb n 5) o q
+
+-- states, messages and places
+pub state-ranged : (b : List ℕ) → 14 ≤ length b → Bytes b → RangedState (stateOf b)
+unfolding stateOf
+state-ranged b h bytes = record {
+  stock = number-fits b 0 2 bytes (omega arith);
+  failed = number-fits b 2 4 bytes (omega arith);
+  fitted = number-fits b 6 4 bytes (omega arith);
+  short = number-fits b 10 4 bytes (omega arith);
+}
+
+pub message-fits : (b : List ℕ) → 30 ≤ length b → Bytes b → MessageFits (messageOf b)
+unfolding messageOf
+message-fits b h bytes =
+    let kind = kind-read (getD b 1 0) (getD b 8 0) (numberOf (part b 10 2)) in
+    record {
+      hour = number-fits b 4 4 bytes (omega arith);
+      from = bytes 2;
+      to = bytes 3;
+      origin = omega (arith, bytes 8);
+      quantity = omega (arith, number-fits b 10 2 bytes (omega arith));
+      lamp = length-part b 12 18 (omega arith);
+    }
+
+pub entry-fits : (b : List ℕ) → length b ≡ 64 → Bytes b → EntryFits (entryOf b)
+unfolding entryOf
+entry-fits b h bytes =
+    let saved : length (part b 30 14) ≡ 14 = length-part b 30 14 (omega arith) in
+    record { message = message-fits b (omega arith) bytes; before = state-ranged (part b 30 14) (omega arith) (bytes-part b 30 14 bytes) }
+
+pub sent-fits : (b : List ℕ) → length b ≡ 32 → Bytes b → SentFits (sentOf b)
+unfolding sentOf
+sent-fits b h bytes = record { message = message-fits b (omega arith) bytes }
+
+-- what holds of each place that bytes hold
+pub read-all : {A : Type 0} {p : A → Type 0} (g : List ℕ → A) (size : ℕ) (m : List ℕ) (at n : ℕ) → Bytes m → at + size * n ≤ length m
+    → ((b : List ℕ) → length b ≡ size → Bytes b → p (g b)) → All p (placesAt g size m at n)
+unfolding placesAt
+read-all g size m at zero bytes fits each = nil
+read-all g size m at (suc n) bytes fits each =
+    let whole : size * suc n ≡ size + size * n = omega arith in
+    cons (each (part m at size) (length-part m at size (omega arith)) (bytes-part m at size bytes)) (read-all g size m (at + size) n bytes (omega arith) each)
+
+-- the header
+phase-again : (n : ℕ) → n ≤ 2 → phaseNumber (phaseOf n) ≡ n
+phase-again zero h = refl
+phase-again (suc zero) h = refl
+phase-again (suc (suc zero)) h = refl
+phase-again (suc (suc (suc n))) h = absurd (let z : _≡_ {A = ℕ} 0 1 = omega arith in omega arith)
+
+module _ (m : List ℕ) (bytes : Bytes m) (long : 40 ≤ length m) where
+  pub header-fits : HeaderFits (headerAt m)
+  unfolding headerAt
+  header-fits = record {
+    settings = record {
+      n = bytes 0;
+      own = bytes 1;
+      supplier = bytes 2;
+      last = number-fits m 16 4 bytes (omega arith);
+      q = number-fits m 6 2 bytes (omega arith);
+      u = number-fits m 8 2 bytes (omega arith);
+    };
+    state = record {
+      stock = number-fits m 14 2 bytes (omega arith);
+      failed = number-fits m 28 4 bytes (omega arith);
+      fitted = number-fits m 32 4 bytes (omega arith);
+      short = number-fits m 36 4 bytes (omega arith);
+    };
+    agreed = number-fits m 20 4 bytes (omega arith);
+    round = record { arrived = bytes 4; note = number-fits m 24 4 bytes (omega arith) };
+    queued = number-fits m 10 2 bytes (omega arith);
+    outstanding = number-fits m 12 2 bytes (omega arith);
+  }
+
+  -- a byte, and a number, with what follows
+  byte-next : (at rest : ℕ) {tail : List ℕ} → at < length m → tail ≡ part m (at + 1) rest → bytesOf 1 (getD m at 0) ++ tail ≡ part m at (suc rest)
+  unfolding bytesOf
+  byte-next at rest lt e = ap₂ _∷_ (byte-back (getD m at 0) (bytes at)) e ∙ sym (part-cons m at rest lt)
+
+  number-again : (at n : ℕ) → at + n ≤ length m → bytesOf n (numberOf (part m at n)) ≡ part m at n
+  number-again at n fits = rw (length-part m at n fits) at (bytes-of-number (part m at n) (bytes-part m at n bytes))
+
+  number-next : (at n rest : ℕ) {tail : List ℕ} → at + n ≤ length m → tail ≡ part m (at + n) rest → bytesOf n (numberOf (part m at n)) ++ tail ≡ part m at (n + rest)
+  number-next at n rest fits e = ap₂ _++_ (number-again at n fits) e ∙ sym (part-add m at n rest)
+
+  pub front-again : getD m 3 0 ≤ 2 → headerFront (headerAt m) ≡ part m 0 5
+  unfolding headerFront headerAt bytesOf
+  front-again small =
+      rw (phase-again (getD m 3 0) small)
+      (byte-next 0 4 (omega arith) (byte-next 1 3 (omega arith) (byte-next 2 2 (omega arith) (byte-next 3 1 (omega arith) (byte-next 4 0 (omega arith) (sym (part-nil m 5)))))))
+
+  pub back-again : headerBack (headerAt m) ≡ part m 6 34
+  unfolding headerBack headerAt
+  back-again =
+      number-next 6 2 32 (omega arith)
+      (number-next 8 2 30 (omega arith)
+      (number-next 10 2 28 (omega arith)
+      (number-next 12 2 26 (omega arith)
+      (number-next 14 2 24 (omega arith)
+      (number-next 16 4 20 (omega arith)
+      (number-next 20 4 16 (omega arith)
+      (number-next 24 4 12 (omega arith)
+      (number-next 28 4 8 (omega arith)
+      (number-next 32 4 4 (omega arith)
+      (number-again 36 4 (omega arith)))))))))))

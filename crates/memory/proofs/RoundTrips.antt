@@ -1,0 +1,204 @@
+-- Every element of a gateway read back from its own bytes: states, messages, queue places, outstanding places, the header.
+use mathlib.Core.Path.{_≡_, refl, sym, _∙_, ap, ap₂}
+use Prim.Native.Nat.{ℕ, zero, suc, _+_, _*_, _/_, _%_, _^_, _≤_, _<_}
+use native.Mathlib.Omega.{arith}
+use mathlib.Core.Bool.{Bool, true, false, cond}
+use mathlib.Core.List.{List, [], _∷_, _++_}
+use lib.Dec.{eqb, lit<, lit≤}
+use lib.ListN.{length, getD, take, replicate, length-append}
+use lib.Seq.{take-at}
+use Rattle.buffer.specs.Slice.{part, write}
+use Rattle.buffer.specs.Number.{bytesOf, numberOf}
+use Rattle.buffer.proofs.Numbers.{number-of-bytes, length-bytesOf}
+use Rattle.buffer.proofs.Writes.{part-part}
+use Rattle.model.specs.Messages.{kindNumber, originOf, quantityOf, kindOf}
+use Rattle.model.specs.declared.Kind.{Kind}
+use Rattle.model.specs.declared.Kind.the-variants.{Failure, Request, Delivery, Restock, Start, Lvt, Update}
+use Rattle.model.specs.declared.Message.{Message}
+use Rattle.model.specs.declared.State.{State}
+use Rattle.memory.specs.Ranges.{RangedState}
+use Rattle.memory.specs.Codec.{markNumber, markOf, phaseNumber, phaseOf, cancelNumber, stateBytes, stateOf, messageBytes, messageOf, entryBytes, entryOf, sentBytes, sentOf, headerAt, headerFront, headerBack}
+use Rattle.memory.specs.declared.Header.{Header}
+use Rattle.memory.specs.declared.Entry.{Entry}
+use Rattle.memory.specs.declared.Sent.{Sent}
+use Rattle.memory.specs.declared.Mark.{Mark}
+use Rattle.memory.specs.declared.Mark.the-variants.{Pending, Processed, Waiting}
+use Rattle.memory.specs.declared.Phase.{Phase}
+use Rattle.memory.specs.declared.Phase.the-variants.{Idle, Counting, Stopped}
+use Rattle.memory.proofs.Standing.{part-front, part-back, getD-part}
+use Rattle.memory.proofs.Places.{Stored}
+use Rattle.memory.proofs.Fitting.{MessageFits, EntryFits, SentFits, HeaderFits}
+
+-- one byte
+pub byte-back : (n : ℕ) → n < 256 → n / 256 ^ 0 % 256 ≡ n
+byte-back n h = omega arith
+
+-- the enumerations
+kind-back : (k : Kind) → kindOf (kindNumber k) (originOf k) (quantityOf k) ≡ k
+kind-back (Failure origin) = refl
+kind-back (Request origin) = refl
+kind-back (Delivery origin) = refl
+kind-back (Restock quantity) = refl
+kind-back Start = refl
+kind-back Lvt = refl
+kind-back Update = refl
+
+kind-fits : (k : Kind) → kindNumber k < 256
+kind-fits (Failure origin) = lit< tt
+kind-fits (Request origin) = lit< tt
+kind-fits (Delivery origin) = lit< tt
+kind-fits (Restock quantity) = lit< tt
+kind-fits Start = lit< tt
+kind-fits Lvt = lit< tt
+kind-fits Update = lit< tt
+
+mark-back : (a : Mark) → markOf (markNumber a / 256 ^ 0 % 256) ≡ a
+mark-back Pending = refl
+mark-back Processed = refl
+mark-back Waiting = refl
+
+phase-fits : (a : Phase) → phaseNumber a < 256
+phase-fits Idle = lit< tt
+phase-fits Counting = lit< tt
+phase-fits Stopped = lit< tt
+
+phase-back : (a : Phase) → phaseOf (phaseNumber a) ≡ a
+phase-back Idle = refl
+phase-back Counting = refl
+phase-back Stopped = refl
+
+cancel-back : (a : Bool) → eqb (cancelNumber a / 256 ^ 0 % 256) 1 ≡ a
+cancel-back true = refl
+cancel-back false = refl
+
+-- a state
+pub length-state : (s : State) → length (stateBytes s) ≡ 14
+unfolding stateBytes bytesOf
+length-state s = refl
+
+pub state-back : (s : State) → RangedState s → stateOf (stateBytes s) ≡ s
+unfolding stateBytes stateOf bytesOf part
+state-back s r = λ i. record {
+  stock = number-of-bytes 2 (s .stock) (r .stock) i;
+  failed = number-of-bytes 4 (s .failed) (r .failed) i;
+  fitted = number-of-bytes 4 (s .fitted) (r .fitted) i;
+  short = number-of-bytes 4 (s .short) (r .short) i;
+}
+
+-- a message, behind its mark and before whatever follows
+module _ (mark : ℕ) (m : Message) (rest : List ℕ) (r : MessageFits m) where
+  pub length-message : length (messageBytes mark m) ≡ 30
+  unfolding messageBytes bytesOf
+  length-message = omega (arith, r .lamp)
+
+  message-kind : kindOf (kindNumber (m .kind) / 256 ^ 0 % 256) (originOf (m .kind) / 256 ^ 0 % 256) (numberOf (bytesOf 2 (quantityOf (m .kind)))) ≡ m .kind
+  message-kind =
+      rw (byte-back (kindNumber (m .kind)) (kind-fits (m .kind)), byte-back (originOf (m .kind)) (r .origin), number-of-bytes 2 (quantityOf (m .kind)) (r .quantity))
+      (kind-back (m .kind))
+
+  pub message-back : messageOf (messageBytes mark m ++ rest) ≡ m
+  unfolding messageBytes messageOf bytesOf part
+  message-back = λ i. record {
+    hour = number-of-bytes 4 (m .hour) (r .hour) i;
+    from = byte-back (m .from) (r .from) i;
+    to = byte-back (m .to) (r .to) i;
+    kind = message-kind i;
+    lamp = take-at (m .lamp) rest 18 (r .lamp) i;
+  }
+
+-- a queue place
+module _ (e : Entry) (r : EntryFits e) where
+  pub length-entry : length (entryBytes e) ≡ 64
+  unfolding entryBytes
+  length-entry =
+      length-append (messageBytes (markNumber (e .mark)) (e .message)) (stateBytes (e .before) ++ replicate 20 0)
+      ∙ (ap₂ _+_ (length-message (markNumber (e .mark)) (e .message) [] (r .message)) (length-append (stateBytes (e .before)) (replicate 20 0) ∙ ap (λ n. n + 20) (length-state (e .before))))
+
+  saved : part (entryBytes e) 30 14 ≡ stateBytes (e .before)
+  unfolding entryBytes
+  saved =
+      part-back (messageBytes (markNumber (e .mark)) (e .message)) (stateBytes (e .before) ++ replicate 20 0) 30 0 14 (length-message (markNumber (e .mark)) (e .message) [] (r .message))
+      ∙ part-front (stateBytes (e .before)) (replicate 20 0) 14 (length-state (e .before))
+
+  entry-mark : markOf (getD (entryBytes e) 0 0) ≡ e .mark
+  unfolding entryBytes messageBytes bytesOf
+  entry-mark = mark-back (e .mark)
+
+  entry-message : messageOf (entryBytes e) ≡ e .message
+  unfolding entryBytes
+  entry-message = message-back (markNumber (e .mark)) (e .message) (stateBytes (e .before) ++ replicate 20 0) (r .message)
+
+  pub entry-stored : Stored entryBytes entryOf 64 e
+  unfolding entryOf
+  entry-stored = record {
+    sized = length-entry;
+    back = λ i. record { message = entry-message i; mark = entry-mark i; before = (ap stateOf saved ∙ state-back (e .before) (r .before)) i };
+  }
+
+-- an outstanding place
+module _ (s : Sent) (r : SentFits s) where
+  pub length-sent : length (sentBytes s) ≡ 32
+  unfolding sentBytes
+  length-sent =
+      length-append (messageBytes (cancelNumber (s .cancel)) (s .message)) (replicate 2 0)
+      ∙ ap (λ n. n + 2) (length-message (cancelNumber (s .cancel)) (s .message) [] (r .message))
+
+  sent-cancel : eqb (getD (sentBytes s) 0 0) 1 ≡ s .cancel
+  unfolding sentBytes messageBytes bytesOf
+  sent-cancel = cancel-back (s .cancel)
+
+  sent-message : messageOf (sentBytes s) ≡ s .message
+  unfolding sentBytes
+  sent-message = message-back (cancelNumber (s .cancel)) (s .message) (replicate 2 0) (r .message)
+
+  pub sent-stored : Stored sentBytes sentOf 32 s
+  unfolding sentOf
+  sent-stored = record { sized = length-sent; back = λ i. record { message = sent-message i; cancel = sent-cancel i } }
+
+-- the header
+pub length-front : (h : Header) → length (headerFront h) ≡ 5
+unfolding headerFront bytesOf
+length-front h = refl
+
+pub length-back : (h : Header) → length (headerBack h) ≡ 34
+unfolding headerBack bytesOf
+length-back h = refl
+
+module _ (h : Header) (r : HeaderFits h) (m : List ℕ) (front : part m 0 5 ≡ headerFront h) (back : part m 6 34 ≡ headerBack h) where
+  -- a byte of the front and a number of the back
+  header-byte : (k x : ℕ) → k < 5 → getD (headerFront h) k 0 ≡ x / 256 ^ 0 % 256 → x < 256 → getD m (0 + k) 0 ≡ x
+  header-byte k x lt e small = sym (getD-part m 0 5 k lt) ∙ (ap (λ l. getD l k 0) front ∙ (e ∙ byte-back x small))
+
+  header-number : (k n x : ℕ) → k + n ≤ 34 → part (headerBack h) k n ≡ bytesOf n x → x < 256 ^ n → numberOf (part m (6 + k) n) ≡ x
+  header-number k n x lt e small = ap numberOf (sym (part-part m 6 34 k n lt) ∙ (ap (λ l. part l k n) back ∙ e)) ∙ number-of-bytes n x small
+
+  pub phase-byte : getD m 3 0 ≡ phaseNumber (h .round .phase)
+  unfolding headerFront bytesOf
+  phase-byte = header-byte 3 (phaseNumber (h .round .phase)) (lit< tt) refl (phase-fits (h .round .phase))
+
+  pub header-back : headerAt m ≡ h
+  unfolding headerAt headerFront headerBack bytesOf part
+  header-back = λ i. record {
+    settings = record {
+      n = header-byte 0 (h .settings .n) (lit< tt) refl (r .settings .n) i;
+      own = header-byte 1 (h .settings .own) (lit< tt) refl (r .settings .own) i;
+      supplier = header-byte 2 (h .settings .supplier) (lit< tt) refl (r .settings .supplier) i;
+      last = header-number 10 4 (h .settings .last) (lit≤ tt) refl (r .settings .last) i;
+      q = header-number 0 2 (h .settings .q) (lit≤ tt) refl (r .settings .q) i;
+      u = header-number 2 2 (h .settings .u) (lit≤ tt) refl (r .settings .u) i;
+    };
+    state = record {
+      stock = header-number 8 2 (h .state .stock) (lit≤ tt) refl (r .state .stock) i;
+      failed = header-number 22 4 (h .state .failed) (lit≤ tt) refl (r .state .failed) i;
+      fitted = header-number 26 4 (h .state .fitted) (lit≤ tt) refl (r .state .fitted) i;
+      short = header-number 30 4 (h .state .short) (lit≤ tt) refl (r .state .short) i;
+    };
+    agreed = header-number 14 4 (h .agreed) (lit≤ tt) refl (r .agreed) i;
+    round = record {
+      phase = (ap phaseOf phase-byte ∙ phase-back (h .round .phase)) i;
+      arrived = header-byte 4 (h .round .arrived) (lit< tt) refl (r .round .arrived) i;
+      note = header-number 18 4 (h .round .note) (lit≤ tt) refl (r .round .note) i;
+    };
+    queued = header-number 4 2 (h .queued) (lit≤ tt) refl (r .queued) i;
+    outstanding = header-number 6 2 (h .outstanding) (lit≤ tt) refl (r .outstanding) i;
+  }

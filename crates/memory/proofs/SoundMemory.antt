@@ -1,0 +1,188 @@
+-- Soundness as facts, and the laws of the codec: sound memory holds a valid gateway, and a valid gateway makes sound memory.
+use mathlib.Core.Path.{_≡_, refl, sym, _∙_, ap, ap₂}
+use Prim.Native.Nat.{ℕ, _+_, _*_, _≤_}
+use native.Mathlib.Omega.{arith}
+use mathlib.Core.Bool.{Bool, true, false, _&&_, false≢true}
+use mathlib.Core.List.{List, [], _∷_}
+use lib.Dec.{leb, eqb}
+use lib.ListN.{length, getD}
+use borrow.Author.Tests.{leb-true, le-leb, eqb-true, eq-eqb}
+use Rattle.buffer.specs.Slice.{Bytes, part}
+use Rattle.buffer.proofs.Writes.{length-part}
+use Rattle.memory.specs.Records.{Gateway, headerOf}
+use Rattle.memory.specs.Ranges.{Ranged}
+use Rattle.memory.specs.Layout.{headerSize, outstandingAt, sizeFor}
+use Rattle.memory.specs.Codec.{phaseNumber, entryBytes, entryOf, sentBytes, sentOf, headerAt, headerFront, headerBack, placesAt, placesBytes, decode, encode}
+use Rattle.memory.specs.Validity.{every, settingsValid, valid}
+use Rattle.memory.specs.Soundness.{sameBytes, headerSound, entryExact, sentExact, sound}
+use Rattle.memory.specs.Claims.{Untouched, WritingLaws, ReadingLaws, CodecLaws}
+use Rattle.memory.specs.declared.Header.{Header}
+use Rattle.memory.specs.declared.Phase.{Phase}
+use Rattle.memory.specs.declared.Phase.the-variants.{Idle, Counting, Stopped}
+use Rattle.memory.proofs.Validated.{Valid, valid-facts, facts-settings, and-left, and-right, and-both}
+use Rattle.memory.proofs.Standing.{Stands, stands-part}
+use Rattle.memory.proofs.Places.{All, nil, cons, Exact, all-map, length-read, stored-exact, exact-stands}
+use Rattle.memory.proofs.Fitting.{GatewayFits, HeaderFits, valid-fits, fits-ranged}
+use Rattle.memory.proofs.RoundTrips.{length-front, length-back, entry-stored, sent-stored, phase-byte}
+use Rattle.memory.proofs.FromBytes.{entry-fits, sent-fits, header-fits, read-all, front-again, back-again}
+use Rattle.memory.proofs.Holding.{Room, Holds, holds-header, holds-decode, encode-length, encode-holds, encode-elsewhere, encode-same, encode-room, decode-encode}
+
+-- two lists that test equal are equal
+pub same-bytes : (xs ys : List ℕ) → sameBytes xs ys ≡ true → xs ≡ ys
+unfolding sameBytes
+same-bytes [] [] h = refl
+same-bytes [] (y ∷ ys) h = absurd (false≢true h)
+same-bytes (x ∷ xs) [] h = absurd (false≢true h)
+same-bytes (x ∷ xs) (y ∷ ys) h = ap₂ _∷_ (eqb-true x y (and-left (eqb x y) (sameBytes xs ys) h)) (same-bytes xs ys (and-right (eqb x y) (sameBytes xs ys) h))
+
+pub bytes-same : (xs : List ℕ) → sameBytes xs xs ≡ true
+unfolding sameBytes
+bytes-same [] = refl
+bytes-same (x ∷ xs) = and-both (eqb x x) (sameBytes xs xs) (eq-eqb x x refl) (bytes-same xs)
+
+-- a test passed by every element
+module _ {A : Type 0} (f : A → Bool) {p : A → Type 0} where
+  pub every-all : ((x : A) → f x ≡ true → p x) → (xs : List A) → every f xs ≡ true → All p xs
+  unfolding every
+  every-all h [] e = nil
+  every-all h (x ∷ xs) e = cons (h x (and-left (f x) (every f xs) e)) (every-all h xs (and-right (f x) (every f xs) e))
+
+  pub all-every : ((x : A) → p x → f x ≡ true) → {xs : List A} → All p xs → every f xs ≡ true
+  unfolding every
+  all-every h nil = refl
+  all-every h (cons {x = x} {xs = xs} q qs) = and-both (f x) (every f xs) (h x q) (all-every h qs)
+
+-- sound memory, as facts
+pub record Sound (m : List ℕ) : Type 0 where
+  pub header : headerSize ≤ length m
+  pub settings : settingsValid (headerAt m .settings) ≡ true
+  pub long : sizeFor (headerAt m .settings .q) (headerAt m .settings .u) ≤ length m
+  pub phase : getD m 3 0 ≤ 2
+  pub queued : headerAt m .queued ≤ headerAt m .settings .q
+  pub sent : headerAt m .outstanding ≤ headerAt m .settings .u
+  pub queue : All (Exact entryBytes entryOf 64) (placesAt (λ b. b) 64 m headerSize (headerAt m .queued))
+  pub outstanding : All (Exact sentBytes sentOf 32) (placesAt (λ b. b) 32 m (outstandingAt (headerAt m .settings .q) 0) (headerAt m .outstanding))
+  pub held : valid (decode m) ≡ true
+
+module _ (m : List ℕ) where
+  queue-places : List (List ℕ)
+  queue-places = placesAt (λ b. b) 64 m headerSize (headerAt m .queued)
+
+  sent-places : List (List ℕ)
+  sent-places = placesAt (λ b. b) 32 m (outstandingAt (headerAt m .settings .q) 0) (headerAt m .outstanding)
+
+  pub sound-facts : sound m ≡ true → Sound m
+  unfolding sound headerSound
+  sound-facts e =
+      record {
+        header = leb-true headerSize (length m) (search (and-left, and-right) depth 9);
+        settings = search (and-left, and-right) depth 9;
+        long = leb-true (sizeFor (headerAt m .settings .q) (headerAt m .settings .u)) (length m) (search (and-left, and-right) depth 9);
+        phase = leb-true (getD m 3 0) 2 (search (and-left, and-right) depth 9);
+        queued = leb-true (headerAt m .queued) (headerAt m .settings .q) (search (and-left, and-right) depth 9);
+        sent = leb-true (headerAt m .outstanding) (headerAt m .settings .u) (search (and-left, and-right) depth 9);
+        queue = every-all entryExact (λ b h. same-bytes (entryBytes (entryOf b)) b h) (placesAt (λ b. b) 64 m headerSize (headerAt m .queued)) (search (and-left, and-right) depth 9);
+        outstanding = every-all sentExact (λ b h. same-bytes (sentBytes (sentOf b)) b h) (placesAt (λ b. b) 32 m (outstandingAt (headerAt m .settings .q) 0) (headerAt m .outstanding)) (search (and-left, and-right) depth 9);
+        held = search (and-left, and-right) depth 9;
+      }
+
+  pub facts-sound : Sound m → sound m ≡ true
+  unfolding sound headerSound
+  facts-sound s =
+      let queue : every entryExact (placesAt (λ b. b) 64 m headerSize (headerAt m .queued)) ≡ true = all-every entryExact (λ b h. rw h (bytes-same b)) (s .queue) in
+      let sent : every sentExact (placesAt (λ b. b) 32 m (outstandingAt (headerAt m .settings .q) 0) (headerAt m .outstanding)) ≡ true = all-every sentExact (λ b h. rw h (bytes-same b)) (s .outstanding) in
+      rw (le-leb headerSize (length m) (s .header), s .settings, le-leb (sizeFor (headerAt m .settings .q) (headerAt m .settings .u)) (length m) (s .long), le-leb (getD m 3 0) 2 (s .phase), le-leb (headerAt m .queued) (headerAt m .settings .q) (s .queued), le-leb (headerAt m .outstanding) (headerAt m .settings .u) (s .sent), queue, sent) (s .held)
+
+-- memory holds the gateway that it is read as
+module _ (m : List ℕ) (bytes : Bytes m) (s : Sound m) where
+  pub header-held : headerOf (decode m) ≡ headerAt m
+  unfolding decode
+  header-held = λ i. record {
+    settings = headerAt m .settings;
+    state = headerAt m .state;
+    agreed = headerAt m .agreed;
+    round = headerAt m .round;
+    queued = length-read entryOf 64 m headerSize (headerAt m .queued) i;
+    outstanding = length-read sentOf 32 m (outstandingAt (headerAt m .settings .q) 0) (headerAt m .outstanding) i;
+  }
+
+  queue-inside : headerSize + 64 * headerAt m .queued ≤ length m
+  queue-inside = omega (arith, s .long, s .queued)
+
+  sent-inside : outstandingAt (headerAt m .settings .q) 0 + 32 * headerAt m .outstanding ≤ length m
+  sent-inside = omega (arith, s .long, s .sent)
+
+  pub sound-holds : Holds (decode m) m
+  unfolding decode
+  sound-holds = record {
+    front = rw (header-held, length-front (headerAt m)) (sym (front-again m bytes (omega (arith, s .header)) (s .phase)));
+    back = rw (header-held, length-back (headerAt m)) (sym (back-again m bytes (omega (arith, s .header))));
+    queue = stands-part headerSize (64 * headerAt m .queued) m queue-inside (exact-stands entryBytes entryOf 64 m headerSize (headerAt m .queued) (s .queue));
+    outstanding = stands-part (outstandingAt (headerAt m .settings .q) 0) (32 * headerAt m .outstanding) m sent-inside
+        (exact-stands sentBytes sentOf 32 m (outstandingAt (headerAt m .settings .q) 0) (headerAt m .outstanding) (s .outstanding));
+  }
+
+  pub sound-room : Room (decode m) m
+  unfolding decode
+  sound-room = record {
+    long = s .long;
+    queued = rw (length-read entryOf 64 m headerSize (headerAt m .queued)) (s .queued);
+    sent = rw (length-read sentOf 32 m (outstandingAt (headerAt m .settings .q) 0) (headerAt m .outstanding)) (s .sent);
+  }
+
+  pub sound-fits : GatewayFits (decode m)
+  unfolding decode
+  sound-fits = record {
+    header = rw header-held (header-fits m bytes (omega (arith, s .header)));
+    queue = read-all entryOf 64 m headerSize (headerAt m .queued) bytes queue-inside entry-fits;
+    outstanding = read-all sentOf 32 m (outstandingAt (headerAt m .settings .q) 0) (headerAt m .outstanding) bytes sent-inside sent-fits;
+  }
+
+  pub reading-laws : ReadingLaws m
+  reading-laws = record {
+    valid-held = s .held;
+    ranged = fits-ranged (decode m) sound-fits;
+    long = sound-room .long;
+    again = encode-same (decode m) m sound-fits sound-room sound-holds;
+  }
+
+-- memory that holds a valid gateway is sound
+phase-small : (a : Phase) → phaseNumber a ≤ 2
+phase-small Idle = omega arith
+phase-small Counting = omega arith
+phase-small Stopped = omega arith
+
+module _ (g : Gateway) (m : List ℕ) (v : Valid g) (r : GatewayFits g) (room : Room g m) (h : Holds g m) where
+  held-header : headerAt m ≡ headerOf g
+  held-header = holds-header g m r room h
+
+  pub holds-sound : valid g ≡ true → sound m ≡ true
+  holds-sound ok =
+      facts-sound m
+      (record {
+        header = omega (arith, room .long);
+        settings = rw held-header (facts-settings (g .settings) (v .settings));
+        long = rw held-header (room .long);
+        phase = rw (phase-byte (headerOf g) (r .header) m (rw (length-front (headerOf g)) at (h .front)) (rw (length-back (headerOf g)) at (h .back))) (phase-small (g .round .phase));
+        queued = rw held-header (room .queued);
+        sent = rw held-header (room .sent);
+        queue = rw held-header (stored-exact entryBytes entryOf 64 m headerSize (all-map entry-stored (r .queue)) (h .queue));
+        outstanding = rw held-header (stored-exact sentBytes sentOf 32 m (outstandingAt (g .settings .q) 0) (all-map sent-stored (r .outstanding)) (h .outstanding));
+        held = rw (holds-decode g m r room h) ok;
+      })
+
+pub writing-laws : (g : Gateway) (m : List ℕ) → valid g ≡ true → Ranged g → sizeFor (g .settings .q) (g .settings .u) ≤ length m → WritingLaws g m
+writing-laws g m ok ranged long =
+    let v = valid-facts g ok in
+    let r = valid-fits g v ranged in
+    let room : Room g m = record { long = long; queued = v .queued; sent = v .sent } in
+    record {
+      again = decode-encode g m r room;
+      sound-after = holds-sound g (encode g m) v r (encode-room g m r room) (encode-holds g m r room) ok;
+      as-long = encode-length g m r room;
+      elsewhere = λ from n u. encode-elsewhere g m r room from n (u .front) (u .back) (u .queue) (u .outstanding);
+    }
+
+-- the laws of the codec
+pub codec-laws : CodecLaws
+codec-laws = record { writing = writing-laws; reading = λ m bytes e. reading-laws m bytes (sound-facts m e) }
