@@ -1,0 +1,3 @@
+-- Demand 3: the run is an instance of the abstract theory.
+pub mod EventOrders
+pub mod ForecastModel
