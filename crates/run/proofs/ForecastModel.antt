@@ -1,13 +1,16 @@
 -- The model of a forecast: the lamp model at N gateways, as the abstract theory knows a model.
 use mathlib.Core.Path.{_≡_, refl, sym, _∙_, ap, subst}
-use Prim.Native.Nat.{ℕ, _-_, _≤_, _<_}
+use Prim.Native.Nat.{ℕ, _+_, _-_, _≤_, _<_}
 use native.Mathlib.Omega.{arith}
 use mathlib.Core.Bool.{Bool, true, false, cond, _&&_}
 use mathlib.Core.List.{List, [], _∷_}
-use lib.Dec.{ltb, eqb}
+use lib.Dec.{ltb, leb, eqb}
 use lib.ListN.{length}
-use borrow.Author.Tests.{ltb-true, eqb-true}
-use Rattle.model.specs.Doing.{after, sent}
+use borrow.Author.Tests.{ltb-true, leb-true, eqb-true, lt-ltb}
+use Rattle.model.specs.Doing.{after, sent, sentFor, notPast, reply, requestHours, deliveryHours}
+use Rattle.model.specs.Messages.{originOf}
+use Rattle.model.specs.declared.Kind.{Kind}
+use Rattle.model.specs.declared.Kind.the-variants.{Failure, Request, Delivery, Restock, Start, Lvt, Update}
 use Rattle.model.specs.EventOrder.{key}
 use Rattle.model.specs.declared.Message.{Message}
 use Rattle.model.specs.declared.State.{State}
@@ -15,7 +18,7 @@ use Rattle.model.specs.declared.Site.{Site}
 use Rattle.model.proofs.Ordered.{key-injective}
 use Rattle.model.proofs.Sending.{sending}
 use Rattle.frame.specs.Limits.{nothingDue}
-use Rattle.memory.proofs.Validated.{and-left, and-right}
+use Rattle.memory.proofs.Validated.{and-left, and-right, and-both}
 use Rattle.gateway.specs.SettingUp.{cutFrames, queued}
 use Rattle.gateway.specs.Working.{pendingOf}
 use Rattle.timewarp.specs.Lists.{All, nil, cons}
@@ -153,3 +156,30 @@ module _ (n last : ℕ) (setups : ℕ → SetUp) where
     sends-later = sends-later;
     sends-due = sends-due;
   }
+
+  -- at a gateway below N, with its supplier and the message's origin below N, nothing that the lamp model sends is left out
+  module _ (i : ℕ) (here : i < n) (supplied : setups i .opening .supplier < n) (hours : last < nothingDue) where
+    replied : (m : Message) (extra to : ℕ) (kind : Kind) → to < n → All (λ x. deliverable x ≡ true) (notPast last (reply (siteAt i) m extra to kind))
+    replied m extra to kind h = timely (leb (m .hour + extra) last) refl
+      where
+        timely : (b : Bool) → leb (m .hour + extra) last ≡ b → All (λ x. deliverable x ≡ true) (cond b (reply (siteAt i) m extra to kind ∷ []) [])
+        timely true e =
+            cons (and-both (ltb to n) (ltb (m .hour + extra) nothingDue) (lt-ltb to n h) (lt-ltb (m .hour + extra) nothingDue (omega (arith, leb-true (m .hour + extra) last e)))) nil
+        timely false e = nil
+
+    sent-for : (s : State) (m : Message) (kind : Kind) → originOf kind < n → All (λ x. deliverable x ≡ true) (sentFor (siteAt i) s m kind)
+    sent-for s m (Failure origin) h = replied m _ _ _ supplied
+    sent-for s m (Request origin) h = by-stock (ltb 0 (s .stock))
+      where
+        by-stock : (b : Bool) → All (λ x. deliverable x ≡ true) (cond b (notPast last (reply (siteAt i) m deliveryHours origin (Delivery origin))) (notPast last (reply (siteAt i) m requestHours (setups i .opening .supplier) (Request origin))))
+        by-stock true = replied m deliveryHours origin (Delivery origin) h
+        by-stock false = replied m requestHours (setups i .opening .supplier) (Request origin) supplied
+    sent-for s m (Delivery origin) h = replied m _ _ _ here
+    sent-for s m (Restock quantity) h = nil
+    sent-for s m Start h = nil
+    sent-for s m Lvt h = nil
+    sent-for s m Update h = nil
+
+    pub sends-all-sent : (s : State) (m : Message) → originOf (m .kind) < n → sendsAt i s m ≡ sent (siteAt i) s m
+    unfolding sendsAt sent
+    sends-all-sent s m h = passing-same deliverable (sent-for s m (m .kind) h)
