@@ -1,3 +1,4 @@
 -- Demand 3: the run is an instance of the abstract theory.
 pub mod EventOrders
 pub mod ForecastModel
+pub mod LocalChains
