@@ -2,3 +2,4 @@
 pub mod EventOrders
 pub mod ForecastModel
 pub mod LocalChains
+pub mod QueueViews
