@@ -3,3 +3,5 @@ pub mod EventOrders
 pub mod ForecastModel
 pub mod LocalChains
 pub mod QueueViews
+pub mod SavedStates
+pub mod UndoChains

@@ -59,7 +59,7 @@ module _ (S : Setting) where
       one-more : Led i w s g′ n′ → Led i w u g n
       one-more r =
           let y : EventStep model i (r .world .rounds .agreed i) (r .world .events .gateways i) (r .world .events .network) t g n =
-              rw (r .here, r .network, r .rounds, lower-agreed i s (w .rounds)) x
+          rw (r .here, r .network, r .rounds, lower-agreed i s (w .rounds)) x
           in
           record {
             world = record { events = after i g n (r .world .events); rounds = lowerAll S i t (r .world .rounds) };
