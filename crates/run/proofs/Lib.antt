@@ -5,3 +5,5 @@ pub mod LocalChains
 pub mod QueueViews
 pub mod SavedStates
 pub mod UndoChains
+pub mod QueueChanges
+pub mod EventCalls
