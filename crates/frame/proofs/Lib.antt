@@ -2,3 +2,6 @@
 pub mod Entries
 pub mod Between
 pub mod Agreement
+pub mod Branches
+pub mod Walking
+pub mod Places

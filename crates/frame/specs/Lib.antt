@@ -3,5 +3,6 @@ pub mod Layout
 pub mod Kinds
 pub mod Writing
 pub mod Reasons
+pub mod Steps
 pub mod Limits
 pub mod Claims

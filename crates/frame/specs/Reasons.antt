@@ -61,19 +61,25 @@ abbrev pub unless : Bool → Form → Form → Form
 unless true reason after = after
 unless false reason after = reason
 
+-- why fields are refused: the last three reasons, in this order, or Good
+unfoldable pub fieldsForm : ℕ → Fields → Form
+unfolding lampFits
+fieldsForm map v =
+    let m = frameOf v .message in
+    unless (senseFits map (v .sense)) WrongSense
+    (unless (lampFits m) WrongLamp
+    (unless (gatewaysAgree (m .from) (m .to) (m .kind)) WrongGateways
+    Good))
+
 -- why a byte string is refused: the first reason in this order, or Good
 unfoldable pub formOf : List ℕ → Form
-unfolding mapFits fieldsOf lampFits wholeLength
+unfolding mapFits fieldsOf fieldsForm wholeLength
 formOf s =
     let map = getD s 0 0 in
-    let f = frameOf (fieldsOf s) in
     unless (leb 2 (length s)) TooShort
     (unless (mapFits map (getD s 1 0)) WrongMap
     (unless (eqb (length s) (wholeLength map)) WrongLength
-    (unless (senseFits map (fieldsOf s .sense)) WrongSense
-    (unless (lampFits (f .message)) WrongLamp
-    (unless (gatewaysAgree (f .message .from) (f .message .to) (f .message .kind)) WrongGateways
-    Good)))))
+    (fieldsForm map (fieldsOf s))))
 
 -- this paper's number of a reason: each is 1
 abbrev pub formNumber : Form → ℕ
@@ -89,15 +95,19 @@ formNumber WrongGateways = 1
 abbrev pub blank : Frame
 blank = record { message = record { hour = 0; from = 0; to = 0; kind = Start; lamp = replicate lampWidth 0 }; sense = Plain }
 
+-- a byte string that is refused for that reason
+abbrev pub refusedAs : Form → Reading
+refusedAs form = record { form = form; frame = blank }
+
 -- a reading with that form; only a good one has the frame
 abbrev pub readAs : Form → Frame → Reading
 readAs Good f = record { form = Good; frame = f }
-readAs TooShort f = record { form = TooShort; frame = blank }
-readAs WrongMap f = record { form = WrongMap; frame = blank }
-readAs WrongLength f = record { form = WrongLength; frame = blank }
-readAs WrongSense f = record { form = WrongSense; frame = blank }
-readAs WrongLamp f = record { form = WrongLamp; frame = blank }
-readAs WrongGateways f = record { form = WrongGateways; frame = blank }
+readAs TooShort f = refusedAs TooShort
+readAs WrongMap f = refusedAs WrongMap
+readAs WrongLength f = refusedAs WrongLength
+readAs WrongSense f = refusedAs WrongSense
+readAs WrongLamp f = refusedAs WrongLamp
+readAs WrongGateways f = refusedAs WrongGateways
 
 -- what reading a byte string gives
 unfoldable pub reading : List ℕ → Reading

@@ -2,16 +2,14 @@
 use mathlib.Core.Path.{_≡_, refl}
 use Prim.Native.Nat.{ℕ, _<_, _≤_}
 use native.Mathlib.Omega.{arith}
-use mathlib.Core.Bool.{Bool, true, false, _&&_, _||_, false≢true}
-use mathlib.Core.List.{List}
+use mathlib.Core.Bool.{Bool, true, false, _&&_, _||_}
 use lib.Dec.{eqb, leb}
 use lib.ListN.{length}
 use borrow.Author.Tests.{eqb-true, leb-true}
 use Rattle.model.specs.Messages.{originOf, quantityOf}
 use Rattle.model.specs.declared.Message.{Message}
 use Rattle.memory.specs.Records.{Gateway, headerOf}
-use Rattle.frame.specs.Limits.{nothingDue}
-use Rattle.routing.specs.Arcs.{_∈_, from, to}
+use Rattle.routing.specs.Arcs.{from, to}
 use Rattle.memory.specs.Ranges.{RangedState, RangedMessage, Ranged}
 use Rattle.memory.specs.Validity.{oneOfTwo, arrivalsPossible, roundPossible}
 use Rattle.memory.specs.declared.Settings.{Settings}

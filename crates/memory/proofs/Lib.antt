@@ -1,4 +1,6 @@
 -- Laws of a gateway's memory.
+pub mod Stored
+pub mod Lamps
 pub mod EventLaws
 pub mod Validated
 pub mod Standing
@@ -6,5 +8,8 @@ pub mod Places
 pub mod Fitting
 pub mod RoundTrips
 pub mod FromBytes
+pub mod FourWrites
 pub mod Holding
+pub mod StillBytes
 pub mod SoundMemory
+pub mod Changes

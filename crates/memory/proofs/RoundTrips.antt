@@ -1,16 +1,17 @@
 -- Every element of a gateway read back from its own bytes: states, messages, queue places, outstanding places, the header.
-use mathlib.Core.Path.{_≡_, refl, sym, _∙_, ap, ap₂}
-use Prim.Native.Nat.{ℕ, zero, suc, _+_, _*_, _/_, _%_, _^_, _≤_, _<_}
+use mathlib.Core.Path.{_≡_, refl, sym, _∙_, ap}
+use Prim.Native.Nat.{ℕ, _+_, _/_, _%_, _^_, _≤_, _<_}
 use native.Mathlib.Omega.{arith}
-use mathlib.Core.Bool.{Bool, true, false, cond}
-use mathlib.Core.List.{List, [], _∷_, _++_}
+use mathlib.Core.Bool.{Bool, true, false}
+use mathlib.Core.List.{List, _++_}
 use lib.Dec.{eqb, lit<, lit≤}
-use lib.ListN.{length, getD, take, replicate, length-append}
+use lib.ListN.{length, getD, replicate}
 use lib.Seq.{take-at}
-use Rattle.buffer.specs.Slice.{part, write}
+use Rattle.buffer.specs.Slice.{part}
 use Rattle.buffer.specs.Number.{bytesOf, numberOf}
-use Rattle.buffer.proofs.Numbers.{number-of-bytes, length-bytesOf}
+use Rattle.buffer.proofs.Numbers.{number-of-bytes}
 use Rattle.buffer.proofs.Writes.{part-part}
+use Rattle.frame.proofs.Places.{getD-part}
 use Rattle.model.specs.Messages.{kindNumber, originOf, quantityOf, kindOf}
 use Rattle.model.specs.declared.Kind.{Kind}
 use Rattle.model.specs.declared.Kind.the-variants.{Failure, Request, Delivery, Restock, Start, Lvt, Update}
@@ -25,8 +26,9 @@ use Rattle.memory.specs.declared.Mark.{Mark}
 use Rattle.memory.specs.declared.Mark.the-variants.{Pending, Processed, Waiting}
 use Rattle.memory.specs.declared.Phase.{Phase}
 use Rattle.memory.specs.declared.Phase.the-variants.{Idle, Counting, Stopped}
-use Rattle.memory.proofs.Standing.{part-front, part-back, getD-part}
-use Rattle.memory.proofs.Places.{Stored}
+use Rattle.memory.proofs.Stored.{length-state, length-message, length-entry, length-sent}
+use Rattle.memory.proofs.Standing.{part-front, part-back}
+use Rattle.memory.proofs.Places.{ReadBack}
 use Rattle.memory.proofs.Fitting.{MessageFits, EntryFits, SentFits, HeaderFits}
 
 -- one byte
@@ -72,10 +74,6 @@ cancel-back true = refl
 cancel-back false = refl
 
 -- a state
-pub length-state : (s : State) → length (stateBytes s) ≡ 14
-unfolding stateBytes bytesOf
-length-state s = refl
-
 pub state-back : (s : State) → RangedState s → stateOf (stateBytes s) ≡ s
 unfolding stateBytes stateOf bytesOf part
 state-back s r = λ i. record {
@@ -87,10 +85,6 @@ state-back s r = λ i. record {
 
 -- a message, behind its mark and before whatever follows
 module _ (mark : ℕ) (m : Message) (rest : List ℕ) (r : MessageFits m) where
-  pub length-message : length (messageBytes mark m) ≡ 30
-  unfolding messageBytes bytesOf
-  length-message = omega (arith, r .lamp)
-
   message-kind : kindOf (kindNumber (m .kind) / 256 ^ 0 % 256) (originOf (m .kind) / 256 ^ 0 % 256) (numberOf (bytesOf 2 (quantityOf (m .kind)))) ≡ m .kind
   message-kind =
       rw (byte-back (kindNumber (m .kind)) (kind-fits (m .kind)), byte-back (originOf (m .kind)) (r .origin), number-of-bytes 2 (quantityOf (m .kind)) (r .quantity))
@@ -108,16 +102,13 @@ module _ (mark : ℕ) (m : Message) (rest : List ℕ) (r : MessageFits m) where
 
 -- a queue place
 module _ (e : Entry) (r : EntryFits e) where
-  pub length-entry : length (entryBytes e) ≡ 64
-  unfolding entryBytes
-  length-entry =
-      length-append (messageBytes (markNumber (e .mark)) (e .message)) (stateBytes (e .before) ++ replicate 20 0)
-      ∙ (ap₂ _+_ (length-message (markNumber (e .mark)) (e .message) [] (r .message)) (length-append (stateBytes (e .before)) (replicate 20 0) ∙ ap (λ n. n + 20) (length-state (e .before))))
+  pub entry-length : length (entryBytes e) ≡ 64
+  entry-length = length-entry e (r .message .lamp)
 
   saved : part (entryBytes e) 30 14 ≡ stateBytes (e .before)
   unfolding entryBytes
   saved =
-      part-back (messageBytes (markNumber (e .mark)) (e .message)) (stateBytes (e .before) ++ replicate 20 0) 30 0 14 (length-message (markNumber (e .mark)) (e .message) [] (r .message))
+      part-back (messageBytes (markNumber (e .mark)) (e .message)) (stateBytes (e .before) ++ replicate 20 0) 30 0 14 (length-message (markNumber (e .mark)) (e .message) (r .message .lamp))
       ∙ part-front (stateBytes (e .before)) (replicate 20 0) 14 (length-state (e .before))
 
   entry-mark : markOf (getD (entryBytes e) 0 0) ≡ e .mark
@@ -128,20 +119,17 @@ module _ (e : Entry) (r : EntryFits e) where
   unfolding entryBytes
   entry-message = message-back (markNumber (e .mark)) (e .message) (stateBytes (e .before) ++ replicate 20 0) (r .message)
 
-  pub entry-stored : Stored entryBytes entryOf 64 e
+  pub entry-kept : ReadBack entryBytes entryOf 64 e
   unfolding entryOf
-  entry-stored = record {
-    sized = length-entry;
+  entry-kept = record {
+    sized = entry-length;
     back = λ i. record { message = entry-message i; mark = entry-mark i; before = (ap stateOf saved ∙ state-back (e .before) (r .before)) i };
   }
 
 -- an outstanding place
 module _ (s : Sent) (r : SentFits s) where
-  pub length-sent : length (sentBytes s) ≡ 32
-  unfolding sentBytes
-  length-sent =
-      length-append (messageBytes (cancelNumber (s .cancel)) (s .message)) (replicate 2 0)
-      ∙ ap (λ n. n + 2) (length-message (cancelNumber (s .cancel)) (s .message) [] (r .message))
+  pub sent-length : length (sentBytes s) ≡ 32
+  sent-length = length-sent s (r .message .lamp)
 
   sent-cancel : eqb (getD (sentBytes s) 0 0) 1 ≡ s .cancel
   unfolding sentBytes messageBytes bytesOf
@@ -151,9 +139,9 @@ module _ (s : Sent) (r : SentFits s) where
   unfolding sentBytes
   sent-message = message-back (cancelNumber (s .cancel)) (s .message) (replicate 2 0) (r .message)
 
-  pub sent-stored : Stored sentBytes sentOf 32 s
+  pub sent-kept : ReadBack sentBytes sentOf 32 s
   unfolding sentOf
-  sent-stored = record { sized = length-sent; back = λ i. record { message = sent-message i; cancel = sent-cancel i } }
+  sent-kept = record { sized = sent-length; back = λ i. record { message = sent-message i; cancel = sent-cancel i } }
 
 -- the header
 pub length-front : (h : Header) → length (headerFront h) ≡ 5

@@ -1,30 +1,29 @@
 -- Soundness as facts, and the laws of the codec: sound memory holds a valid gateway, and a valid gateway makes sound memory.
-use mathlib.Core.Path.{_≡_, refl, sym, _∙_, ap, ap₂}
+use mathlib.Core.Path.{_≡_, refl, sym, ap₂}
 use Prim.Native.Nat.{ℕ, _+_, _*_, _≤_}
 use native.Mathlib.Omega.{arith}
-use mathlib.Core.Bool.{Bool, true, false, _&&_, false≢true}
+use mathlib.Core.Bool.{Bool, true, false≢true}
 use mathlib.Core.List.{List, [], _∷_}
-use lib.Dec.{leb, eqb}
+use lib.Dec.{eqb}
 use lib.ListN.{length, getD}
 use borrow.Author.Tests.{leb-true, le-leb, eqb-true, eq-eqb}
-use Rattle.buffer.specs.Slice.{Bytes, part}
-use Rattle.buffer.proofs.Writes.{length-part}
+use Rattle.buffer.specs.Slice.{Bytes}
 use Rattle.memory.specs.Records.{Gateway, headerOf}
 use Rattle.memory.specs.Ranges.{Ranged}
 use Rattle.memory.specs.Layout.{headerSize, outstandingAt, sizeFor}
-use Rattle.memory.specs.Codec.{phaseNumber, entryBytes, entryOf, sentBytes, sentOf, headerAt, headerFront, headerBack, placesAt, placesBytes, decode, encode}
+use Rattle.memory.specs.Codec.{phaseNumber, entryBytes, entryOf, sentBytes, sentOf, headerAt, placesAt, decode, encode}
 use Rattle.memory.specs.Validity.{every, settingsValid, valid}
 use Rattle.memory.specs.Soundness.{sameBytes, headerSound, entryExact, sentExact, sound}
-use Rattle.memory.specs.Claims.{Untouched, WritingLaws, ReadingLaws, CodecLaws}
-use Rattle.memory.specs.declared.Header.{Header}
+use Rattle.memory.specs.Claims.{after, WritingLaws, ReadingLaws, CodecLaws}
 use Rattle.memory.specs.declared.Phase.{Phase}
 use Rattle.memory.specs.declared.Phase.the-variants.{Idle, Counting, Stopped}
-use Rattle.memory.proofs.Validated.{Valid, valid-facts, facts-settings, and-left, and-right, and-both}
-use Rattle.memory.proofs.Standing.{Stands, stands-part}
-use Rattle.memory.proofs.Places.{All, nil, cons, Exact, all-map, length-read, stored-exact, exact-stands}
-use Rattle.memory.proofs.Fitting.{GatewayFits, HeaderFits, valid-fits, fits-ranged}
-use Rattle.memory.proofs.RoundTrips.{length-front, length-back, entry-stored, sent-stored, phase-byte}
+use Rattle.memory.proofs.Validated.{Valid, valid-facts, facts-settings, every-each, each-every, and-left, and-right, and-both}
+use Rattle.memory.proofs.Standing.{stands-part}
+use Rattle.memory.proofs.Places.{All, all-of, all-each, Exact, all-map, length-read, stored-exact, exact-stands}
+use Rattle.memory.proofs.Fitting.{GatewayFits, valid-fits, fits-ranged}
+use Rattle.memory.proofs.RoundTrips.{length-front, length-back, entry-kept, sent-kept, phase-byte}
 use Rattle.memory.proofs.FromBytes.{entry-fits, sent-fits, header-fits, read-all, front-again, back-again}
+use Rattle.memory.proofs.StillBytes.{encode-bytes}
 use Rattle.memory.proofs.Holding.{Room, Holds, holds-header, holds-decode, encode-length, encode-holds, encode-elsewhere, encode-same, encode-room, decode-encode}
 
 -- two lists that test equal are equal
@@ -41,16 +40,12 @@ bytes-same [] = refl
 bytes-same (x ∷ xs) = and-both (eqb x x) (sameBytes xs xs) (eq-eqb x x refl) (bytes-same xs)
 
 -- a test passed by every element
-module _ {A : Type 0} (f : A → Bool) {p : A → Type 0} where
-  pub every-all : ((x : A) → f x ≡ true → p x) → (xs : List A) → every f xs ≡ true → All p xs
-  unfolding every
-  every-all h [] e = nil
-  every-all h (x ∷ xs) e = cons (h x (and-left (f x) (every f xs) e)) (every-all h xs (and-right (f x) (every f xs) e))
+module _ {A : Type 0} (f : A → Bool) {p : A → Type 0} (xs : List A) where
+  every-all : ((x : A) → f x ≡ true → p x) → every f xs ≡ true → All p xs
+  every-all h e = all-of xs (λ x m. h x (every-each f xs e x m))
 
-  pub all-every : ((x : A) → p x → f x ≡ true) → {xs : List A} → All p xs → every f xs ≡ true
-  unfolding every
-  all-every h nil = refl
-  all-every h (cons {x = x} {xs = xs} q qs) = and-both (f x) (every f xs) (h x q) (all-every h qs)
+  all-every : ((x : A) → p x → f x ≡ true) → All p xs → every f xs ≡ true
+  all-every h ps = each-every f xs (λ x m. h x (all-each ps x m))
 
 -- sound memory, as facts
 pub record Sound (m : List ℕ) : Type 0 where
@@ -65,12 +60,6 @@ pub record Sound (m : List ℕ) : Type 0 where
   pub held : valid (decode m) ≡ true
 
 module _ (m : List ℕ) where
-  queue-places : List (List ℕ)
-  queue-places = placesAt (λ b. b) 64 m headerSize (headerAt m .queued)
-
-  sent-places : List (List ℕ)
-  sent-places = placesAt (λ b. b) 32 m (outstandingAt (headerAt m .settings .q) 0) (headerAt m .outstanding)
-
   pub sound-facts : sound m ≡ true → Sound m
   unfolding sound headerSound
   sound-facts e =
@@ -81,16 +70,16 @@ module _ (m : List ℕ) where
         phase = leb-true (getD m 3 0) 2 (search (and-left, and-right) depth 9);
         queued = leb-true (headerAt m .queued) (headerAt m .settings .q) (search (and-left, and-right) depth 9);
         sent = leb-true (headerAt m .outstanding) (headerAt m .settings .u) (search (and-left, and-right) depth 9);
-        queue = every-all entryExact (λ b h. same-bytes (entryBytes (entryOf b)) b h) (placesAt (λ b. b) 64 m headerSize (headerAt m .queued)) (search (and-left, and-right) depth 9);
-        outstanding = every-all sentExact (λ b h. same-bytes (sentBytes (sentOf b)) b h) (placesAt (λ b. b) 32 m (outstandingAt (headerAt m .settings .q) 0) (headerAt m .outstanding)) (search (and-left, and-right) depth 9);
+        queue = every-all entryExact (placesAt (λ b. b) 64 m headerSize (headerAt m .queued)) (λ b h. same-bytes (entryBytes (entryOf b)) b h) (search (and-left, and-right) depth 9);
+        outstanding = every-all sentExact (placesAt (λ b. b) 32 m (outstandingAt (headerAt m .settings .q) 0) (headerAt m .outstanding)) (λ b h. same-bytes (sentBytes (sentOf b)) b h) (search (and-left, and-right) depth 9);
         held = search (and-left, and-right) depth 9;
       }
 
   pub facts-sound : Sound m → sound m ≡ true
   unfolding sound headerSound
   facts-sound s =
-      let queue : every entryExact (placesAt (λ b. b) 64 m headerSize (headerAt m .queued)) ≡ true = all-every entryExact (λ b h. rw h (bytes-same b)) (s .queue) in
-      let sent : every sentExact (placesAt (λ b. b) 32 m (outstandingAt (headerAt m .settings .q) 0) (headerAt m .outstanding)) ≡ true = all-every sentExact (λ b h. rw h (bytes-same b)) (s .outstanding) in
+      let queue : every entryExact (placesAt (λ b. b) 64 m headerSize (headerAt m .queued)) ≡ true = all-every entryExact (placesAt (λ b. b) 64 m headerSize (headerAt m .queued)) (λ b h. rw h (bytes-same b)) (s .queue) in
+      let sent : every sentExact (placesAt (λ b. b) 32 m (outstandingAt (headerAt m .settings .q) 0) (headerAt m .outstanding)) ≡ true = all-every sentExact (placesAt (λ b. b) 32 m (outstandingAt (headerAt m .settings .q) 0) (headerAt m .outstanding)) (λ b h. rw h (bytes-same b)) (s .outstanding) in
       rw (le-leb headerSize (length m) (s .header), s .settings, le-leb (sizeFor (headerAt m .settings .q) (headerAt m .settings .u)) (length m) (s .long), le-leb (getD m 3 0) 2 (s .phase), le-leb (headerAt m .queued) (headerAt m .settings .q) (s .queued), le-leb (headerAt m .outstanding) (headerAt m .settings .u) (s .sent), queue, sent) (s .held)
 
 -- memory holds the gateway that it is read as
@@ -166,8 +155,8 @@ module _ (g : Gateway) (m : List ℕ) (v : Valid g) (r : GatewayFits g) (room : 
         phase = rw (phase-byte (headerOf g) (r .header) m (rw (length-front (headerOf g)) at (h .front)) (rw (length-back (headerOf g)) at (h .back))) (phase-small (g .round .phase));
         queued = rw held-header (room .queued);
         sent = rw held-header (room .sent);
-        queue = rw held-header (stored-exact entryBytes entryOf 64 m headerSize (all-map entry-stored (r .queue)) (h .queue));
-        outstanding = rw held-header (stored-exact sentBytes sentOf 32 m (outstandingAt (g .settings .q) 0) (all-map sent-stored (r .outstanding)) (h .outstanding));
+        queue = rw held-header (stored-exact entryBytes entryOf 64 m headerSize (all-map entry-kept (r .queue)) (h .queue));
+        outstanding = rw held-header (stored-exact sentBytes sentOf 32 m (outstandingAt (g .settings .q) 0) (all-map sent-kept (r .outstanding)) (h .outstanding));
         held = rw (holds-decode g m r room h) ok;
       })
 
@@ -180,7 +169,15 @@ writing-laws g m ok ranged long =
       again = decode-encode g m r room;
       sound-after = holds-sound g (encode g m) v r (encode-room g m r room) (encode-holds g m r room) ok;
       as-long = encode-length g m r room;
-      elsewhere = λ from n u. encode-elsewhere g m r room from n (u .front) (u .back) (u .queue) (u .outstanding);
+      bytes-after = encode-bytes g m v;
+      elsewhere = encode-elsewhere g m r room;
+      rest = λ n. encode-elsewhere g m r room (sizeFor (g .settings .q) (g .settings .u)) n
+          (record {
+            front = after (omega arith);
+            back = after (omega arith);
+            queue = after (omega (arith, v .queued));
+            outstanding = after (omega (arith, v .sent));
+          });
     }
 
 -- the laws of the codec

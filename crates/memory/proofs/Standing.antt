@@ -1,11 +1,11 @@
 -- Laws of bytes that stand at a position of the memory: a write of them changes nothing, a write apart leaves them.
-use mathlib.Core.Path.{_≡_, refl, sym, _∙_, ap, ap₂}
-use Prim.Native.Nat.{ℕ, zero, suc, _+_, _-_, _≤_, _<_}
-use native.Mathlib.Nat.{add-assoc, add-zero, zero-add}
+use mathlib.Core.Path.{_≡_, refl, sym, _∙_, ap}
+use Prim.Native.Nat.{ℕ, _+_, _-_, _≤_}
+use native.Mathlib.Nat.{add-zero}
 use native.Mathlib.Omega.{arith}
-use mathlib.Core.List.{List, [], _∷_, _++_, append-assoc}
-use lib.ListN.{length, take, drop, getD, length-append, length-take, length-drop, take-append-drop}
-use lib.Seq.{take-at, drop-at, drop-drop, take-add, take-all, length-take-le, getD-take, getD-drop}
+use mathlib.Core.List.{List, _++_, append-assoc}
+use lib.ListN.{length, take, drop, length-append, length-take, length-drop, take-append-drop}
+use lib.Seq.{take-at, drop-at, drop-drop, take-add, take-all, length-take-le}
 use Rattle.buffer.specs.Slice.{part, write}
 use Rattle.memory.specs.Claims.{Apart, before, after}
 use Rattle.buffer.proofs.Writes.{length-part, length-write, part-written, write-join, part-before-write, part-after-write, part-part}
@@ -18,11 +18,6 @@ Stands at xs m = part m at (length xs) ≡ xs
 pub part-add : (m : List ℕ) (at a b : ℕ) → part m at (a + b) ≡ part m at a ++ part m (at + a) b
 unfolding part
 part-add m at a b = rw (take-add a b (drop at m), drop-drop a at m)
-
--- a byte of a part
-pub getD-part : (m : List ℕ) (at n i : ℕ) → i < n → getD (part m at n) i 0 ≡ getD m (at + i) 0
-unfolding part
-getD-part m at n i h = rw (getD-take, getD-drop)
 
 -- the whole as a part
 pub part-whole : (m : List ℕ) (n : ℕ) → length m ≤ n → part m 0 n ≡ m
@@ -87,11 +82,11 @@ part-apart at xs m from n fits (after h) = part-after-write at xs m from n fits 
 
 -- a longer write of which the front or the back stands there already
 module _ (at : ℕ) (xs ys m : List ℕ) (fits : at + length xs + length ys ≤ length m) where
-  pub write-behind : Stands at xs m → write at (xs ++ ys) m ≡ write (at + length xs) ys m
-  write-behind s = sym (write-join at xs ys m (omega arith)) ∙ ap (write (at + length xs) ys) (write-stands at xs m (omega arith) s)
+  pub write-past-front : Stands at xs m → write at (xs ++ ys) m ≡ write (at + length xs) ys m
+  write-past-front s = sym (write-join at xs ys m (omega arith)) ∙ ap (write (at + length xs) ys) (write-stands at xs m (omega arith) s)
 
-  pub write-ahead : Stands (at + length xs) ys m → write at (xs ++ ys) m ≡ write at xs m
-  write-ahead s =
+  pub write-past-back : Stands (at + length xs) ys m → write at (xs ++ ys) m ≡ write at xs m
+  write-past-back s =
       sym (write-join at xs ys m (omega arith))
       ∙ write-stands (at + length xs) ys (write at xs m) (rw (length-write at xs m (omega arith)) fits) (stands-after at xs m (omega arith) (at + length xs) ys (omega arith) s)
 
@@ -106,6 +101,17 @@ write-pieces at xs p q r e d =
 pub write-again : (at : ℕ) (xs ys m : List ℕ) → at + length xs ≤ length m → length ys ≡ length xs → write at xs (write at ys m) ≡ write at xs m
 unfolding write
 write-again at xs ys m fits e = write-pieces at xs (take at m) ys (drop (at + length ys) m) (length-take-le at m (omega arith)) e ∙ rw e
+
+-- a write that covers an earlier one
+write-over : (at : ℕ) (xs ys zs m : List ℕ) → at + length xs ≤ length m → length zs ≡ length xs → write at (xs ++ ys) (write at zs m) ≡ write at (xs ++ ys) m
+write-over at xs ys zs m fits e =
+    sym (write-join at xs ys (write at zs m) (rw (length-write at zs m (omega arith)) fits))
+    ∙ (ap (write (at + length xs) ys) (write-again at xs zs m fits e) ∙ write-join at xs ys m fits)
+
+pub write-covers : (at : ℕ) (xs ys m : List ℕ) → at + length xs ≤ length m → length ys ≤ length xs → write at xs (write at ys m) ≡ write at xs m
+write-covers at xs ys m fits h =
+    let l : length (take (length ys) xs) ≡ length ys = length-take-le (length ys) xs h in
+    rw (take-append-drop (length ys) xs) at (write-over at (take (length ys) xs) (drop (length ys) xs) ys m (omega arith) (sym l))
 
 -- writes apart from each other go in either order
 regroup : (p q g t : List ℕ) → p ++ (q ++ (g ++ t)) ≡ (p ++ (q ++ g)) ++ t
@@ -146,16 +152,16 @@ module _ (at : ℕ) (xs ys zs m : List ℕ) (fits : at + length xs + length ys +
 
   pub write-replaced : (news : List ℕ) → length news ≡ length ys → write at (xs ++ (news ++ zs)) m ≡ write (at + length xs) news m
   write-replaced news e =
-      write-behind at xs (news ++ zs) m (simp length-append (omega arith)) (stands-front at xs (ys ++ zs) m stand)
-      ∙ write-ahead (at + length xs) news zs m (omega arith) (rw e last-stand)
+      write-past-front at xs (news ++ zs) m (simp length-append (omega arith)) (stands-front at xs (ys ++ zs) m stand)
+      ∙ write-past-back (at + length xs) news zs m (omega arith) (rw e last-stand)
 
   pub write-removed : write at (xs ++ zs) m ≡ write (at + length xs) (part m (at + length xs + length ys) (length zs)) m
-  write-removed = rw last-stand (write-behind at xs zs m (omega arith) (stands-front at xs (ys ++ zs) m stand))
+  write-removed = rw last-stand (write-past-front at xs zs m (omega arith) (stands-front at xs (ys ++ zs) m stand))
 
 -- xs and zs stand one behind the other, and ys is put in between
 pub write-inserted : (at : ℕ) (xs ys zs m : List ℕ) → at + length xs + length ys + length zs ≤ length m → Stands at (xs ++ zs) m
     → write at (xs ++ (ys ++ zs)) m ≡ write (at + length xs) ys (write (at + length xs + length ys) (part m (at + length xs) (length zs)) m)
 write-inserted at xs ys zs m fits stand =
     rw (stands-back at xs zs m stand)
-    (write-behind at xs (ys ++ zs) m (simp length-append (omega arith)) (stands-front at xs zs m stand)
+    (write-past-front at xs (ys ++ zs) m (simp length-append (omega arith)) (stands-front at xs zs m stand)
     ∙ (sym (write-join (at + length xs) ys zs m (omega arith)) ∙ write-swap (at + length xs) ys (at + length xs + length ys) zs m (omega arith) fits))

@@ -25,12 +25,14 @@ pub record Untouched (g : Gateway) (from n : ℕ) : Type 0 where
   pub outstanding : Apart from n (outstandingAt (g .settings .q) 0) (outstandingSize * length (g .outstanding))
 
 -- a valid gateway whose numbers fit, written over memory that is long enough: what is written is read again, the memory is
--- sound and as long as it was, and no byte changes but those that the gateway is written to
+-- sound, as long as it was and made of bytes, no byte changes but those that the gateway is written to, and none past the last place
 pub record WritingLaws (g : Gateway) (m : List ℕ) : Type 0 where
   pub again : decode (encode g m) ≡ g
   pub sound-after : sound (encode g m) ≡ true
   pub as-long : length (encode g m) ≡ length m
+  pub bytes-after : Bytes m → Bytes (encode g m)
   pub elsewhere : (from n : ℕ) → Untouched g from n → part (encode g m) from n ≡ part m from n
+  pub rest : (n : ℕ) → part (encode g m) (sizeFor (g .settings .q) (g .settings .u)) n ≡ part m (sizeFor (g .settings .q) (g .settings .u)) n
 
 -- sound memory holds a valid gateway whose numbers fit, and that gateway written over it changes nothing
 pub record ReadingLaws (m : List ℕ) : Type 0 where

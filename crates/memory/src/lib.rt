@@ -1,4 +1,7 @@
 // A gateway's lent memory: what stands where in its bytes, and when it is sound.
+pub mod header_bytes; // header_bytes.rt: the memory's first bytes
+pub mod place; // place.rt: queue places and outstanding places
+
 use model::Message;
 use model::State;
 

@@ -1,0 +1,14 @@
+-- `frame::reader::no_fields` meets its contract.
+use borrow.Author.Needs.{needs}
+use Rattle.frame.specs.Reasons.{valuesOf}
+use Rattle.buffer.specs.Number.{numberOf}
+use mathlib.Core.Path.{refl}
+use Rattle.frame.proofs.reader.no_fields.Statement.{statement}
+use Rattle.frame.proofs.reader.no_fields.Tie as tie
+
+returns : tie.Need-returns
+unfolding valuesOf numberOf
+returns c = refl
+
+pub no-fields-spec : {M : Type 1} → statement M
+no-fields-spec = tie.close (tie.spec returns)

@@ -1,0 +1,67 @@
+-- `frame::reader::walk` meets its contract.
+use borrow.Author.Needs.{needs}
+use mathlib.Core.Logic.{⊎-elim}
+use native.Mathlib.Omega.{arith}
+use Rattle.frame.proofs.Walking.{Walking, walk-start, walk-bit, walk-less, walk-fits, walk-taken, walk-passed, walk-end}
+use Rattle.frame.proofs.reader.walk.Statement.{statement}
+use Rattle.frame.proofs.reader.walk.Tie as tie
+
+abbrev Inv-loop : tie.InvT-loop
+Inv-loop bytes map fields₀ left₀ rest₀ bit₀ at₀ fields left rest bit at = Walking bytes map at rest left bit fields
+
+abbrev μ-loop : tie.MeasureT-loop
+μ-loop bytes map fields₀ left₀ rest₀ bit₀ at₀ fields left rest bit at = rest
+
+no-fields-requires : tie.Need-no-fields-requires Inv-loop μ-loop
+no-fields-requires c κs = search needs
+
+loop-holds : tie.Need-loop-holds Inv-loop μ-loop
+loop-holds c = rw (c .no-fields .ensures) (search walk-start)
+
+store-requires : tie.Need-store-requires Inv-loop μ-loop
+store-requires c κs = (search walk-bit, search walk-fits)
+
+mul-at : tie.Need-mul-at Inv-loop μ-loop
+mul-at c = omega (arith, walk-bit (c .before .before .before .loop .inv) (c .before .before .loop-test .taken))
+
+array-read-at : tie.Need-array-read-at Inv-loop μ-loop
+array-read-at c = search walk-bit
+
+add-at : tie.Need-add-at Inv-loop μ-loop
+add-at c = omega (arith, walk-fits (c .before .before .before .loop .inv) (c .before .before .loop-test .taken) (c .before .if1 .taken))
+
+sub-left : tie.Need-sub-left Inv-loop μ-loop
+sub-left c = search needs
+
+add-bit : tie.Need-add-bit Inv-loop μ-loop
+add-bit c = omega (arith, walk-bit (c .before .before .loop .inv) (c .before .loop-test .taken))
+
+loop-less : tie.Need-loop-less Inv-loop μ-loop
+loop-less c = search walk-less
+
+loop-again : tie.Need-loop-again Inv-loop μ-loop
+loop-again c =
+    let w = c .before .before .loop .inv in
+    let more = c .before .loop-test .taken in
+    ⊎-elim (λ v. rw (v .2, v .3, v .4, v .1 .ensures) (walk-taken w more (v .0 .taken))) (λ v. rw (v .1, v .2, v .3) (walk-passed w more (v .0 .left))) (c .if1 .came)
+
+returns : tie.Need-returns Inv-loop μ-loop
+returns c = search walk-end
+
+pub walk-spec : {M : Type 1} → statement M
+walk-spec =
+    tie.close
+    (tie.spec
+    Inv-loop
+    μ-loop
+    no-fields-requires
+    loop-holds
+    store-requires
+    mul-at
+    array-read-at
+    add-at
+    sub-left
+    add-bit
+    loop-less
+    loop-again
+    returns)
