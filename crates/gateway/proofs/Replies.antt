@@ -7,7 +7,7 @@ use Prim.Native.Nat.{ℕ, _+_, _-_, _≤_, _<_, min}
 use native.Mathlib.Omega.{arith}
 use lib.Dec.{leb, ltb}
 use lib.ListN.{length}
-use borrow.Author.Tests.{leb-true, le-leb, ne-eqb}
+use borrow.Author.Tests.{leb-true, le-leb, eq-eqb, ne-eqb}
 use Rattle.routing.specs.Arcs.{_∈_}
 use Rattle.model.specs.Messages.{kindNumber, originOf, quantityOf}
 use Rattle.model.specs.Doing.{after, counted, shelved, notPast, reply, sent, sentFor, requestHours, deliveryHours, lifeHours}
@@ -76,3 +76,47 @@ module _ (s : Settings) (v : ValidSettings s) {cancel : Bool} (m : Message) (goo
       by-case : (b : Bool) → leb (m .hour + hours) (s .last) ≡ b → x ∈ cond b (r ∷ []) [] → GoodSent s (record { message = x; cancel = again })
       by-case true e n = subst (λ (y : Message). GoodSent s (record { message = y; cancel = again })) (sym (List·Memᴰ·eq-of-singleton n)) (good-reply (leb-true (m .hour + hours) (s .last) e))
       by-case false e n = absurd (List·Memᴰ·not-nil n)
+
+module _ (s : Settings) (v : ValidSettings s) {cancel : Bool} (m : Message) (good : Good s cancel m) (again : Bool) (before : State) where
+  either : (b : Bool) {us vs : List Message} {P : Message → Type 0} → ((x : Message) → x ∈ us → P x) → ((x : Message) → x ∈ vs → P x) → (x : Message) → x ∈ cond b us vs → P x
+  either true p q = p
+  either false p q = q
+
+  -- what doing it sends, or what is sent to cancel that, takes an outstanding place
+  pub sent-good : (x : Message) → x ∈ sent (siteOf s) before m → GoodSent s (record { message = x; cancel = again })
+  unfolding sent
+  sent-good = by-kind (m .kind) refl
+    where
+      few : {kind : Kind} → m .kind ≡ kind → kindNumber kind ≤ 2 → kindNumber (m .kind) ≤ 2
+      few e h = rw e h
+
+      origin : {kind : Kind} → m .kind ≡ kind → originOf kind < s .n
+      origin e = rw e at (good .storable .origin)
+
+      by-kind : (kind : Kind) → m .kind ≡ kind → (x : Message) → x ∈ sentFor (siteOf s) before m kind → GoodSent s (record { message = x; cancel = again })
+      by-kind (Failure origin′) e = reply-good s v m good (few e (omega arith)) again requestHours (s .supplier) (Request (s .own)) (omega arith) refl (v .supplier) (v .own) refl
+      by-kind (Request origin′) e =
+          either (ltb 0 (before .stock))
+          (reply-good s v m good (few e (omega arith)) again deliveryHours origin′ (Delivery origin′) (omega arith) (eq-eqb origin′ origin′ refl) (origin e) (origin e) refl)
+          (reply-good s v m good (few e (omega arith)) again requestHours (s .supplier) (Request origin′) (omega arith) refl (v .supplier) (origin e) refl)
+      by-kind (Delivery origin′) e =
+          reply-good s v m good (few e (omega arith)) again lifeHours (s .own) (Failure (s .own)) (omega arith) (rw (eq-eqb (s .own) (s .own) refl)) (v .own) (v .own) refl
+      by-kind (Restock quantity) e = λ x n. absurd (List·Memᴰ·not-nil n)
+      by-kind Start e = λ x n. absurd (List·Memᴰ·not-nil n)
+      by-kind Lvt e = λ x n. absurd (List·Memᴰ·not-nil n)
+      by-kind Update e = λ x n. absurd (List·Memᴰ·not-nil n)
+
+-- the state after it
+pub after-ranged : {s : State} → RangedState s → (kind : Kind) → RangedState (after s kind)
+after-ranged r (Failure origin) = record { stock = r .stock; failed = omega arith; fitted = r .fitted; short = r .short }
+after-ranged {s} r (Request origin) = by-case (ltb 0 (s .stock))
+  where
+    by-case : (b : Bool)
+        → RangedState (cond b (record { stock = s .stock - 1; failed = s .failed; fitted = s .fitted; short = s .short }) (record { stock = s .stock; failed = s .failed; fitted = s .fitted; short = counted (s .short) }))
+    by-case true = record { stock = omega arith; failed = r .failed; fitted = r .fitted; short = r .short }
+    by-case false = record { stock = r .stock; failed = r .failed; fitted = r .fitted; short = omega arith }
+after-ranged r (Delivery origin) = record { stock = r .stock; failed = r .failed; fitted = omega arith; short = r .short }
+after-ranged r (Restock quantity) = record { stock = omega arith; failed = r .failed; fitted = r .fitted; short = r .short }
+after-ranged r Start = r
+after-ranged r Lvt = r
+after-ranged r Update = r

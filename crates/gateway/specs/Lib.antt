@@ -7,3 +7,5 @@ pub mod Rounds
 pub mod Committing
 pub mod SettingUp
 pub mod Calls
+pub mod Claims
+pub mod Examples

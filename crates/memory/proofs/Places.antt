@@ -104,7 +104,7 @@ module _ {A : Type 0} (f : A → List ℕ) (size : ℕ) where
 -- what is stored and read again
 module _ {A : Type 0} (f : A → List ℕ) (g : List ℕ → A) (size : ℕ) where
   -- x takes one place and is read back from it
-  pub record Stored (x : A) : Type 0 where
+  pub record ReadBack (x : A) : Type 0 where
     pub sized : length (f x) ≡ size
     pub back : g (f x) ≡ x
 
@@ -112,7 +112,7 @@ module _ {A : Type 0} (f : A → List ℕ) (g : List ℕ → A) (size : ℕ) whe
   abbrev pub Exact : List ℕ → Type 0
   Exact b = f (g b) ≡ b
 
-  module _ (x : A) (xs : List A) (m : List ℕ) (at : ℕ) (p : Stored x) (s : Stands at (placesBytes f (x ∷ xs)) m) where
+  module _ (x : A) (xs : List A) (m : List ℕ) (at : ℕ) (p : ReadBack x) (s : Stands at (placesBytes f (x ∷ xs)) m) where
     first-place : part m at size ≡ f x
     unfolding placesBytes
     first-place = rw (p .sized) at (stands-front at (f x) (placesBytes f xs) m s)
@@ -121,13 +121,13 @@ module _ {A : Type 0} (f : A → List ℕ) (g : List ℕ → A) (size : ℕ) whe
     unfolding placesBytes
     further-places = rw (p .sized) at (stands-back at (f x) (placesBytes f xs) m s)
 
-  pub read-stored : {xs : List A} (m : List ℕ) (at : ℕ) → All Stored xs → Stands at (placesBytes f xs) m → placesAt g size m at (length xs) ≡ xs
+  pub read-stored : {xs : List A} (m : List ℕ) (at : ℕ) → All ReadBack xs → Stands at (placesBytes f xs) m → placesAt g size m at (length xs) ≡ xs
   unfolding placesAt
   read-stored m at nil s = refl
   read-stored m at (cons {x = x} {xs = xs} p ps) s =
       ap₂ _∷_ (ap g (first-place x xs m at p s) ∙ p .back) (read-stored m (at + size) ps (further-places x xs m at p s))
 
-  pub stored-exact : {xs : List A} (m : List ℕ) (at : ℕ) → All Stored xs → Stands at (placesBytes f xs) m → All Exact (placesAt (λ b. b) size m at (length xs))
+  pub stored-exact : {xs : List A} (m : List ℕ) (at : ℕ) → All ReadBack xs → Stands at (placesBytes f xs) m → All Exact (placesAt (λ b. b) size m at (length xs))
   unfolding placesAt
   stored-exact m at nil s = nil
   stored-exact m at (cons {x = x} {xs = xs} p ps) s =

@@ -28,7 +28,7 @@ use Rattle.memory.specs.declared.Phase.{Phase}
 use Rattle.memory.specs.declared.Phase.the-variants.{Idle, Counting, Stopped}
 use Rattle.memory.proofs.Stored.{length-state, length-message, length-entry, length-sent}
 use Rattle.memory.proofs.Standing.{part-front, part-back}
-use Rattle.memory.proofs.Places.{Stored}
+use Rattle.memory.proofs.Places.{ReadBack}
 use Rattle.memory.proofs.Fitting.{MessageFits, EntryFits, SentFits, HeaderFits}
 
 -- one byte
@@ -119,7 +119,7 @@ module _ (e : Entry) (r : EntryFits e) where
   unfolding entryBytes
   entry-message = message-back (markNumber (e .mark)) (e .message) (stateBytes (e .before) ++ replicate 20 0) (r .message)
 
-  pub entry-kept : Stored entryBytes entryOf 64 e
+  pub entry-kept : ReadBack entryBytes entryOf 64 e
   unfolding entryOf
   entry-kept = record {
     sized = entry-length;
@@ -139,7 +139,7 @@ module _ (s : Sent) (r : SentFits s) where
   unfolding sentBytes
   sent-message = message-back (cancelNumber (s .cancel)) (s .message) (replicate 2 0) (r .message)
 
-  pub sent-kept : Stored sentBytes sentOf 32 s
+  pub sent-kept : ReadBack sentBytes sentOf 32 s
   unfolding sentOf
   sent-kept = record { sized = sent-length; back = λ i. record { message = sent-message i; cancel = sent-cancel i } }
 

@@ -63,7 +63,7 @@ use Rattle.timewarp.proofs.RoundArcs.{
   arcs-lower,
   noted-other,
 }
-use Rattle.timewarp.proofs.RoundReach.{all-begun, Done, all-done, Crest, crest-begin, crest-change}
+use Rattle.timewarp.proofs.RoundReach.{all-begun, Done, all-done, LastStops, last-stops-begin, last-stops-change}
 use Rattle.timewarp.proofs.RoundCarried.{Carried, of-start, of-lvt, of-update, carried-on, change-unfinished, starts-carried, lvts-carried, updates-carried, carried-close}
 use Rattle.timewarp.proofs.RoundQueues.{Downward, Reading, Arrives, Sends}
 use Rattle.timewarp.proofs.RoundCut.{Cut, UnderMarks, cut-begin, cut-stop, cut-fall, cut-finish, cut-arrives, cut-sends}
@@ -109,7 +109,7 @@ max-either P a b p q = go (max a b) refl (same? (max a b) a)
 -- O and W are the bounds of what is outstanding and of what waits at each gateway
 pub record RoundSound (G : Graph) (never : ℕ) (O W : ℕ → ℕ → Type 0) (r : Rounds) : Type 0 where
   pub arcs : ArcStates G (r .status) (r .mark) (r .arrived) (r .frames)
-  pub crest : Crest (G .last) (r .status)
+  pub last-stops : LastStops (G .last) (r .status)
   pub carried : All (Carried G (r .status) (r .mark) (r .tag)) (r .frames)
   pub cut : Cut (G .last) (r .status) (r .mark) O W
   -- no mark is above "nothing due"
@@ -126,7 +126,7 @@ unfolding opening tally spentBy spent
 sound-opening G never O W o w =
     record {
       arcs = λ a b c. fresh (omega arith);
-      crest = λ i l p. absurd (omega arith);
+      last-stops = λ i l p. absurd (omega arith);
       carried = nil;
       cut = λ g u j l. record { outstanding = λ p. absurd (omega arith); waiting = λ p. absurd (omega arith) };
       marks-capped = λ j l p. absurd (omega arith);
@@ -155,7 +155,7 @@ module _ (G : Graph) (never : ℕ) (O W : ℕ → ℕ → Type 0) (down-O : Down
   sound-begin i v l p q x =
       record {
         arcs = arcs-begin G status mark arrived frames (s .arcs) i v tag p q;
-        crest = crest-begin (G .last) status (s .crest) i p;
+        last-stops = last-stops-begin (G .last) status (s .last-stops) i p;
         carried =
             all-append
             (all-map (carried-on G status mark tag st′ mk′ (change-unfinished G status mark tag i counting v (omega arith))) (s .carried))
@@ -187,7 +187,7 @@ module _ (G : Graph) (never : ℕ) (O W : ℕ → ℕ → Type 0) (down-O : Down
   sound-hear i j t rest x =
       record {
         arcs = arcs-hear G status mark arrived frames (s .arcs) i j t rest x;
-        crest = s .crest;
+        last-stops = s .last-stops;
         carried = all-rest x (s .carried);
         cut = s .cut;
         marks-capped = s .marks-capped;
@@ -201,7 +201,7 @@ module _ (G : Graph) (never : ℕ) (O W : ℕ → ℕ → Type 0) (down-O : Down
   sound-stop i v l p q x =
       record {
         arcs = arcs-stop G status mark arrived frames (s .arcs) i v p;
-        crest = crest-change (G .last) status (s .crest) i stopped (omega arith) (last-stopped q);
+        last-stops = last-stops-change (G .last) status (s .last-stops) i stopped (omega arith) (last-stopped q);
         carried =
             all-map (carried-on G status mark tag st′ mk′ (change-unfinished G status mark tag i stopped m (omega arith))) (s .carried);
         cut = cut-stop (G .last) status mark O W down-O down-W (s .cut) i v p (read-W .bound i v x);
@@ -226,7 +226,7 @@ module _ (G : Graph) (never : ℕ) (O W : ℕ → ℕ → Type 0) (down-O : Down
       last-stopped (as-it-starts e) n = absurd (n e)
       last-stopped (at-an-lvt {j = j} y) n =
           let (c, f, e, d) = of-lvt (all-taken y (s .carried)) in
-          s .crest j (G .upward i j c .1) (omega arith)
+          s .last-stops j (G .upward i j c .1) (omega arith)
 
       others : (k : ℕ) → i ≢ k → counting ≤ st′ k → counting ≤ status k
       others k n a = omega (arith, change-off i stopped status k n)
@@ -260,7 +260,7 @@ module _ (G : Graph) (never : ℕ) (O W : ℕ → ℕ → Type 0) (down-O : Down
       go c y e =
           record {
             arcs = arcs-lvt G status mark arrived frames (s .arcs) j i t v rest x p e;
-            crest = s .crest;
+            last-stops = s .last-stops;
             carried =
                 all-rest x
                 (all-map
@@ -282,7 +282,7 @@ module _ (G : Graph) (never : ℕ) (O W : ℕ → ℕ → Type 0) (down-O : Down
   sound-finish j l p q =
       record {
         arcs = arcs-finish G status mark arrived frames (s .arcs) j tag (mark j) p q;
-        crest = crest-change (G .last) status (s .crest) j finished (omega arith) (λ n. s .crest j l (omega arith));
+        last-stops = last-stops-change (G .last) status (s .last-stops) j finished (omega arith) (λ n. s .last-stops j l (omega arith));
         carried =
             all-append (all-map (carried-on G status mark tag st′ mark (λ k e. (stays k e (same? j k), refl))) (s .carried))
             (lvts-carried G st′ mark tag j (change-at j finished status j refl));
@@ -339,7 +339,7 @@ module _ (G : Graph) (never : ℕ) (O W : ℕ → ℕ → Type 0) (down-O : Down
     sound-close =
         record {
           arcs = arcs-close G status mark arrived frames (s .arcs) tag (mark 0) (children (G .last) 0) all-in;
-          crest = λ i l n. absurd (omega arith);
+          last-stops = λ i l n. absurd (omega arith);
           carried =
               all-append (carried-close G status mark tag arrived frames (s .arcs) all-in (s .carried))
               (updates-carried G (λ i. idle) mark (suc tag) 0 tag (mark 0) (omega arith));
@@ -387,7 +387,7 @@ module _ (G : Graph) (never : ℕ) (O W : ℕ → ℕ → Type 0) (down-O : Down
       go c l (child y) =
           record {
             arcs = arcs-update G status mark arrived frames (s .arcs) i j t v rest (children (G .last) j) x;
-            crest = s .crest;
+            last-stops = s .last-stops;
             carried = all-append (all-rest x (s .carried)) (updates-carried G status mark tag j t v l);
             cut = s .cut;
             marks-capped = s .marks-capped;
@@ -432,7 +432,7 @@ module _ (G : Graph) (never : ℕ) (O W : ℕ → ℕ → Type 0) (r : Rounds) (
 
   -- once one gateway has stopped all have begun
   all-after-stop : (i : ℕ) → i ≤ G .last → stopped ≤ status i → (j : ℕ) → j ≤ G .last → counting ≤ status j
-  all-after-stop i l p = all-begun G status mark arrived frames (s .arcs) (omega (arith, s .crest i l p))
+  all-after-stop i l p = all-begun G status mark arrived frames (s .arcs) (omega (arith, s .last-stops i l p))
 
   -- something comes to wait at a gateway, or things go
   pub sound-arrives : (O′ W′ : ℕ → ℕ → Type 0) → Downward O → Downward W → (i : ℕ) → Arrives (G .last) i O W O′ W′
@@ -440,7 +440,7 @@ module _ (G : Graph) (never : ℕ) (O W : ℕ → ℕ → Type 0) (r : Rounds) (
   sound-arrives O′ W′ down-O down-W i a =
       record {
         arcs = s .arcs;
-        crest = s .crest;
+        last-stops = s .last-stops;
         carried = s .carried;
         cut = cut-arrives (G .last) status mark O W down-O down-W (s .cut) all-after-stop O′ W′ i a;
         marks-capped = s .marks-capped;
@@ -459,7 +459,7 @@ module _ (G : Graph) (never : ℕ) (O W : ℕ → ℕ → Type 0) (r : Rounds) (
   sound-sends O′ W′ down-O down-W i h l a =
       record {
         arcs = arcs-lower G status mark arrived frames (s .arcs) i h;
-        crest = s .crest;
+        last-stops = s .last-stops;
         carried = all-map (carried-on G status mark tag status (change i m mark) (λ k e. (e, stays k e (same? i k)))) (s .carried);
         cut = cut-sends (G .last) status mark O W down-O down-W (s .cut) all-after-stop O′ W′ i h a;
         marks-capped = marks-noted (λ n. n ≤ never) (G .last) status mark (s .marks-capped) i h (λ p q. omega arith);

@@ -83,12 +83,12 @@ module _ (G : Graph) (st mk : ℕ → ℕ) (ar : ℕ → ℕ → ℕ) (fr : List
       (record { lvts-in = q; not-below = omega arith; is-finished = λ n. absurd (omega arith) })
 
 -- once one gateway has stopped, the last has
-abbrev pub Crest : ℕ → (ℕ → ℕ) → Type 0
-Crest last st = (i : ℕ) → i ≤ last → stopped ≤ st i → stopped ≤ st last
+abbrev pub LastStops : ℕ → (ℕ → ℕ) → Type 0
+LastStops last st = (i : ℕ) → i ≤ last → stopped ≤ st i → stopped ≤ st last
 
-module _ (last : ℕ) (st : ℕ → ℕ) (h : Crest last st) where
-  pub crest-begin : (i : ℕ) → st i ≡ idle → Crest last (change i counting st)
-  crest-begin i p k l q = go (change? i counting st k) (change? i counting st last)
+module _ (last : ℕ) (st : ℕ → ℕ) (h : LastStops last st) where
+  pub last-stops-begin : (i : ℕ) → st i ≡ idle → LastStops last (change i counting st)
+  last-stops-begin i p k l q = go (change? i counting st k) (change? i counting st last)
     where
       go : Changed i counting st k → Changed i counting st last → stopped ≤ change i counting st last
       go (at e f) s = absurd (omega arith)
@@ -96,8 +96,8 @@ module _ (last : ℕ) (st : ℕ → ℕ) (h : Crest last st) where
       go (off n f) (off m g) = omega (arith, h k l (omega arith))
 
   -- any later status keeps it, where the last has stopped or is the one
-  pub crest-change : (i s : ℕ) → stopped ≤ s → (i ≢ last → stopped ≤ st last) → Crest last (change i s st)
-  crest-change i s p q k l r = go (change? i s st last)
+  pub last-stops-change : (i s : ℕ) → stopped ≤ s → (i ≢ last → stopped ≤ st last) → LastStops last (change i s st)
+  last-stops-change i s p q k l r = go (change? i s st last)
     where
       go : Changed i s st last → stopped ≤ change i s st last
       go (at e f) = omega arith

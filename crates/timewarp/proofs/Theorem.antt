@@ -8,7 +8,7 @@ use Rattle.timewarp.specs.Models.{Model}
 use Rattle.timewarp.specs.Gateways.{history}
 use Rattle.timewarp.specs.SingleQueue.{singleHistory}
 use Rattle.timewarp.specs.Worlds.{Setting, World, Steps, none, then, Reachable}
-use Rattle.timewarp.specs.Claims.{Claim, NothingToCommit}
+use Rattle.timewarp.specs.Claims.{Claim, NothingToCommit, AlwaysClaimed}
 use Rattle.timewarp.proofs.ListLaws.{all-left, all-right, all-head, all-member}
 use Rattle.timewarp.proofs.Addressing.{Here}
 use Rattle.timewarp.proofs.ArcLaws.{round-below}
@@ -101,3 +101,7 @@ module _ (S : Setting) where
       NothingToCommit S (v .rounds .agreed i) (v .events .gateways i) →
       w .events .gateways i .committed ≡ v .events .gateways i .committed
   same-record i l s a p t b q = claim-holds s .whole i l a p ∙ sym (claim-holds t .whole i l b q)
+
+-- The theorem.
+pub always-claimed : AlwaysClaimed
+always-claimed S w s = claim-holds S s

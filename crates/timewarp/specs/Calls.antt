@@ -162,7 +162,8 @@ module _ (S : Setting) where
   commitOldest i [] w = w
   commitOldest i (m ∷ l) w =
       let g = w .events .gateways i in
-      let v = becomes i (gatewayOf (oldest m l ∷ g .committed) (newerOnes m l) (g .pending) (g .waiting) (g .outstanding)) (w .events .network) [] w in
+      let h = gatewayOf (oldest m l ∷ g .committed) (newerOnes m l) (g .pending) (g .waiting) (g .outstanding) in
+      let v = becomes i h (w .events .network) [] w in
       cond (ltb (hour model (oldest m l)) (w .rounds .agreed i)) v w
 
   unfoldable pub commit : ℕ → World S → World S

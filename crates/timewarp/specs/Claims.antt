@@ -8,7 +8,7 @@ use Rattle.timewarp.specs.Gateways.{Event, message, Gateway}
 use Rattle.timewarp.specs.SingleQueue.{singleHistory}
 use Rattle.timewarp.specs.Arcs.{roundMessages}
 use Rattle.timewarp.specs.RoundSteps.{Completed, InTurn}
-use Rattle.timewarp.specs.Worlds.{Setting, World, Step}
+use Rattle.timewarp.specs.Worlds.{Setting, World, Step, Reachable}
 
 -- c is a beginning of h; both have the newest event in front.
 abbrev pub Beginning : {A : Type 0} → List A → List A → Type 0
@@ -21,6 +21,17 @@ module _ (S : Setting) where
   -- Nothing to commit: the oldest processed event, if there is one, is not below the agreed time.
   abbrev pub NothingToCommit : ℕ → Gateway Message → Type 0
   NothingToCommit time g = (m : Message) (newer : List Message) → g .processed ≡ newer ++ (m ∷ []) → time ≤ hour model m
+
+  -- The time is past the hour of none of these messages, or of none of these events.
+  abbrev pub NotPast : ℕ → List Message → Type 0
+  NotPast time l = All (λ m. time ≤ hour model m) l
+
+  abbrev pub NotPastEvents : ℕ → List (Event Message) → Type 0
+  NotPastEvents time l = All (λ e. time ≤ hour model (message e)) l
+
+  -- The event is outstanding at its sender.
+  abbrev pub IsOutstanding : World S → Event Message → Type 0
+  IsOutstanding w e = (rest : List (Event Message)) × Insert e rest (w .events .gateways (from (message e)) .outstanding)
 
   pub record Claim (w : World S) : Type 0 where
     -- What a gateway has committed is a beginning of what the single queue does there.
@@ -35,15 +46,18 @@ module _ (S : Setting) where
     -- No agreed time falls in a step.
     pub never-falls : (v : World S) → Step S w v → (i : ℕ) → w .rounds .agreed i ≤ v .rounds .agreed i
     -- No agreed time is past the hour of anything pending, waiting or under way.
-    pub bound-pending : (i j : ℕ) → i ≤ last → j ≤ last → All (λ m. w .rounds .agreed i ≤ hour model m) (w .events .gateways j .pending)
-    pub bound-waiting : (i j : ℕ) → i ≤ last → j ≤ last → All (λ m. w .rounds .agreed i ≤ hour model m) (w .events .gateways j .waiting)
-    pub bound-events : (i : ℕ) → i ≤ last → All (λ e. w .rounds .agreed i ≤ hour model (message e)) (w .events .network .events)
-    pub bound-acknowledgments :
-        (i : ℕ) → i ≤ last → All (λ e. w .rounds .agreed i ≤ hour model (message e)) (w .events .network .acknowledgments)
-    -- A completed round took two messages an arc and one for each gateway but 0, fewer than four for each gateway.
+    pub bound-pending : (i j : ℕ) → i ≤ last → j ≤ last → NotPast (w .rounds .agreed i) (w .events .gateways j .pending)
+    pub bound-waiting : (i j : ℕ) → i ≤ last → j ≤ last → NotPast (w .rounds .agreed i) (w .events .gateways j .waiting)
+    pub bound-events : (i : ℕ) → i ≤ last → NotPastEvents (w .rounds .agreed i) (w .events .network .events)
+    pub bound-acknowledgments : (i : ℕ) → i ≤ last → NotPastEvents (w .rounds .agreed i) (w .events .network .acknowledgments)
+    -- A completed round took two messages an arc and one for each gateway but 0: fewer than four for each gateway.
     pub rounds : (t : ℕ) → Completed graph (w .rounds) t → w .rounds .written t ≡ roundMessages graph
     pub rounds-few : (t : ℕ) → Completed graph (w .rounds) t → w .rounds .written t < 4 * suc last
-    -- Every frame of a round under way is what its receiver waits for.
+    -- Every frame of a round under way is what its receiver waits for; an Lvt is not below its receiver's agreed time.
     pub in-turn : All (InTurn graph (w .rounds)) (w .rounds .frames)
     -- Every acknowledgment under way finds its event outstanding.
-    pub acknowledged : All (λ e. (rest : List (Event Message)) × Insert e rest (w .events .gateways (from (message e)) .outstanding)) (w .events .network .acknowledgments)
+    pub acknowledged : All (IsOutstanding w) (w .events .network .acknowledgments)
+
+-- The theorem: it holds of every world that can be reached.
+abbrev pub AlwaysClaimed : Type 1
+AlwaysClaimed = (S : Setting) (w : World S) → Reachable S w → Claim S w

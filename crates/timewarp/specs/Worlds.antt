@@ -40,6 +40,13 @@ module _ (S : Setting) where
   lowerAll i [] r = r
   lowerAll i (m ∷ sent) r = lowerAll i sent (lower i (hour model m) r)
 
+  -- What a step of the round reads: v is the least hour outstanding at gateway i, or the least that waits there.
+  abbrev pub ReadsOutstanding : World S → ℕ → ℕ → Type 0
+  ReadsOutstanding w i v = v ≡ leastOutstanding (w .events .gateways i)
+
+  abbrev pub ReadsWaiting : World S → ℕ → ℕ → Type 0
+  ReadsWaiting w i v = v ≡ leastWaiting (w .events .gateways i)
+
   -- A step of the events at a gateway, in which what is sent lowers the note, or a step of the round.
   pub data Step (w : World S) : World S → Type 0 where
     event :
@@ -49,7 +56,7 @@ module _ (S : Setting) where
         Step w (record { events = after i g n (w .events); rounds = lowerAll i sent (w .rounds) })
     round :
         {r : Rounds} →
-        RoundStep graph (λ i v. v ≡ leastOutstanding (w .events .gateways i)) (λ i v. v ≡ leastWaiting (w .events .gateways i)) (w .rounds) r →
+        RoundStep graph (ReadsOutstanding w) (ReadsWaiting w) (w .rounds) r →
         Step w (record { events = w .events; rounds = r })
 
   -- Any number of steps, one after another.

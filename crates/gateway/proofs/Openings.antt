@@ -1,0 +1,183 @@
+-- Set up that is not refused leaves a proper gateway.
+use mathlib.Core.Path.{_≡_, refl, sym, _∙_, ap, subst}
+use mathlib.Core.Logic.{⊎-elim}
+use mathlib.Core.Bool.{Bool, true, false, cond, _&&_, _||_, true≢false, false≢true}
+use mathlib.Core.List.{List, [], _∷_, _++_, List·Memᴰ·head as here, List·Memᴰ·tail as there, List·Memᴰ·not-nil, List·Memᴰ·cases-cons, List·Memᴰ·append-cases, Memᴰ·append-left, Memᴰ·append-right}
+use Prim.Native.Nat.{ℕ, zero, suc, _+_, _≤_, _<_}
+use native.Mathlib.Omega.{arith}
+use native.Mathlib.Decide.{decLt}
+use lib.Dec.{leb, ltb, eqb}
+use lib.ListN.{length, length-append, length-take, getD, take, drop, List·getD-eq-default}
+use lib.Seq.{getD-take, getD-drop}
+use borrow.Author.Tests.{leb-true, eqb-true, eqb-false}
+use Rattle.buffer.specs.Slice.{Bytes}
+use Rattle.routing.specs.Arcs.{_∈_, none}
+use Rattle.model.specs.Messages.{kindNumber}
+use Rattle.model.specs.declared.Message.{Message}
+use Rattle.frame.specs.Claims.{OneToOne}
+use Rattle.frame.specs.Kinds.{senseNumber}
+use Rattle.frame.specs.Layout.{wholeLength}
+use Rattle.frame.specs.Limits.{refusal}
+use Rattle.frame.specs.Reasons.{reading, formNumber}
+use Rattle.frame.specs.declared.Frame.{Frame}
+use Rattle.frame.specs.declared.Sense.{Sense}
+use Rattle.frame.specs.declared.Sense.the-variants.{Plain, Cancel, Acknowledgment, CancelAcknowledgment}
+use Rattle.memory.specs.Layout.{sizeFor}
+use Rattle.memory.specs.Records.{Gateway}
+use Rattle.memory.specs.Validity.{isPending, roundPossible, settingsValid, frameIf}
+use Rattle.memory.specs.declared.Settings.{Settings}
+use Rattle.memory.specs.declared.Entry.{Entry}
+use Rattle.memory.proofs.Validated.{and-left, and-right, settings-facts}
+use Rattle.gateway.specs.Taking.{upTo, behind}
+use Rattle.gateway.specs.Undoing.{pendingEntry}
+use Rattle.gateway.specs.SettingUp.{settingsOf, openingValid, cutFrames, mayOpen, openingRefusal, firstRefusal, queued, opened, setUpRefusal}
+use Rattle.gateway.specs.declared.Opening.{Opening}
+use Rattle.gateway.proofs.Searches.{cut-again}
+use Rattle.gateway.proofs.Changes.{Kept, Standing, enough}
+use Rattle.gateway.proofs.Queues.{GoodQueue, pending-good, opening-enters}
+use Rattle.gateway.proofs.Accepting.{Accepted, Taken, form-good, not-refused, accepted-good}
+
+-- the frames of an opening list are made of its bytes
+take-bytes : (n : ℕ) (s : List ℕ) → Bytes s → Bytes (take n s)
+take-bytes n s h i = by-case (decLt i n)
+  where
+    by-case : Dec (i < n) → getD (take n s) i 0 < 256
+    by-case (yes l) = rw (getD-take n s i 0 l) (h i)
+    by-case (no l) = rw (List·getD-eq-default (take n s) 0 {n = i} (omega (arith, length-take n s))) (omega arith)
+
+drop-bytes : (n : ℕ) (s : List ℕ) → Bytes s → Bytes (drop n s)
+drop-bytes n s h i = rw (getD-drop n s i 0) (h (n + i))
+
+cut-bytes : (turns : ℕ) (s : List ℕ) → Bytes s → (f : List ℕ) → f ∈ cutFrames turns s → Bytes f
+unfolding cutFrames
+cut-bytes zero s h f m = absurd (List·Memᴰ·not-nil m)
+cut-bytes (suc turns) [] h f m = absurd (List·Memᴰ·not-nil m)
+cut-bytes (suc turns) (b ∷ s) h f m =
+    ⊎-elim
+    (λ (e : f ≡ take (wholeLength b) (b ∷ s)). subst Bytes (sym e) (take-bytes (wholeLength b) (b ∷ s) h))
+    (cut-bytes turns (drop (wholeLength b) (b ∷ s)) (drop-bytes (wholeLength b) (b ∷ s) h) f)
+    (List·Memᴰ·cases-cons m)
+
+-- no frame is refused
+none-refused : (s : Settings) (fs : List (List ℕ)) → firstRefusal s fs ≡ 0 → (f : List ℕ) → f ∈ fs → openingRefusal s f ≡ 0
+unfolding firstRefusal
+none-refused s [] h f m = absurd (List·Memᴰ·not-nil m)
+none-refused s (x ∷ xs) h f m = by-case (eqb (openingRefusal s x) 0) refl h (λ k. none-refused s xs k f)
+  where
+    by-case : (b : Bool) → eqb (openingRefusal s x) 0 ≡ b → cond b (firstRefusal s xs) (openingRefusal s x) ≡ 0
+        → (firstRefusal s xs ≡ 0 → f ∈ xs → openingRefusal s f ≡ 0) → openingRefusal s f ≡ 0
+    by-case true e k rest = ⊎-elim (λ (d : f ≡ x). ap (openingRefusal s) d ∙ eqb-true (openingRefusal s x) 0 e) (rest k) (List·Memᴰ·cases-cons m)
+    by-case false e k rest = absurd (eqb-false (openingRefusal s x) 0 e k)
+
+-- only a plain message has sense 0
+plain-sense : (sense : Sense) → eqb (senseNumber sense) 0 ≡ true → sense ≡ Plain
+plain-sense Plain h = refl
+plain-sense Cancel h = absurd (false≢true h)
+plain-sense Acknowledgment h = absurd (false≢true h)
+plain-sense CancelAcknowledgment h = absurd (false≢true h)
+
+few-kinds : (n : ℕ) → (eqb n 0 || eqb n 3) ≡ true → n ≤ 3
+few-kinds n = by-case (eqb n 0) refl
+  where
+    by-case : (b : Bool) → eqb n 0 ≡ b → (b || eqb n 3) ≡ true → n ≤ 3
+    by-case true e h = omega (arith, eqb-true n 0 e)
+    by-case false e h = omega (arith, eqb-true n 3 h)
+
+-- an opening message
+module _ (one : OneToOne) (s : Settings) where
+  opening-taken : (bytes : List ℕ) → Bytes bytes → openingRefusal s bytes ≡ 0 → Taken s false (reading bytes .frame .message)
+  unfolding openingRefusal
+  opening-taken bytes h = by-case (eqb (formNumber (reading bytes .form)) 0 && mayOpen (reading bytes .frame)) refl
+    where
+      f : Frame
+      f = reading bytes .frame
+
+      by-case : (b : Bool) → (eqb (formNumber (reading bytes .form)) 0 && mayOpen f) ≡ b → _≡_ {A = ℕ} (cond b (refusal f (s .n) (s .own) (s .last)) 1) 0 → Taken s false (f .message)
+      by-case true e z =
+          let good = form-good (reading bytes .form) (and-left (eqb (formNumber (reading bytes .form)) 0) (mayOpen f) e) in
+          let may = and-right (eqb (formNumber (reading bytes .form)) 0) (mayOpen f) e in
+          let plain = plain-sense (f .sense) (and-left (eqb (senseNumber (f .sense)) 0) (eqb (kindNumber (f .message .kind)) 0 || eqb (kindNumber (f .message .kind)) 3) may) in
+          accepted-good s false (f .message)
+          (few-kinds (kindNumber (f .message .kind)) (and-right (eqb (senseNumber (f .sense)) 0) (eqb (kindNumber (f .message .kind)) 0 || eqb (kindNumber (f .message .kind)) 3) may))
+          (subst (λ (t : Sense). Accepted s (record { message = f .message; sense = t })) plain
+            (record { form = one .readWellFormed bytes h good; ranged = one .readRanged bytes h good; passes = not-refused s f z }))
+      by-case false e z = absurd (omega arith)
+
+-- the queue that the opening messages make
+length-entered : (m : Message) (e : Entry) (es : List Entry) → length (upTo m es ++ (e ∷ behind m es)) ≡ suc (length es)
+length-entered m e es =
+    let l : length (upTo m es) + length (behind m es) ≡ length es = sym (length-append (upTo m es) (behind m es)) ∙ ap length (cut-again m es) in
+    simp length-append (omega arith)
+
+length-queued : (es : List Entry) (fs : List (List ℕ)) → length (queued es fs) ≡ length es + length fs
+unfolding queued
+length-queued es [] = omega arith
+length-queued es (f ∷ fs) =
+    let m = reading f .frame .message in
+    omega (arith, length-queued (upTo m es ++ (pendingEntry m ∷ behind m es)) fs, length-entered m (pendingEntry m) es)
+
+queued-good : {s : Settings} (es : List Entry) → GoodQueue s es → ((e : Entry) → e ∈ es → isPending e ≡ true)
+    → (fs : List (List ℕ)) → ((f : List ℕ) → f ∈ fs → Taken s false (reading f .frame .message)) → GoodQueue s (queued es fs)
+unfolding queued
+queued-good es q h [] t = q
+queued-good es q h (f ∷ fs) t =
+    let m = reading f .frame .message in
+    let a = t f (here refl) in
+    queued-good (upTo m es ++ (pendingEntry m ∷ behind m es))
+    (opening-enters m es q (pending-good m (a .here) (a .good)) h)
+    (λ e n. ⊎-elim
+      (λ (o : e ∈ upTo m es). h e (rw (cut-again m es) at (Memᴰ·append-left (behind m es) o)))
+      (λ (o : e ∈ (pendingEntry m ∷ behind m es)). ⊎-elim (λ (d : e ≡ pendingEntry m). ap isPending d) (λ (i : e ∈ behind m es). h e (rw (cut-again m es) at (Memᴰ·append-right (upTo m es) i))) (List·Memᴰ·cases-cons o))
+      (List·Memᴰ·append-cases (upTo m es) n))
+    fs (λ x n. t x (there n))
+
+-- what a set up that is not refused has passed
+record OpeningPasses (o : Opening) (size : ℕ) (list : List ℕ) : Type 0 where
+  valid : openingValid o size ≡ true
+  frames : firstRefusal (settingsOf o) (cutFrames (length list) list) ≡ 0
+  places : length (cutFrames (length list) list) ≤ o .q
+
+opening-passes : (o : Opening) (size : ℕ) (list : List ℕ) → setUpRefusal o size list ≡ 0 → OpeningPasses o size list
+unfolding setUpRefusal
+opening-passes o size list = by-case (openingValid o size) refl (eqb number 0) refl (leb (length fs) (o .q)) refl
+  where
+    fs : List (List ℕ)
+    fs = cutFrames (length list) list
+
+    number : ℕ
+    number = firstRefusal (settingsOf o) fs
+
+    by-case : (a : Bool) → openingValid o size ≡ a → (b : Bool) → eqb number 0 ≡ b → (c : Bool) → leb (length fs) (o .q) ≡ c
+        → _≡_ {A = ℕ} (cond a (cond b (cond c 0 5) number) 8) 0 → OpeningPasses o size list
+    by-case true e true i true j z = record { valid = e; frames = eqb-true number 0 i; places = leb-true (length fs) (o .q) j }
+    by-case true e true i false j z = absurd (omega arith)
+    by-case true e false i c j z = absurd (eqb-false number 0 i z)
+    by-case false e b i c j z = absurd (omega arith)
+
+pub opening-long : (o : Opening) (size : ℕ) (list : List ℕ) → setUpRefusal o size list ≡ 0 → sizeFor (o .q) (o .u) ≤ size
+unfolding openingValid
+opening-long o size list h =
+    let valid : openingValid o size ≡ true = opening-passes o size list h .valid in
+    leb-true (sizeFor (o .q) (o .u)) size (search (and-left, and-right))
+
+pub opened-keeps : OneToOne → (o : Opening) (size : ℕ) (list : List ℕ) → Bytes list → setUpRefusal o size list ≡ 0 → Kept (settingsOf o) (opened o (cutFrames (length list) list))
+unfolding opened roundPossible openingValid
+opened-keeps one o size list bytes h =
+    let fs = cutFrames (length list) list in
+    let passes = opening-passes o size list h in
+    let q = queued-good {s = settingsOf o} [] (record { entries = λ e m. absurd (List·Memᴰ·not-nil m); order = none }) (λ e m. absurd (List·Memᴰ·not-nil m)) fs
+        (λ f m. opening-taken one (settingsOf o) f (cut-bytes (length list) list bytes f m) (none-refused (settingsOf o) fs (passes .frames) f m)) in
+    let valid : openingValid o size ≡ true = passes .valid in
+    enough
+    (record {
+      same = refl;
+      settings = settings-facts (settingsOf o) (search (and-left, and-right));
+      state = record { stock = omega (arith, leb-true (o .stock) 65535 (search (and-left, and-right))); failed = omega arith; fitted = omega arith; short = omega arith };
+      agreed = omega arith;
+      note = omega arith;
+      round = refl;
+      entries = q .entries;
+      order = q .order;
+      outstanding = λ x m. absurd (List·Memᴰ·not-nil m);
+    })
+    (omega (arith, length-queued [] fs, passes .places)) (omega arith)

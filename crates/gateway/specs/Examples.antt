@@ -1,0 +1,93 @@
+-- The starred examples of document 01, as one table, in its order.
+use mathlib.Core.Path.{_≡_}
+use Prim.Native.Nat.{ℕ}
+use mathlib.Core.Bool.{Bool, true, false}
+use mathlib.Core.List.{List, [], _∷_, _++_}
+use lib.ListN.{replicate}
+use Rattle.routing.specs.Arcs.{Arc, figure2, from, to, mid0, mid1, arcs, roundMessages}
+use Rattle.routing.specs.Answers.{neighboursOf, totalsOf}
+use Rattle.model.specs.declared.Message.{Message}
+use Rattle.model.specs.declared.Kind.the-variants.{Failure, Request}
+use Rattle.frame.specs.Writing.{written}
+use Rattle.memory.specs.Records.{Gateway}
+use Rattle.memory.specs.Validity.{every, noState, frameIf, valid}
+use Rattle.memory.specs.declared.Entry.{Entry}
+use Rattle.memory.specs.declared.Sent.{Sent}
+use Rattle.memory.specs.declared.Mark.the-variants.{Processed}
+use Rattle.gateway.specs.Effects.{Outcome}
+use Rattle.gateway.specs.Undoing.{pendingEntry}
+use Rattle.gateway.specs.Rounds.{idle, start}
+use Rattle.gateway.specs.Committing.{recordOf, commit}
+use Rattle.gateway.specs.Calls.{takeBytes}
+
+-- lamps alike in sixteen characters: L and fifteen zeros, then one character twice
+abbrev lampWith : ℕ → List ℕ
+lampWith character = 76 ∷ (replicate 15 48 ++ (character ∷ character ∷ []))
+
+-- a Failure of that lamp at that gateway and hour
+abbrev failure : ℕ → ℕ → ℕ → Message
+failure own hour character = record { hour = hour; from = own; to = own; kind = Failure own; lamp = lampWith character }
+
+-- one of two gateways, with its agreed time and what is queued and outstanding
+abbrev oneOfTwo : ℕ → ℕ → List Entry → List Sent → Gateway
+oneOfTwo own agreed queue outstanding = record {
+  settings = record { n = 2; own = own; supplier = 0; last = 100; q = 4; u = 4 };
+  state = noState;
+  agreed = agreed;
+  round = idle;
+  queue = queue;
+  outstanding = outstanding;
+}
+
+-- gateway 0 with a Failure due at 7; gateway 1 with one due at 9, and with or without an unacknowledged Request at 5
+abbrev due7 : Gateway
+due7 = oneOfTwo 0 0 (pendingEntry (failure 0 7 49) ∷ []) []
+
+abbrev due9 : Gateway
+due9 = oneOfTwo 1 0 (pendingEntry (failure 1 9 50) ∷ []) []
+
+abbrev due9sent5 : Gateway
+due9sent5 = oneOfTwo 1 0 (pendingEntry (failure 1 9 50) ∷ [])
+    (record { message = record { hour = 5; from = 1; to = 0; kind = Request 1; lamp = lampWith 50 }; cancel = false } ∷ [])
+
+-- a round of two gateways, each frame taken as it was written: 0 starts, 1 answers the Start with its Lvt, 0 closes the round
+unfoldable pub roundOfTwo : Gateway → Gateway → Outcome
+roundOfTwo g h =
+    let started = start 100 g in
+    let answered = takeBytes (started .output) 100 h in
+    takeBytes (answered .output) 100 (started .gateway)
+
+-- a processed Failure at that hour, the agreed time 12
+abbrev processedAt : ℕ → Entry
+processedAt hour = record { message = failure 0 hour 49; mark = Processed; before = noState }
+
+abbrev agreed12 : ℕ → Gateway
+agreed12 hour = oneOfTwo 0 12 (processedAt hour ∷ []) []
+
+-- two Failures, of lamps alike in sixteen characters
+abbrev alike : Gateway
+alike = oneOfTwo 0 0 (pendingEntry (failure 0 7 49) ∷ pendingEntry (failure 0 7 50) ∷ []) []
+
+pub record Starred : Type 0 where
+  -- N = 1: no arcs, 0 round messages. N = 2: 0 to 1, 3 messages
+  pub one : (arcs 1 ≡ []) × (roundMessages 1 ≡ 0)
+  pub two : (arcs 2 ≡ (0, 1) ∷ []) × (roundMessages 2 ≡ 3)
+  -- N = 4: 0 to 1, 0 to 2, 1 to 3, 2 to 3; 11 messages
+  pub four : (arcs 4 ≡ (0, 1) ∷ (0, 2) ∷ (1, 3) ∷ (2, 3) ∷ []) × (roundMessages 4 ≡ 11)
+  -- N = 10 shares its row: gateway 3 hears 1, tells 7
+  pub ten : (figure2 10 3 .row .shared ≡ true) × (from 10 3 ≡ 1 ∷ []) × (to 10 3 ≡ 7 ∷ [])
+  -- N = 11: gateway 3 tells 7, not shared; only 5 is in both trees, which have the gateways up to mid0 and from mid1 on
+  pub eleven : (figure2 11 3 .row .shared ≡ false) × (to 11 3 ≡ 7 ∷ []) × (mid0 11 ≡ 5) × (mid1 11 ≡ 5)
+  -- N = 0 gives 8
+  pub zero : (neighboursOf 0 0 .answer ≡ 8) × (totalsOf 0 .answer ≡ 8)
+  -- N = 2, least due hours 7 and 9, an unacknowledged 5 sent by 1: agreed time 5. Without it: 7
+  pub unacknowledged : (roundOfTwo due7 due9sent5 .number ≡ 0) × (roundOfTwo due7 due9sent5 .gateway .agreed ≡ 5)
+  pub acknowledged : (roundOfTwo due7 due9 .number ≡ 0) × (roundOfTwo due7 due9 .gateway .agreed ≡ 7)
+  -- agreed time 12: a processed event at 11 commits, at 12 gives 6
+  pub below : commit 100 (agreed12 11) ≡ record { number = 0; gateway = oneOfTwo 0 12 [] []; output = recordOf (processedAt 11) }
+  pub atAgreed : commit 100 (agreed12 12) .number ≡ 6
+  -- lamps alike in sixteen characters, cancel for the second: the first stays
+  pub second : (takeBytes (written (frameIf true (failure 0 7 50))) 100 alike .number ≡ 0)
+      × (takeBytes (written (frameIf true (failure 0 7 50))) 100 alike .gateway .queue ≡ pendingEntry (failure 0 7 49) ∷ [])
+  -- and these gateways are valid
+  pub proper : every valid (due7 ∷ due9 ∷ due9sent5 ∷ agreed12 11 ∷ agreed12 12 ∷ alike ∷ []) ≡ true
