@@ -14,3 +14,4 @@ pub mod RoundCounters
 pub mod RoundChains
 pub mod RoundsUnderWay
 pub mod RoundCalls
+pub mod RoundWorlds
