@@ -15,3 +15,5 @@ pub mod RoundChains
 pub mod RoundsUnderWay
 pub mod RoundCalls
 pub mod RoundWorlds
+pub mod LeastHours
+pub mod FramesCut

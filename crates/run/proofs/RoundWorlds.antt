@@ -12,8 +12,10 @@ use Rattle.frame.specs.Reasons.{reading}
 use Rattle.frame.specs.Writing.{written}
 use Rattle.frame.specs.declared.Frame.{Frame}
 use Rattle.memory.specs.Records.{Gateway}
-use Rattle.gateway.specs.Effects.{Effect}
-use Rattle.gateway.specs.Rounds.{begun, oneStart, oneLvt, bitOf, isIdle, valueIn}
+use Rattle.gateway.specs.Effects.{Effect, withAgreed, withRound, noted}
+use Rattle.gateway.specs.Rounds.{begun, oneStart, oneLvt, bitOf, isIdle, valueIn, frames, children}
+use Rattle.model.specs.declared.Kind.the-variants.{Update}
+use Rattle.routing.specs.Arcs.{from, to}
 use Rattle.timewarp.specs.Lists.{All, nil, cons, Insert}
 use Rattle.timewarp.specs.Families.{change}
 use Rattle.timewarp.specs.Models.{Model}
@@ -26,8 +28,8 @@ use Rattle.timewarp.proofs.Joined.{Good}
 use Rattle.run.specs.World
 use Rattle.run.specs.World.{Carried, carry, roundFrames, kindIn}
 use Rattle.run.proofs.FigureGraph.{figureGraph}
-use Rattle.run.proofs.Standing.{Standings, StandingAt}
-use Rattle.run.proofs.RoundCounters.{Counted}
+use Rattle.run.proofs.Standing.{Standings, StandingAt, lower-standings}
+use Rattle.run.proofs.RoundCounters.{Counted, lower-counted}
 use Rattle.run.proofs.RoundChains
 use Rattle.run.proofs.RoundChains.{change-same}
 use Rattle.run.proofs.RoundCalls
@@ -104,3 +106,52 @@ module _ (n : ℕ) (some : 1 ≤ n) (M : Model) (equal : n - 1 ≡ M .last) wher
           → Led w gs i (begun (gs i)) (underWay ++ roundsOf (w .rounds .tag) (begun (gs i) .frames))
           (let took = World.tookMore (World.opens c .opened) (length (begun (gs i) .frames)) (World.opens c) in cond (eqb n 1) (World.closes took) took)
       start-led z idles = rw (h .frames) (leaving (RoundCalls.start-done n some M equal w k (λ j. gs j .round) (λ j. gs j .agreed) i inside a (entering h) z idles))
+
+      -- taking a Start
+      pub start-taken-led : (j t : ℕ) (rest : List RoundFrame) → Insert (start j i t) rest underWay
+          → let heard = from (gs i .settings .n) (gs i .settings .own) in
+          let e = oneStart heard (gs i .round .arrived + bitOf j heard) (gs i) in
+          Led w gs i e (rest ++ roundsOf (w .rounds .tag) (e .frames)) (World.tookMore (c .opened) (length (e .frames)) c)
+      start-taken-led j t rest x =
+          leaving (RoundCalls.start-taken n some M equal w k (λ m. gs m .round) (λ m. gs m .agreed) i inside a (entering h) j t rest (subst (Insert (start j i t) rest) (h .frames) x))
+
+      -- taking an Lvt
+      pub lvt-taken-led : (j t v : ℕ) (rest : List RoundFrame) → Insert (lvt j i t v) rest underWay
+          → let told = to (gs i .settings .n) (gs i .settings .own) in
+          let e = oneLvt told (gs i .round .arrived + bitOf j told) (min (valueIn (gs i .round .phase) (gs i)) v) (gs i) in
+          let took = World.tookMore (c .opened) (length (e .frames)) c in
+          Led w gs i e (rest ++ roundsOf (w .rounds .tag) (e .frames)) (cond (eqb i 0) (World.oneLvt n took) took)
+      lvt-taken-led j t v rest x =
+          leaving (RoundCalls.lvt-taken n some M equal w k (λ m. gs m .round) (λ m. gs m .agreed) i inside a (entering h) j t v rest (subst (Insert (lvt j i t v) rest) (h .frames) x))
+
+      -- taking an Update
+      pub update-taken-led : (j t v : ℕ) (rest : List RoundFrame) → Insert (update j i t v) rest underWay
+          → let e : Effect = record { gateway = withAgreed (max (gs i .agreed) v) (gs i); frames = frames Update v (gs i .settings .own) (children (gs i .settings)) } in
+          Led w gs i e (rest ++ roundsOf t (e .frames)) (World.accepts (suc t) i (World.tookMore (suc t) (length (e .frames)) c))
+      update-taken-led j t v rest x =
+          leaving (RoundCalls.update-taken n some M equal w k (λ m. gs m .round) (λ m. gs m .agreed) i inside a (entering h) j t v rest (subst (Insert (update j i t v) rest) (h .frames) x))
+
+  -- only the rounds and the agreed times of the gateways matter
+  pub alike-again : {gs : ℕ → Gateway} {underWay : List RoundFrame} {c : World.Rounds} {r : RoundSteps.Rounds} (hs : ℕ → Gateway)
+      → ((i : ℕ) → gs i .round ≡ hs i .round) → ((i : ℕ) → gs i .agreed ≡ hs i .agreed) → Alike gs underWay c r → Alike hs underWay c r
+  alike-again {r = r} hs e d a =
+      record {
+        standing = λ i l. subst (StandingAt (figureGraph n some) (r .status) (r .mark) (r .arrived) i) (e i) (a .standing i l);
+        agreed = λ i l. sym (d i) ∙ a .agreed i l;
+        counted = a .counted;
+        unfinished = a .unfinished;
+        frames = a .frames;
+      }
+
+  -- gateway i sends a message or cancel of hour t
+  pub alike-lowered : {gs : ℕ → Gateway} {underWay : List RoundFrame} {c : World.Rounds} {r : RoundSteps.Rounds} (i t : ℕ) → i ≤ n - 1
+      → Alike gs underWay c r → Alike (change i (withRound (noted t (gs i .round)) (gs i)) gs) underWay c (RoundSteps.lower i t r)
+  unfolding RoundSteps.lower noted
+  alike-lowered {gs} {c = c} {r = r} i t l a =
+      record {
+        standing = λ j m. subst (StandingAt (figureGraph n some) (r .status) (RoundSteps.lower i t r .mark) (r .arrived) j) (change-seen (λ g. g .round) i (withRound (noted t (gs i .round)) (gs i)) gs j) (lower-standings (figureGraph n some) (r .status) (r .mark) (r .arrived) (λ j. gs j .round) (a .standing) i t l j m);
+        agreed = λ j m. sym (change-seen (λ g. g .agreed) i (withRound (noted t (gs i .round)) (gs i)) gs j) ∙ change-same i (λ j. gs j .agreed) j ∙ a .agreed j m;
+        counted = lower-counted (figureGraph n some) c r (a .counted) i t;
+        unfinished = a .unfinished;
+        frames = a .frames;
+      }
