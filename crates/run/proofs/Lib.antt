@@ -17,3 +17,5 @@ pub mod RoundCalls
 pub mod RoundWorlds
 pub mod LeastHours
 pub mod FramesCut
+pub mod AcceptedCalls
+pub mod RoundForms
