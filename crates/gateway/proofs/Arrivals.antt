@@ -136,8 +136,8 @@ module _ {g : Gateway} (k : Standing (g .settings) g) where
     where
       by-case : (b : Bool)
           → Standing (g .settings) (cond {A = Effect} b
-            (record { gateway = withAgreed value (withRound idle g); frames = frames Update value (g .settings .own) (children (g .settings)) })
-            (record { gateway = withRound idle g; frames = frames Lvt value (g .settings .own) (from (g .settings .n) (g .settings .own)) }) .gateway)
+          (record { gateway = withAgreed value (withRound idle g); frames = frames Update value (g .settings .own) (children (g .settings)) })
+          (record { gateway = withRound idle g; frames = frames Lvt value (g .settings .own) (from (g .settings .n) (g .settings .own)) }) .gateway)
       by-case true = with-agreed (with-round k idle refl (omega arith)) value h
       by-case false = with-round k idle refl (omega arith)
 
@@ -150,8 +150,8 @@ module _ {g : Gateway} (k : Standing (g .settings) g) where
 
       by-case : (b : Bool) → eqb (g .settings .own + 1) (g .settings .n) ≡ b
           → Standing (g .settings) (cond {A = Effect} b
-            (finished (valueAt note g) g)
-            (record { gateway = withRound (record { phase = Counting; arrived = 0; note = note }) g; frames = frames Start 0 (g .settings .own) (to (g .settings .n) (g .settings .own)) }) .gateway)
+          (finished (valueAt note g) g)
+          (record { gateway = withRound (record { phase = Counting; arrived = 0; note = note }) g; frames = frames Start 0 (g .settings .own) (to (g .settings .n) (g .settings .own)) }) .gateway)
       by-case true h = finished-stands (valueAt note g) (omega (arith, outstanding-most (g .outstanding)))
       by-case false h =
           with-round k (record { phase = Counting; arrived = 0; note = note }) (le-leb 1 (length (to (g .settings .n) (g .settings .own))) (some-told h))

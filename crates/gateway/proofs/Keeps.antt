@@ -61,10 +61,10 @@ module _ {g : Gateway} (p : Proper g) where
   acknowledgment-keeps cancel m =
       either (any (isSent cancel m) (g .outstanding))
       (λ e.
-        let v = valid-facts g (p .valid) in
-        let fewer = without-first (isSent cancel m) (g .outstanding) in
-        let k = with-outstanding (standing p) (withoutFirst (isSent cancel m) (g .outstanding)) (λ x n. standing p .outstanding x (part-member fewer n)) in
-        record { gateway = enough k (v .queued) (omega (arith, part-length fewer, v .sent)); number = omega arith })
+      let v = valid-facts g (p .valid) in
+      let fewer = without-first (isSent cancel m) (g .outstanding) in
+      let k = with-outstanding (standing p) (withoutFirst (isSent cancel m) (g .outstanding)) (λ x n. standing p .outstanding x (part-member fewer n)) in
+      record { gateway = enough k (v .queued) (omega (arith, part-length fewer, v .sent)); number = omega arith })
       (refuses 7 (omega arith))
 
   pub start-keeps : (room : ℕ) → Ends (g .settings) (start room g)
@@ -160,14 +160,14 @@ module _ {g : Gateway} (p : Proper g) where
       let number = refusal (r .frame) (s .n) (s .own) (s .last) in
       either (formed && carried)
       (λ e.
-        let good = form-good (r .form) (and-left formed carried e) in
-        either (eqb number 0)
-        (λ z. frame-keeps room (r .frame) (record {
-          form = one .readWellFormed bytes h good;
-          ranged = one .readRanged bytes h good;
-          passes = not-refused s (r .frame) (eqb-true number 0 z);
-        }))
-        (refuses number (refusal-few (r .frame) (s .n) (s .own) (s .last))))
+      let good = form-good (r .form) (and-left formed carried e) in
+      either (eqb number 0)
+      (λ z. frame-keeps room (r .frame) (record {
+        form = one .readWellFormed bytes h good;
+        ranged = one .readRanged bytes h good;
+        passes = not-refused s (r .frame) (eqb-true number 0 z);
+      }))
+      (refuses number (refusal-few (r .frame) (s .n) (s .own) (s .last))))
       (refuses 1 (omega arith))
 
 -- how work ends, however many events it does

@@ -100,7 +100,7 @@ module _ (one : OneToOne) (s : Settings) where
           accepted-good s false (f .message)
           (few-kinds (kindNumber (f .message .kind)) (and-right (eqb (senseNumber (f .sense)) 0) (eqb (kindNumber (f .message .kind)) 0 || eqb (kindNumber (f .message .kind)) 3) may))
           (subst (λ (t : Sense). Accepted s (record { message = f .message; sense = t })) plain
-            (record { form = one .readWellFormed bytes h good; ranged = one .readRanged bytes h good; passes = not-refused s f z }))
+          (record { form = one .readWellFormed bytes h good; ranged = one .readRanged bytes h good; passes = not-refused s f z }))
       by-case false e z = absurd (omega arith)
 
 -- the queue that the opening messages make
@@ -126,9 +126,9 @@ queued-good es q h (f ∷ fs) t =
     queued-good (upTo m es ++ (pendingEntry m ∷ behind m es))
     (opening-enters m es q (pending-good m (a .here) (a .good)) h)
     (λ e n. ⊎-elim
-      (λ (o : e ∈ upTo m es). h e (rw (cut-again m es) at (Memᴰ·append-left (behind m es) o)))
-      (λ (o : e ∈ (pendingEntry m ∷ behind m es)). ⊎-elim (λ (d : e ≡ pendingEntry m). ap isPending d) (λ (i : e ∈ behind m es). h e (rw (cut-again m es) at (Memᴰ·append-right (upTo m es) i))) (List·Memᴰ·cases-cons o))
-      (List·Memᴰ·append-cases (upTo m es) n))
+    (λ (o : e ∈ upTo m es). h e (rw (cut-again m es) at (Memᴰ·append-left (behind m es) o)))
+    (λ (o : e ∈ (pendingEntry m ∷ behind m es)). ⊎-elim (λ (d : e ≡ pendingEntry m). ap isPending d) (λ (i : e ∈ behind m es). h e (rw (cut-again m es) at (Memᴰ·append-right (upTo m es) i))) (List·Memᴰ·cases-cons o))
+    (List·Memᴰ·append-cases (upTo m es) n))
     fs (λ x n. t x (there n))
 
 -- what a set up that is not refused has passed
@@ -166,7 +166,7 @@ opened-keeps one o size list bytes h =
     let fs = cutFrames (length list) list in
     let passes = opening-passes o size list h in
     let q = queued-good {s = settingsOf o} [] (record { entries = λ e m. absurd (List·Memᴰ·not-nil m); order = none }) (λ e m. absurd (List·Memᴰ·not-nil m)) fs
-        (λ f m. opening-taken one (settingsOf o) f (cut-bytes (length list) list bytes f m) (none-refused (settingsOf o) fs (passes .frames) f m)) in
+    (λ f m. opening-taken one (settingsOf o) f (cut-bytes (length list) list bytes f m) (none-refused (settingsOf o) fs (passes .frames) f m)) in
     let valid : openingValid o size ≡ true = passes .valid in
     enough
     (record {

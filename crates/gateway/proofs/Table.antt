@@ -23,12 +23,12 @@ use Rattle.gateway.specs.Examples.{roundOfTwo, Starred}
 
 pub starred : Starred
 unfolding
-  gvtcfg widen share setFrom setTo from to mid0 mid1 arcs arcsOfFirst sum updates roundMessages neighboursOf totalsOf
-  part write bytesOf numberFrom numberOf stateBytes key compared standing total joined wholeLength cut mapOfKind mapOf contents written
-  allBetween lampFits wellFormed valuesOf fieldsOf mapFits formOf reading refusal every settingsValid roundPossible equal later ordered
-  processedFirst noneMeet storable entryValid sentValid valid bytesOfFrames fits settled sentAll processedOf undone restored sentBack
-  rolledBack any withoutFirst beforeLast fromLast takeCancel leastOutstanding leastQueued children finished begun start bitOf allBits
-  oneStart takeStart oneLvt takeLvt recordOf commit takeFrame takeBytes roundOfTwo
+    gvtcfg widen share setFrom setTo from to mid0 mid1 arcs arcsOfFirst sum updates roundMessages neighboursOf totalsOf
+    part write bytesOf numberFrom numberOf stateBytes key compared standing total joined wholeLength cut mapOfKind mapOf contents written
+    allBetween lampFits wellFormed valuesOf fieldsOf mapFits formOf reading refusal every settingsValid roundPossible equal later ordered
+    processedFirst noneMeet storable entryValid sentValid valid bytesOfFrames fits settled sentAll processedOf undone restored sentBack
+    rolledBack any withoutFirst beforeLast fromLast takeCancel leastOutstanding leastQueued children finished begun start bitOf allBits
+    oneStart takeStart oneLvt takeLvt recordOf commit takeFrame takeBytes roundOfTwo
 starred =
     record {
       one = (refl, refl);

@@ -50,8 +50,8 @@ module _ {g : Gateway} (p : Proper g) where
 
       by-case : (b : Bool) → any (isCancelOf m) (g .queue) ≡ b
           → Standing (g .settings) (cond {A = Effect} b
-            (record { gateway = withQueue (withoutFirst (isCancelOf m) (g .queue)) g; frames = acknowledgment false m ∷ [] })
-            (record { gateway = withQueue (upTo m (g .queue) ++ (pendingEntry m ∷ map undone rest)) (rolledBack (processedOf rest) g); frames = acknowledgment false m ∷ framesFor true (sentBack (siteOf (g .settings)) (processedOf rest)) }) .gateway)
+          (record { gateway = withQueue (withoutFirst (isCancelOf m) (g .queue)) g; frames = acknowledgment false m ∷ [] })
+          (record { gateway = withQueue (upTo m (g .queue) ++ (pendingEntry m ∷ map undone rest)) (rolledBack (processedOf rest) g); frames = acknowledgment false m ∷ framesFor true (sentBack (siteOf (g .settings)) (processedOf rest)) }) .gateway)
       by-case true e = requeue k (withoutFirst (isCancelOf m) (g .queue)) (leave-out (without-first (isCancelOf m) (g .queue)) (queue-of k))
       by-case false e =
           requeue
@@ -68,8 +68,8 @@ module _ {g : Gateway} (p : Proper g) where
 
       by-case : (b : Bool) → any (isPlain m) (g .queue) ≡ b
           → Standing (g .settings) (cond {A = Effect} b
-            (record { gateway = withQueue (beforeLast (isPlain m) (g .queue) ++ map undone (tailOf found)) (rolledBack (processedOf found) g); frames = acknowledgment true m ∷ framesFor true (sentBack (siteOf (g .settings)) (processedOf found)) })
-            (record { gateway = withQueue (upTo m (g .queue) ++ (waitingEntry m ∷ behind m (g .queue))) g; frames = acknowledgment true m ∷ [] }) .gateway)
+          (record { gateway = withQueue (beforeLast (isPlain m) (g .queue) ++ map undone (tailOf found)) (rolledBack (processedOf found) g); frames = acknowledgment true m ∷ framesFor true (sentBack (siteOf (g .settings)) (processedOf found)) })
+          (record { gateway = withQueue (upTo m (g .queue) ++ (waitingEntry m ∷ behind m (g .queue))) g; frames = acknowledgment true m ∷ [] }) .gateway)
       by-case true e =
           requeue
           (roll-back k (processedOf found) (λ x n. k .entries x (found-member m (g .queue) (queue-of k) e x (processed-member found x n))))

@@ -7,3 +7,4 @@ pub mod SavedStates
 pub mod UndoChains
 pub mod QueueChanges
 pub mod EventCalls
+pub mod SingleQueues
