@@ -8,3 +8,6 @@ pub mod UndoChains
 pub mod QueueChanges
 pub mod EventCalls
 pub mod SingleQueues
+pub mod Ledgers
+pub mod EventsUnderWay
+pub mod AcceptedFrames
