@@ -4,37 +4,21 @@ use mathlib.Core.Bool.{Bool, true, false, cond, not, _&&_, true≢false}
 use mathlib.Core.List.{List, [], _∷_}
 use Prim.Native.Nat.{ℕ, _+_, _-_, _/_, _≤_, min, max}
 use native.Mathlib.Omega.{arith}
-use lib.Dec.{eqb, leb, ltb}
+use lib.Dec.{eqb, leb}
 use lib.ListN.{length}
 use borrow.Author.Tests.{eqb-true, eq-eqb}
 use Rattle.buffer.specs.Slice.{write}
 use Rattle.routing.specs.Arcs.{from, to}
-use Rattle.model.specs.Messages.{kindNumber}
 use Rattle.model.specs.declared.Kind.the-variants.{Update}
-use Rattle.frame.specs.Reasons.{reading, formNumber}
-use Rattle.frame.specs.Limits.{refusal}
-use Rattle.frame.specs.declared.Form.{Form}
-use Rattle.frame.specs.declared.Form.the-variants.{Good, TooShort, WrongMap, WrongLength, WrongSense, WrongLamp, WrongGateways}
 use Rattle.memory.specs.Records.{Gateway}
 use Rattle.memory.specs.Codec.{decode, encode}
 use Rattle.memory.specs.Soundness.{sound}
 use Rattle.memory.proofs.Validated.{and-left, and-right}
-use Rattle.gateway.specs.Effects.{Effect, Outcome, refused, settled, fits, bytesOfFrames, withAgreed}
+use Rattle.gateway.specs.Effects.{Effect, Outcome, refused, settled, withAgreed}
 use Rattle.gateway.specs.Rounds.{start, begun, isIdle, takeStart, takeLvt, takeUpdate, oneStart, oneLvt, awaited, bitOf, valueIn, frames, children}
-use Rattle.gateway.specs.Calls.{Left, onSound, leaving, refusedWith, takeBytes, takeFrame, unlessBelow}
+use Rattle.gateway.specs.Calls.{Left, onSound, leaving, refusedWith}
 use Rattle.gateway.specs.declared.Answer.{Answer}
-
--- the outcome of an effect for which there is room
-abbrev pub accepted : Effect → Outcome
-accepted e = record { number = 0; gateway = e .gateway; output = bytesOfFrames (e .frames) }
-
-pub settled-accepted : (room : ℕ) (g : Gateway) (e : Effect) → settled room g e .number ≡ 0 → settled room g e ≡ accepted e
-unfolding settled
-settled-accepted room g e = go (fits room e)
-  where
-    go : (b : Bool) → cond b (accepted e) (refused 5 g) .number ≡ 0 → cond b (accepted e) (refused 5 g) ≡ accepted e
-    go true h = refl
-    go false h = absurd (omega arith)
+use Rattle.run.proofs.AcceptedFrames.{outcomeOf, settles}
 
 -- what an accepted outcome leaves
 abbrev pub left : Outcome → List ℕ → List ℕ → Left Answer
@@ -65,28 +49,28 @@ on-sound call memory output = go (sound memory) (eqb (call (length output) (deco
 
 -- the start call
 pub start-accepted : (room : ℕ) (g : Gateway) → start room g .number ≡ 0
-    → (g .settings .own ≡ 0) × (isIdle (g .round .phase) ≡ true) × (start room g ≡ accepted (begun g))
+    → (g .settings .own ≡ 0) × (isIdle (g .round .phase) ≡ true) × (start room g ≡ outcomeOf (begun g))
 unfolding start
 start-accepted room g = go (eqb (g .settings .own) 0 && isIdle (g .round .phase)) refl
   where
     go : (b : Bool) → (eqb (g .settings .own) 0 && isIdle (g .round .phase)) ≡ b → cond b (settled room g (begun g)) (refused 4 g) .number ≡ 0
-        → (g .settings .own ≡ 0) × (isIdle (g .round .phase) ≡ true) × (cond b (settled room g (begun g)) (refused 4 g) ≡ accepted (begun g))
+        → (g .settings .own ≡ 0) × (isIdle (g .round .phase) ≡ true) × (cond b (settled room g (begun g)) (refused 4 g) ≡ outcomeOf (begun g))
     go true e h = (
       eqb-true (g .settings .own) 0 (and-left (eqb (g .settings .own) 0) (isIdle (g .round .phase)) e),
       and-right (eqb (g .settings .own) 0) (isIdle (g .round .phase)) e,
-      settled-accepted room g (begun g) h,
+      settles room g (begun g) h .comes-to,
     )
     go false e h = absurd (omega arith)
 
 -- a call that is refused with 4 out of turn
 in-turn-accepted : (room : ℕ) (g : Gateway) (e : Effect) (b : Bool) → cond b (settled room g e) (refused 4 g) .number ≡ 0
-    → cond b (settled room g e) (refused 4 g) ≡ accepted e
-in-turn-accepted room g e true h = settled-accepted room g e h
+    → cond b (settled room g e) (refused 4 g) ≡ outcomeOf e
+in-turn-accepted room g e true h = settles room g e h .comes-to
 in-turn-accepted room g e false h = absurd (omega arith)
 
 pub start-taken-accepted : (room k : ℕ) (g : Gateway) → takeStart room k g .number ≡ 0
     → let heard = from (g .settings .n) (g .settings .own) in
-    takeStart room k g ≡ accepted (oneStart heard (g .round .arrived + bitOf k heard) g)
+    takeStart room k g ≡ outcomeOf (oneStart heard (g .round .arrived + bitOf k heard) g)
 unfolding takeStart
 start-taken-accepted room k g h =
     let heard = from (g .settings .n) (g .settings .own) in
@@ -95,7 +79,7 @@ start-taken-accepted room k g h =
 
 pub lvt-taken-accepted : (room k hour : ℕ) (g : Gateway) → takeLvt room k hour g .number ≡ 0
     → let told = to (g .settings .n) (g .settings .own) in
-    takeLvt room k hour g ≡ accepted (oneLvt told (g .round .arrived + bitOf k told) (min (valueIn (g .round .phase) g) hour) g)
+    takeLvt room k hour g ≡ outcomeOf (oneLvt told (g .round .arrived + bitOf k told) (min (valueIn (g .round .phase) g) hour) g)
 unfolding takeLvt
 lvt-taken-accepted room k hour g h =
     let told = to (g .settings .n) (g .settings .own) in
@@ -104,54 +88,8 @@ lvt-taken-accepted room k hour g h =
 
 pub update-taken-accepted : (room k hour : ℕ) (g : Gateway) → takeUpdate room k hour g .number ≡ 0
     → takeUpdate room k hour g
-    ≡ accepted (record { gateway = withAgreed (max (g .agreed) hour) g; frames = frames Update hour (g .settings .own) (children (g .settings)) })
+    ≡ outcomeOf (record { gateway = withAgreed (max (g .agreed) hour) g; frames = frames Update hour (g .settings .own) (children (g .settings)) })
 unfolding takeUpdate
 update-taken-accepted room k hour g h =
     in-turn-accepted room g (record { gateway = withAgreed (max (g .agreed) hour) g; frames = frames Update hour (g .settings .own) (children (g .settings)) })
     (leb 1 (g .settings .own) && eqb k ((g .settings .own - 1) / 2)) h
-
--- an hour that is not below the agreed time
-pub not-below-accepted : (hour : ℕ) (g : Gateway) (r : Outcome) → unlessBelow hour g r .number ≡ 0 → unlessBelow hour g r ≡ r
-not-below-accepted hour g r = go (ltb hour (g .agreed))
-  where
-    go : (b : Bool) → cond b (refused 9 g) r .number ≡ 0 → cond b (refused 9 g) r ≡ r
-    go true h = absurd (omega arith)
-    go false h = refl
-
--- a form that is not refused is good
-form-good : (f : Form) → formNumber f ≡ 0 → f ≡ Good
-form-good Good h = refl
-form-good TooShort h = absurd (omega arith)
-form-good WrongMap h = absurd (omega arith)
-form-good WrongLength h = absurd (omega arith)
-form-good WrongSense h = absurd (omega arith)
-form-good WrongLamp h = absurd (omega arith)
-form-good WrongGateways h = absurd (omega arith)
-
--- taking a byte string that is one of the forms and passes 2 and 3
-pub bytes-accepted : (bytes : List ℕ) (room : ℕ) (g : Gateway) → takeBytes bytes room g .number ≡ 0
-    → (reading bytes .form ≡ Good)
-    × (refusal (reading bytes .frame) (g .settings .n) (g .settings .own) (g .settings .last) ≡ 0)
-    × (takeBytes bytes room g ≡ takeFrame room (reading bytes .frame) g)
-unfolding takeBytes
-bytes-accepted bytes room g =
-    go (eqb (formNumber (reading bytes .form)) 0 && not (eqb (kindNumber (reading bytes .frame .message .kind)) 3)) refl (eqb number 0) refl
-  where
-    number : ℕ
-    number = refusal (reading bytes .frame) (g .settings .n) (g .settings .own) (g .settings .last)
-
-    whole : Bool → Bool → Outcome
-    whole b d = cond b (cond d (takeFrame room (reading bytes .frame) g) (refused number g)) (refused 1 g)
-
-    go : (b : Bool) → (eqb (formNumber (reading bytes .form)) 0 && not (eqb (kindNumber (reading bytes .frame .message .kind)) 3)) ≡ b
-        → (d : Bool) → eqb number 0 ≡ d → whole b d .number ≡ 0
-        → (reading bytes .form ≡ Good) × (number ≡ 0) × (whole b d ≡ takeFrame room (reading bytes .frame) g)
-    go true e true f h = (
-      form-good (reading bytes .form)
-          (eqb-true (formNumber (reading bytes .form)) 0
-          (and-left (eqb (formNumber (reading bytes .form)) 0) (not (eqb (kindNumber (reading bytes .frame .message .kind)) 3)) e)),
-      eqb-true number 0 f,
-      refl,
-    )
-    go true e false f h = absurd (true≢false (sym (eq-eqb number 0 h) ∙ f))
-    go false e d f h = absurd (omega arith)

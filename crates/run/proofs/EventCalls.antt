@@ -84,7 +84,7 @@ pending-sorted (more {x = e} {xs = es} f a) m ms k = by-case (isPending e) refl 
     by-case false p ih = ih (rw p at k)
 
 -- the later part of an ordered list is ordered
-ascending-right : {A : Type 0} {R : A → A → Type 0} (us : List A) {vs : List A} → Ascending R (us ++ vs) → Ascending R vs
+pub ascending-right : {A : Type 0} {R : A → A → Type 0} (us : List A) {vs : List A} → Ascending R (us ++ vs) → Ascending R vs
 ascending-right [] a = a
 ascending-right (u ∷ us) (more f a) = ascending-right us a
 

@@ -7,7 +7,7 @@ use mathlib.Core.List.{List, [], _∷_}
 use lib.Dec.{ltb, leb, eqb}
 use lib.ListN.{length}
 use borrow.Author.Tests.{ltb-true, leb-true, eqb-true, lt-ltb}
-use Rattle.model.specs.Doing.{after, sent, sentFor, notPast, reply, requestHours, deliveryHours}
+use Rattle.model.specs.Doing.{after, sent, sentFor, notPast, reply, requestHours, deliveryHours, lifeHours}
 use Rattle.model.specs.Messages.{originOf}
 use Rattle.model.specs.declared.Kind.{Kind}
 use Rattle.model.specs.declared.Kind.the-variants.{Failure, Request, Delivery, Restock, Start, Lvt, Update}
@@ -183,3 +183,28 @@ module _ (n last : ℕ) (setups : ℕ → SetUp) where
     pub sends-all-sent : (s : State) (m : Message) → originOf (m .kind) < n → sendsAt i s m ≡ sent (siteAt i) s m
     unfolding sendsAt sent
     sends-all-sent s m h = passing-same deliverable (sent-for s m (m .kind) h)
+
+    -- the origin of what is sent is a gateway too
+    not-past : {p : Message → Type 0} (x : Message) → p x → All p (notPast last x)
+    not-past {p} x h = timely (leb (x .hour) last)
+      where
+        timely : (b : Bool) → All p (cond b (x ∷ []) [])
+        timely true = cons h nil
+        timely false = nil
+
+    origins-for : (s : State) (m : Message) (kind : Kind) → originOf kind < n → All (λ x. originOf (x .kind) < n) (sentFor (siteAt i) s m kind)
+    origins-for s m (Failure origin) h = not-past (reply (siteAt i) m requestHours (setups i .opening .supplier) (Request i)) here
+    origins-for s m (Request origin) h = by-stock (ltb 0 (s .stock))
+      where
+        by-stock : (b : Bool) → All (λ x. originOf (x .kind) < n) (cond b (notPast last (reply (siteAt i) m deliveryHours origin (Delivery origin))) (notPast last (reply (siteAt i) m requestHours (setups i .opening .supplier) (Request origin))))
+        by-stock true = not-past (reply (siteAt i) m deliveryHours origin (Delivery origin)) h
+        by-stock false = not-past (reply (siteAt i) m requestHours (setups i .opening .supplier) (Request origin)) h
+    origins-for s m (Delivery origin) h = not-past (reply (siteAt i) m lifeHours i (Failure i)) here
+    origins-for s m (Restock quantity) h = nil
+    origins-for s m Start h = nil
+    origins-for s m Lvt h = nil
+    origins-for s m Update h = nil
+
+    pub sends-origins : (s : State) (m : Message) → originOf (m .kind) < n → All (λ x. originOf (x .kind) < n) (sendsAt i s m)
+    unfolding sendsAt sent
+    sends-origins s m h = passing-all deliverable (origins-for s m (m .kind) h)

@@ -7,6 +7,10 @@ pub mod SavedStates
 pub mod UndoChains
 pub mod QueueChanges
 pub mod EventCalls
+pub mod SingleQueues
+pub mod Ledgers
+pub mod EventsUnderWay
+pub mod AcceptedFrames
 pub mod FigureGraph
 pub mod ArrivalBits
 pub mod Standing
