@@ -23,3 +23,4 @@ pub mod LeastHours
 pub mod FramesCut
 pub mod AcceptedCalls
 pub mod RoundForms
+pub mod RoundNotes
