@@ -24,3 +24,4 @@ pub mod FramesCut
 pub mod AcceptedCalls
 pub mod RoundForms
 pub mod RoundNotes
+pub mod RoundClaims
