@@ -25,3 +25,4 @@ pub mod AcceptedCalls
 pub mod RoundForms
 pub mod RoundNotes
 pub mod RoundClaims
+pub mod RoundOpening
