@@ -26,3 +26,4 @@ pub mod RoundForms
 pub mod RoundNotes
 pub mod RoundClaims
 pub mod RoundOpening
+pub mod StartOnBytes
