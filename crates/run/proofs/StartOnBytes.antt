@@ -2,21 +2,25 @@
 use mathlib.Core.Path.{_≡_, refl, sym, _∙_, ap, subst}
 use mathlib.Core.Bool.{Bool, true, false, cond, true≢false}
 use mathlib.Core.List.{List, [], _∷_, _++_, map}
-use Prim.Native.Nat.{ℕ, suc, _+_, _-_, _≤_}
+use Prim.Native.Nat.{ℕ, suc, _+_, _-_, _^_, _≤_, _<_}
 use native.Mathlib.Omega.{arith}
 use lib.Dec.{eqb}
 use lib.ListN.{length}
-use Rattle.frame.specs.Writing.{written}
+use Rattle.model.specs.Messages.{originOf, quantityOf}
+use Rattle.model.specs.declared.Kind.{Kind}
+use Rattle.frame.specs.Claims.{OneToOne}
+use Rattle.frame.specs.Writing.{written, wellFormed}
 use Rattle.frame.specs.declared.Frame.{Frame}
 use Rattle.memory.specs.Records.{Gateway}
 use Rattle.memory.specs.Codec.{decode}
-use Rattle.gateway.specs.Rounds.{start, begun, isIdle}
+use Rattle.gateway.specs.Rounds.{start, begun, isIdle, roundFrame, frames}
 use Rattle.gateway.specs.Calls.{started}
 use Rattle.timewarp.specs.Lists.{All}
 use Rattle.timewarp.specs.Models.{Model}
 use Rattle.timewarp.specs.RoundSteps
 use Rattle.timewarp.specs.Worlds
 use Rattle.timewarp.proofs.Joined.{Good}
+use Rattle.timewarp.proofs.ListLaws.{all-image, all-every}
 use Rattle.run.specs.World
 use Rattle.run.specs.World.{framesIn, carry, roundFrames, afterStarting}
 use Rattle.run.proofs.FigureGraph.{figureGraph}
@@ -29,7 +33,7 @@ use Rattle.run.proofs.RoundWorlds.{Alike, Led, Called, start-led}
 use Rattle.run.proofs.FramesCut.{Whole, frames-in}
 use Rattle.run.proofs.AcceptedFrames.{outcomeOf}
 use Rattle.run.proofs.AcceptedCalls.{left, on-sound, start-accepted}
-use Rattle.run.proofs.RoundForms.{counts, frames-counted}
+use Rattle.run.proofs.RoundForms.{counts, frames-counted, frames-readable, kind-counted}
 
 -- frames that are read as they are written, as long as the table says, and that count for a round
 pub record Sendable (open? : Bool) (fs : List Frame) : Type 0 where
@@ -77,3 +81,14 @@ module _ (n : ℕ) (some : 1 ≤ n) (M : Model) (equal : n - 1 ≡ M .last) (w :
       not-open alike z f (is-finished e q b) = absurd (alike .unfinished (ap (w .rounds .status) (sym z) ∙ q))
       not-open alike z f (is-counting e q b y) = absurd (true≢false (sym f ∙ ap isIdle e))
       not-open alike z f (is-stopped e q b y) = absurd (true≢false (sym f ∙ ap isIdle e))
+
+-- frames of one kind of a round to some gateways
+pub frames-sendable : OneToOne → (open? : Bool) (kind : Kind) → originOf kind ≡ 0 → quantityOf kind ≡ 0 → counts open? kind ≡ true
+    → (v i : ℕ) → v < 256 ^ 4 → i < 256 → ((j : ℕ) → wellFormed (roundFrame kind v i j) ≡ true) → ((j : ℕ) → Whole (roundFrame kind v i j))
+    → {js : List ℕ} → All (λ j. j < 256) js → Sendable open? (frames kind v i js)
+frames-sendable one open? kind o q e v i h l formed whole {js} a =
+    record {
+      readable = frames-readable one kind o q v i h l formed a;
+      whole = all-image (roundFrame kind v i) (all-every whole js);
+      counting = kind-counted open? kind v i js e;
+    }
