@@ -1,0 +1,210 @@
+-- The model of a forecast: the lamp model at N gateways, as the abstract theory knows a model.
+use mathlib.Core.Path.{_≡_, refl, sym, _∙_, ap, subst}
+use Prim.Native.Nat.{ℕ, _+_, _-_, _≤_, _<_}
+use native.Mathlib.Omega.{arith}
+use mathlib.Core.Bool.{Bool, true, false, cond, _&&_}
+use mathlib.Core.List.{List, [], _∷_}
+use lib.Dec.{ltb, leb, eqb}
+use lib.ListN.{length}
+use borrow.Author.Tests.{ltb-true, leb-true, eqb-true, lt-ltb}
+use Rattle.model.specs.Doing.{after, sent, sentFor, notPast, reply, requestHours, deliveryHours, lifeHours}
+use Rattle.model.specs.Messages.{originOf}
+use Rattle.model.specs.declared.Kind.{Kind}
+use Rattle.model.specs.declared.Kind.the-variants.{Failure, Request, Delivery, Restock, Start, Lvt, Update}
+use Rattle.model.specs.EventOrder.{key}
+use Rattle.model.specs.declared.Message.{Message}
+use Rattle.model.specs.declared.State.{State}
+use Rattle.model.specs.declared.Site.{Site}
+use Rattle.model.proofs.Ordered.{key-injective}
+use Rattle.model.proofs.Sending.{sending}
+use Rattle.frame.specs.Limits.{nothingDue}
+use Rattle.memory.proofs.Validated.{and-left, and-right, and-both}
+use Rattle.gateway.specs.SettingUp.{cutFrames, queued}
+use Rattle.gateway.specs.Working.{pendingOf}
+use Rattle.timewarp.specs.Lists.{All, nil, cons}
+use Rattle.timewarp.specs.Models.{Model, first}
+use Rattle.timewarp.proofs.ListLaws.{all-map}
+use Rattle.run.specs.SingleQueue.{SetUp}
+
+-- the elements that pass the test
+unfoldable pub passing : {A : Type 0} → (A → Bool) → List A → List A
+passing f [] = []
+passing f (x ∷ xs) = let rest = passing f xs in cond (f x) (x ∷ rest) rest
+
+module _ {A : Type 0} (f : A → Bool) where
+  -- they all do
+  pub passing-pass : (xs : List A) → All (λ x. f x ≡ true) (passing f xs)
+  unfolding passing
+  passing-pass [] = nil
+  passing-pass (x ∷ xs) = by-case (f x) refl (passing-pass xs)
+    where
+      by-case : (t : Bool) → f x ≡ t → All (λ x. f x ≡ true) (passing f xs) → All (λ x. f x ≡ true) (cond t (x ∷ passing f xs) (passing f xs))
+      by-case true e a = cons e a
+      by-case false e a = a
+
+  -- and have what all have
+  pub passing-all : {p : A → Type 0} {xs : List A} → All p xs → All p (passing f xs)
+  unfolding passing
+  passing-all nil = nil
+  passing-all {p} (cons {a = x} {l = xs} h a) = by-case (f x) (passing-all a)
+    where
+      by-case : (t : Bool) → All p (passing f xs) → All p (cond t (x ∷ passing f xs) (passing f xs))
+      by-case true b = cons h b
+      by-case false b = b
+
+  pub passing-length : (xs : List A) → length (passing f xs) ≤ length xs
+  unfolding passing
+  passing-length [] = omega arith
+  passing-length (x ∷ xs) = by-case (f x) (passing-length xs)
+    where
+      by-case : (t : Bool) → length (passing f xs) ≤ length xs → length (cond t (x ∷ passing f xs) (passing f xs)) ≤ length (x ∷ xs)
+      by-case true h = omega arith
+      by-case false h = omega arith
+
+  -- where all pass, nothing is left out
+  pub passing-same : {xs : List A} → All (λ x. f x ≡ true) xs → passing f xs ≡ xs
+  unfolding passing
+  passing-same nil = refl
+  passing-same (cons {a = x} {l = xs} h a) = rw (h, passing-same a)
+
+-- a list of at most one element has what that element has
+pub all-of-one : {A : Type 0} {p : A → Type 0} (xs : List A) → length xs ≤ 1 → ((x : A) → xs ≡ x ∷ [] → p x) → All p xs
+all-of-one [] h f = nil
+all-of-one (x ∷ []) h f = cons (f x refl) nil
+all-of-one (x ∷ y ∷ xs) h f = absurd (omega arith)
+
+module _ (n last : ℕ) (setups : ℕ → SetUp) where
+  -- where gateway i does its messages
+  abbrev pub siteAt : ℕ → Site
+  siteAt i = record { own = i; supplier = setups i .opening .supplier; last = last }
+
+  -- a message to one of the gateways, of an hour
+  abbrev pub deliverable : Message → Bool
+  deliverable m = ltb (m .to) n && ltb (m .hour) nothingDue
+
+  -- an opening message of gateway i, of an hour
+  abbrev pub openingHere : ℕ → Message → Bool
+  openingHere i m = eqb (m .to) i && ltb (m .hour) nothingDue
+
+  -- gateway i's opening messages in event order, as set up puts them into the queue
+  unfoldable pub openingAt : ℕ → List Message
+  openingAt i = let list = setups i .list in pendingOf (queued [] (cutFrames (length list) list))
+
+  -- what doing m at gateway i sends
+  unfoldable pub sendsAt : ℕ → State → Message → List Message
+  sendsAt i s m = passing deliverable (sent (siteAt i) s m)
+
+  -- what is proved of each message that is sent
+  sends-all : (i : ℕ) (s : State) (m : Message) {p : Message → Type 0} → ((x : Message) → sent (siteAt i) s m ≡ x ∷ [] → p x) → All p (sendsAt i s m)
+  unfolding sendsAt
+  sends-all i s m f = passing-all deliverable (all-of-one (sent (siteAt i) s m) (sending (siteAt i) s m .one) f)
+
+  sends-pass : (i : ℕ) (s : State) (m : Message) → All (λ x. deliverable x ≡ true) (sendsAt i s m)
+  unfolding sendsAt
+  sends-pass i s m = passing-pass deliverable (sent (siteAt i) s m)
+
+  -- the model's laws
+  pub opening-here : (i : ℕ) → All (λ y. y .to ≡ i) (passing (openingHere i) (openingAt i))
+  opening-here i =
+      all-map (λ y h. eqb-true (y .to) i (and-left (eqb (y .to) i) (ltb (y .hour) nothingDue) h)) (passing-pass (openingHere i) (openingAt i))
+
+  pub opening-due : (i : ℕ) → All (λ y. first (key y) < nothingDue) (passing (openingHere i) (openingAt i))
+  unfolding first key
+  opening-due i =
+      all-map (λ y h. ltb-true (y .hour) nothingDue (and-right (eqb (y .to) i) (ltb (y .hour) nothingDue) h)) (passing-pass (openingHere i) (openingAt i))
+
+  pub sends-one : (i : ℕ) (s : State) (m : Message) → length (sendsAt i s m) ≤ 1
+  unfolding sendsAt
+  sends-one i s m = omega (arith, passing-length deliverable (sent (siteAt i) s m), sending (siteAt i) s m .one)
+
+  pub sends-from : (i : ℕ) (s : State) (m : Message) → All (λ y. y .from ≡ i) (sendsAt i s m)
+  sends-from i s m = sends-all i s m (λ x e. sending (siteAt i) s m .source x e)
+
+  pub sends-inside : (i : ℕ) (s : State) (m : Message) → All (λ y. y .to ≤ n - 1) (sendsAt i s m)
+  sends-inside i s m =
+      all-map (λ y h. omega (arith, ltb-true (y .to) n (and-left (ltb (y .to) n) (ltb (y .hour) nothingDue) h))) (sends-pass i s m)
+
+  pub sends-later : (i : ℕ) (s : State) (m : Message) → All (λ y. first (key m) < first (key y)) (sendsAt i s m)
+  unfolding first key
+  sends-later i s m = sends-all i s m (λ x e. sending (siteAt i) s m .later x e)
+
+  pub sends-due : (i : ℕ) (s : State) (m : Message) → All (λ y. first (key y) < nothingDue) (sendsAt i s m)
+  unfolding first key
+  sends-due i s m =
+      all-map (λ y h. ltb-true (y .hour) nothingDue (and-right (ltb (y .to) n) (ltb (y .hour) nothingDue) h)) (sends-pass i s m)
+
+  -- the model
+  abbrev pub forecastModel : Model
+  forecastModel = record {
+    Message = Message;
+    State = State;
+    key = key;
+    from = λ m. m .from;
+    to = λ m. m .to;
+    last = n - 1;
+    never = nothingDue;
+    start = λ i. record { stock = setups i .opening .stock; failed = 0; fitted = 0; short = 0 };
+    opening = λ i. passing (openingHere i) (openingAt i);
+    step = λ i s m. after s (m .kind);
+    sends = sendsAt;
+    key-injective = key-injective;
+    opening-here = opening-here;
+    opening-due = opening-due;
+    sends-one = sends-one;
+    sends-from = sends-from;
+    sends-inside = sends-inside;
+    sends-later = sends-later;
+    sends-due = sends-due;
+  }
+
+  -- at a gateway below N, with its supplier and the message's origin below N, nothing that the lamp model sends is left out
+  module _ (i : ℕ) (here : i < n) (supplied : setups i .opening .supplier < n) (hours : last < nothingDue) where
+    replied : (m : Message) (extra to : ℕ) (kind : Kind) → to < n → All (λ x. deliverable x ≡ true) (notPast last (reply (siteAt i) m extra to kind))
+    replied m extra to kind h = timely (leb (m .hour + extra) last) refl
+      where
+        timely : (b : Bool) → leb (m .hour + extra) last ≡ b → All (λ x. deliverable x ≡ true) (cond b (reply (siteAt i) m extra to kind ∷ []) [])
+        timely true e =
+            cons (and-both (ltb to n) (ltb (m .hour + extra) nothingDue) (lt-ltb to n h) (lt-ltb (m .hour + extra) nothingDue (omega (arith, leb-true (m .hour + extra) last e)))) nil
+        timely false e = nil
+
+    sent-for : (s : State) (m : Message) (kind : Kind) → originOf kind < n → All (λ x. deliverable x ≡ true) (sentFor (siteAt i) s m kind)
+    sent-for s m (Failure origin) h = replied m _ _ _ supplied
+    sent-for s m (Request origin) h = by-stock (ltb 0 (s .stock))
+      where
+        by-stock : (b : Bool) → All (λ x. deliverable x ≡ true) (cond b (notPast last (reply (siteAt i) m deliveryHours origin (Delivery origin))) (notPast last (reply (siteAt i) m requestHours (setups i .opening .supplier) (Request origin))))
+        by-stock true = replied m deliveryHours origin (Delivery origin) h
+        by-stock false = replied m requestHours (setups i .opening .supplier) (Request origin) supplied
+    sent-for s m (Delivery origin) h = replied m _ _ _ here
+    sent-for s m (Restock quantity) h = nil
+    sent-for s m Start h = nil
+    sent-for s m Lvt h = nil
+    sent-for s m Update h = nil
+
+    pub sends-all-sent : (s : State) (m : Message) → originOf (m .kind) < n → sendsAt i s m ≡ sent (siteAt i) s m
+    unfolding sendsAt sent
+    sends-all-sent s m h = passing-same deliverable (sent-for s m (m .kind) h)
+
+    -- the origin of what is sent is a gateway too
+    not-past : {p : Message → Type 0} (x : Message) → p x → All p (notPast last x)
+    not-past {p} x h = timely (leb (x .hour) last)
+      where
+        timely : (b : Bool) → All p (cond b (x ∷ []) [])
+        timely true = cons h nil
+        timely false = nil
+
+    origins-for : (s : State) (m : Message) (kind : Kind) → originOf kind < n → All (λ x. originOf (x .kind) < n) (sentFor (siteAt i) s m kind)
+    origins-for s m (Failure origin) h = not-past (reply (siteAt i) m requestHours (setups i .opening .supplier) (Request i)) here
+    origins-for s m (Request origin) h = by-stock (ltb 0 (s .stock))
+      where
+        by-stock : (b : Bool) → All (λ x. originOf (x .kind) < n) (cond b (notPast last (reply (siteAt i) m deliveryHours origin (Delivery origin))) (notPast last (reply (siteAt i) m requestHours (setups i .opening .supplier) (Request origin))))
+        by-stock true = not-past (reply (siteAt i) m deliveryHours origin (Delivery origin)) h
+        by-stock false = not-past (reply (siteAt i) m requestHours (setups i .opening .supplier) (Request origin)) h
+    origins-for s m (Delivery origin) h = not-past (reply (siteAt i) m lifeHours i (Failure i)) here
+    origins-for s m (Restock quantity) h = nil
+    origins-for s m Start h = nil
+    origins-for s m Lvt h = nil
+    origins-for s m Update h = nil
+
+    pub sends-origins : (s : State) (m : Message) → originOf (m .kind) < n → All (λ x. originOf (x .kind) < n) (sendsAt i s m)
+    unfolding sendsAt sent
+    sends-origins s m h = passing-all deliverable (origins-for s m (m .kind) h)

@@ -1,0 +1,1 @@
+// Demand 3: the run of N gateways, as definitions.
