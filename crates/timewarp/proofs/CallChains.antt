@@ -26,7 +26,7 @@ steps-join s none = s
 steps-join s (then t x) = then (steps-join s t) x
 
 -- An element that stands in the first of two lists.
-insert-append : {A : Type 0} {a : A} {l m : List A} (k : List A) → Insert a l m → Insert a (l ++ k) (m ++ k)
+pub insert-append : {A : Type 0} {a : A} {l m : List A} (k : List A) → Insert a l m → Insert a (l ++ k) (m ++ k)
 insert-append k here = here
 insert-append k (there i) = there (insert-append k i)
 
