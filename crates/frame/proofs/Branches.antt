@@ -7,12 +7,13 @@ use lib.Dec.{leb, ltb, eqb}
 use lib.ListN.{length, getD}
 use mathlib.Core.List.{List}
 use borrow.Author.Tests.{le-leb, lt-leb, lt-ltb, le-ltb, eq-eqb, ne-eqb, not-true, not-false}
-use Rattle.model.specs.Messages.{kindOf}
+use Rattle.model.specs.Messages.{kindNumber, kindOf}
 use Rattle.model.specs.declared.Kind.the-variants.{Failure, Request, Delivery, Restock, Start, Lvt, Update}
 use Rattle.frame.specs.Layout.{wholeLength}
 use Rattle.frame.specs.Kinds.{mapOfKind, senseOf}
 use Rattle.frame.specs.Writing.{lampFits, gatewaysAgree}
 use Rattle.frame.specs.Reasons.{mapFits, senseFits, fieldsOf, frameOf, fieldsForm, formOf, reading, readAs, refusedAs}
+use Rattle.frame.specs.Lamps.{isGood, carriesLamp}
 use Rattle.frame.specs.declared.Sense.the-variants.{Plain}
 use Rattle.frame.specs.declared.Frame.{Frame}
 use Rattle.frame.specs.declared.Form.the-variants.{Good, TooShort, WrongMap, WrongLength, WrongSense, WrongLamp, WrongGateways}
@@ -112,3 +113,11 @@ module _ (s : List ℕ) where
       judged d p q =
           let match : eqb (length s) (wholeLength (getD s 0 0)) ≡ true = eq-eqb _ _ (d ∙ l) in
           q ∙ rw (p, le-leb 2 (length s) h, sym e ∙ not-false fits k, match)
+
+-- whether a reading has a lamp
+module _ (r : Reading) {good : Bool} (e : good ≡ isGood (r .form)) where
+  pub lamp-unread : not good ≡ true → false ≡ carriesLamp r
+  lamp-unread h = rw (sym e ∙ not-true good h)
+
+  pub lamp-read : {number : ℕ} → not good ≡ false → number ≡ kindNumber (r .frame .message .kind) → leb number 2 ≡ carriesLamp r
+  lamp-read h k = rw (sym e ∙ not-false good h, k)

@@ -5,3 +5,10 @@ pub mod Agreement
 pub mod Branches
 pub mod Walking
 pub mod Places
+pub mod Turning
+pub mod Output
+pub mod Accepted
+pub mod Cutting
+pub mod ReadFirst
+pub mod WriteFirst
+pub mod Laws

@@ -3,6 +3,7 @@ pub mod Layout
 pub mod Kinds
 pub mod Writing
 pub mod Reasons
+pub mod Lamps
 pub mod Steps
 pub mod Limits
 pub mod Claims

@@ -1,9 +1,12 @@
--- What the reader's own functions do, one step each. No public promise cites these.
+-- What single steps of the reader and the writer do. Only their own functions cite these, and no public promise.
 use Prim.Native.Nat.{ℕ}
 use mathlib.Core.Bool.{cond}
-use mathlib.Core.List.{List, []}
-use lib.Dec.{eqb}
-use Rattle.buffer.specs.Number.{numberOf}
+use mathlib.Core.List.{List, [], _∷_, _++_}
+use lib.Dec.{leb, eqb}
+use Rattle.buffer.specs.Number.{bytesOf, numberOf}
+use Rattle.model.specs.Messages.{kindNumber, originOf, quantityOf}
+use Rattle.model.specs.declared.Message.{Message}
+use Rattle.frame.specs.Layout.{gatewayWidth}
 use Rattle.frame.specs.Reasons.{lampOf, valuesOf}
 use Rattle.frame.specs.declared.reader.Fields.{Fields}
 
@@ -24,3 +27,26 @@ stored bit bytes v = record {
   quantity = cond (eqb bit 6) (numberOf bytes) (v .quantity);
   sense = cond (eqb bit 7) (numberOf bytes) (v .sense);
 }
+
+-- map, kind, from and to
+unfoldable pub headBytes : ℕ → Message → List ℕ
+headBytes map m = map ∷ (bytesOf 1 (kindNumber (m .kind)) ++ (bytesOf gatewayWidth (m .from) ++ bytesOf gatewayWidth (m .to)))
+
+-- origin and lamp
+unfoldable pub lampBytes : ℕ → List ℕ → List ℕ
+lampBytes origin lamp = bytesOf gatewayWidth origin ++ lamp
+
+-- hour, origin, lamp and quantity, as far as the kind with that number has them
+unfoldable pub bodyOf : ℕ → Message → List ℕ
+unfolding lampBytes
+bodyOf kind m =
+    cond (eqb kind 4) []
+    (bytesOf 4 (m .hour)
+    ++ cond (leb kind 2) (lampBytes (originOf (m .kind)) (m .lamp)) (cond (eqb kind 3) (bytesOf 2 (quantityOf (m .kind))) []))
+
+abbrev pub bodyBytes : Message → List ℕ
+bodyBytes m = bodyOf (kindNumber (m .kind)) m
+
+-- the sense with that number, where there is one
+unfoldable pub senseBytes : ℕ → List ℕ
+senseBytes sense = cond (leb 1 sense) (bytesOf 1 sense) []

@@ -1,5 +1,6 @@
 -- What a frame is written as, and which values are frames.
-use Prim.Native.Nat.{ℕ, _+_, _<_, _≤_}
+use mathlib.Core.Path.{_≡_}
+use Prim.Native.Nat.{ℕ, _+_}
 use mathlib.Core.Bool.{Bool, true, false, cond, _&&_, _||_}
 use mathlib.Core.List.{List, [], _∷_}
 use lib.Dec.{leb, eqb}
@@ -69,6 +70,11 @@ wellFormed f =
     && hourFits (kindNumber (f .message .kind)) (f .message .hour)
     && lampFits (f .message)
     && gatewaysAgree (f .message .from) (f .message .to) (f .message .kind)
+
+-- bytes put into an output from a position on: the position behind them, and the output afterwards
+pub record Puts (at : ℕ) (bytes before after : List ℕ) (behind : ℕ) : Type 0 where
+  pub position : behind ≡ at + length bytes
+  pub output : after ≡ write at bytes before
 
 -- this paper's number of an answer: 1 no frame, 5 no room
 abbrev pub answerNumber : Answer → ℕ

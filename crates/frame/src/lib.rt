@@ -2,9 +2,11 @@
 // numbers and hour.
 use model::Message;
 
+pub mod limits; // limits.rt: which frames a gateway turns down for their numbers and their hour
 pub mod reader; // reader.rt: what a byte string is, and the lamp's part of it
 pub mod rules; // rules.rt: what a message of each kind has to keep to
 pub mod tables; // tables.rt: the table of kinds and the table of lengths
+pub mod writer; // writer.rt: what a frame is written as
 
 // What a frame says of its message. A plain message has no sense.
 pub enum Sense {

@@ -11,6 +11,7 @@ use buffer::read16;
 use buffer::read32;
 use model::Kind;
 use model::Message;
+use model::kind_number;
 ghost use mathlib.Core.Path.{_≡_};
 ghost use Prim.Native.Nat.{_+_, _<_, _≤_};
 ghost use lib.ListN.{length, getD};
@@ -20,6 +21,7 @@ ghost use Rattle.model.specs.Messages.{kindOf};
 ghost use Rattle.frame.specs.Layout.{widths, wholeLength};
 ghost use Rattle.frame.specs.Kinds.{senseOf};
 ghost use Rattle.frame.specs.Reasons.{reading, readAs, refusedAs, fieldsForm, fieldsOf, frameOf, mapFits, senseFits};
+ghost use Rattle.frame.specs.Lamps.{isGood, carriesLamp, IsLamp};
 ghost use Rattle.frame.specs.Steps.{stored, noFields};
 
 // The width of each field, bit 0 first.
@@ -53,6 +55,44 @@ pub fn read(bytes: &[u8]) -> Reading
         return refused(Form::WrongLength);
     }
     judge(map, walk(bytes, map))
+}
+
+// The eighteen bytes of a frame's lamp, as the part of the frame that holds them. The empty part stands for 1: no frame, or
+// a frame without a lamp.
+pub fn lamp(frame: &[u8]) -> &[u8]
+    ensures { λ r. ⌜ IsLamp (frame .entry) r ⌝ }
+{
+    if carries_lamp(read(frame)) {
+        return &frame[9..27];
+    }
+    &frame[0..0]
+}
+
+fn carries_lamp(reading: Reading) -> bool
+    ensures { λ r. ⌜ r ≡ carriesLamp reading ⌝ }
+{
+    let form = reading.form;
+    let frame = reading.frame;
+    let message = frame.message;
+    let kind = message.kind;
+    if !is_good(form) {
+        return false;
+    }
+    kind_number(kind) <= 2
+}
+
+pub fn is_good(form: Form) -> bool
+    ensures { λ r. ⌜ r ≡ isGood form ⌝ }
+{
+    match form {
+        Form::Good => true,
+        Form::TooShort => false,
+        Form::WrongMap => false,
+        Form::WrongLength => false,
+        Form::WrongSense => false,
+        Form::WrongLamp => false,
+        Form::WrongGateways => false,
+    }
 }
 
 // The last three reasons.
@@ -145,7 +185,7 @@ fn read8(bytes: &[u8], at: usize) -> u8
 }
 
 // The eighteen bytes from a position on.
-fn read_lamp(bytes: &[u8], at: usize) -> [u8; 18]
+pub fn read_lamp(bytes: &[u8], at: usize) -> [u8; 18]
     requires { ⌜ at + 18 ≤ length (now bytes) ⌝ }
     ensures { λ r. ⌜ r ≡ part (now (bytes .entry)) at 18 ⌝ }
 {

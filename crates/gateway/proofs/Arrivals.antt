@@ -1,29 +1,24 @@
 -- The round at a gateway after each of its steps: phase and arrivals are possible, and the note fits its field.
-use mathlib.Core.Path.{_≡_, refl, sym, _∙_, ap, subst}
+use mathlib.Core.Path.{_≡_, refl, ap}
 use mathlib.Core.Bool.{Bool, true, false, cond, not, _&&_, _||_, true≢false, false≢true}
 use mathlib.Core.List.{List, [], _∷_}
-use Prim.Native.Nat.{ℕ, zero, suc, _+_, _*_, _≤_, _<_, min, max}
+use Prim.Native.Nat.{ℕ, zero, suc, _+_, _*_, _≤_, _<_, min}
 use native.Mathlib.Omega.{arith}
-use lib.Dec.{leb, ltb, eqb}
+use lib.Dec.{leb, eqb}
 use lib.ListN.{length}
-use borrow.Author.Tests.{leb-true, eqb-true, eqb-false, not-true, le-leb, eq-eqb}
-use Rattle.routing.specs.Arcs.{from, to, mid0, mid1}
+use borrow.Author.Tests.{leb-true, eqb-true, eqb-false, not-true, le-leb}
+use Rattle.routing.specs.Arcs.{from, to}
 use Rattle.routing.proofs.Shape.{From, To}
 use Rattle.routing.proofs.Theorems.{from-case, to-case, laws}
-use Rattle.model.specs.declared.Kind.the-variants.{Start, Lvt, Update}
 use Rattle.frame.specs.Limits.{nothingDue}
 use Rattle.memory.specs.Records.{Gateway}
-use Rattle.memory.specs.Validity.{oneOfTwo, arrivalsPossible, roundPossible, isProcessed}
-use Rattle.memory.specs.declared.Settings.{Settings}
-use Rattle.memory.specs.declared.Entry.{Entry}
+use Rattle.memory.specs.Validity.{oneOfTwo, arrivalsPossible, roundPossible}
 use Rattle.memory.specs.declared.Sent.{Sent}
-use Rattle.memory.specs.declared.Round.{Round}
 use Rattle.memory.specs.declared.Phase.{Phase}
 use Rattle.memory.specs.declared.Phase.the-variants.{Idle, Counting, Stopped}
-use Rattle.memory.proofs.Validated.{and-left, and-right, and-both, ValidSettings}
-use Rattle.gateway.specs.Effects.{Effect, withAgreed, withRound}
-use Rattle.gateway.specs.Rounds.{leastOutstanding, leastQueued, frames, children, idle, valueAt, finished, begun, isIdle, bitOf, allBits, stands, awaited, oneStart, valueIn, oneLvt}
-use Rattle.gateway.proofs.Changes.{Standing, with-round, with-agreed}
+use Rattle.memory.proofs.Validated.{and-left, and-right, and-both}
+use Rattle.gateway.specs.Rounds.{leastOutstanding, idle, valueAt, finished, begun, isIdle, bitOf, allBits, stands, awaited, oneStart, valueIn, oneLvt}
+use Rattle.gateway.proofs.Maintaining.{Standing, with-round, with-agreed, either-stands}
 
 -- a gateway has at most two arcs each way
 few-from : {N A B i : ℕ} {l : List ℕ} → From N A B i l → length l ≤ 2
@@ -49,12 +44,14 @@ one-of-two-is : {arcs arrived : ℕ} → eqb arcs 2 ≡ true → oneOfTwo arrive
 one-of-two-is {arcs} {arrived} h k =
     one-of-two (eqb-true arcs 2 h) (leb-true 1 arrived (and-left (leb 1 arrived) (leb arrived 2) k)) (leb-true arrived 2 (and-right (leb 1 arrived) (leb arrived 2) k))
 
-arrived-idle : (arrived froms tos : ℕ) → arrivalsPossible arrived froms tos Idle ≡ true → Arrived froms arrived
-arrived-idle arrived froms tos = by-case (eqb arrived 0) refl
+arrived-idle : (arrived froms tos : ℕ) (phase : Phase) → isIdle phase ≡ true → arrivalsPossible arrived froms tos phase ≡ true → Arrived froms arrived
+arrived-idle arrived froms tos Idle h = by-case (eqb arrived 0) refl
   where
     by-case : (b : Bool) → eqb arrived 0 ≡ b → (b || (eqb froms 2 && oneOfTwo arrived)) ≡ true → Arrived froms arrived
-    by-case true e h = nothing (eqb-true arrived 0 e)
-    by-case false e h = one-of-two-is (and-left (eqb froms 2) (oneOfTwo arrived) h) (and-right (eqb froms 2) (oneOfTwo arrived) h)
+    by-case true e k = nothing (eqb-true arrived 0 e)
+    by-case false e k = one-of-two-is (and-left (eqb froms 2) (oneOfTwo arrived) k) (and-right (eqb froms 2) (oneOfTwo arrived) k)
+arrived-idle arrived froms tos Counting h = absurd (false≢true h)
+arrived-idle arrived froms tos Stopped h = absurd (false≢true h)
 
 arrived-open : (arrived froms tos : ℕ) (phase : Phase) → isIdle phase ≡ false → arrivalsPossible arrived froms tos phase ≡ true → Arrived tos arrived
 arrived-open arrived froms tos Idle h k = absurd (true≢false h)
@@ -114,76 +111,55 @@ unfolding leastOutstanding
 outstanding-most [] = omega arith
 outstanding-most (x ∷ xs) = omega (arith, outstanding-most xs)
 
+-- the gateways that it hears from, and those that it tells
+abbrev heardBy : Gateway → List ℕ
+heardBy g = from (g .settings .n) (g .settings .own)
+
+abbrev toldBy : Gateway → List ℕ
+toldBy g = to (g .settings .n) (g .settings .own)
+
 -- the steps of a round
 module _ {g : Gateway} (k : Standing (g .settings) g) where
-  few-heard : length (from (g .settings .n) (g .settings .own)) ≤ 2
+  few-heard : length (heardBy g) ≤ 2
   few-heard = few-from (from-case (g .settings .n) (k .settings .some) (g .settings .own) (k .settings .own))
 
-  few-told : length (to (g .settings .n) (g .settings .own)) ≤ 2
+  few-told : length (toldBy g) ≤ 2
   few-told = few-to (to-case (g .settings .n) (k .settings .some) (g .settings .own) (k .settings .own))
 
   -- only the last gateway tells none
-  some-told : eqb (g .settings .own + 1) (g .settings .n) ≡ false → 1 ≤ length (to (g .settings .n) (g .settings .own))
-  some-told h = by-case (to (g .settings .n) (g .settings .own)) refl
+  some-told : eqb (g .settings .own + 1) (g .settings .n) ≡ false → 1 ≤ length (toldBy g)
+  some-told h = by-case (toldBy g) refl
     where
-      by-case : (l : List ℕ) → to (g .settings .n) (g .settings .own) ≡ l → 1 ≤ length l
+      by-case : (l : List ℕ) → toldBy g ≡ l → 1 ≤ length l
       by-case [] e = absurd (eqb-false (g .settings .own + 1) (g .settings .n) h (laws (g .settings .n) (k .settings .some) .last (g .settings .own) (k .settings .own) .0 e))
       by-case (x ∷ l) e = omega arith
 
   pub finished-stands : (value : ℕ) → value < 4294967296 → Standing (g .settings) (finished value g .gateway)
   unfolding finished roundPossible
-  finished-stands value h = by-case (eqb (g .settings .own) 0)
-    where
-      by-case : (b : Bool)
-          → Standing (g .settings) (cond {A = Effect} b
-          (record { gateway = withAgreed value (withRound idle g); frames = frames Update value (g .settings .own) (children (g .settings)) })
-          (record { gateway = withRound idle g; frames = frames Lvt value (g .settings .own) (from (g .settings .n) (g .settings .own)) }) .gateway)
-      by-case true = with-agreed (with-round k idle refl (omega arith)) value h
-      by-case false = with-round k idle refl (omega arith)
+  finished-stands value h =
+      let closed = with-round k idle refl (omega arith) in
+      either-stands (eqb (g .settings .own) 0) _ _ (λ e. with-agreed closed value h) (λ e. closed)
 
   pub begun-stands : Standing (g .settings) (begun g .gateway)
   unfolding begun roundPossible
-  begun-stands = by-case (eqb (g .settings .own + 1) (g .settings .n)) refl
-    where
-      note : ℕ
-      note = leastOutstanding (g .outstanding)
-
-      by-case : (b : Bool) → eqb (g .settings .own + 1) (g .settings .n) ≡ b
-          → Standing (g .settings) (cond {A = Effect} b
-          (finished (valueAt note g) g)
-          (record { gateway = withRound (record { phase = Counting; arrived = 0; note = note }) g; frames = frames Start 0 (g .settings .own) (to (g .settings .n) (g .settings .own)) }) .gateway)
-      by-case true h = finished-stands (valueAt note g) (omega (arith, outstanding-most (g .outstanding)))
-      by-case false h =
-          with-round k (record { phase = Counting; arrived = 0; note = note }) (le-leb 1 (length (to (g .settings .n) (g .settings .own))) (some-told h))
-          (omega (arith, outstanding-most (g .outstanding)))
+  begun-stands =
+      let note = leastOutstanding (g .outstanding) in
+      let few : note < 4294967296 = omega (arith, outstanding-most (g .outstanding)) in
+      either-stands (eqb (g .settings .own + 1) (g .settings .n)) _ _
+      (λ e. finished-stands (valueAt note g) (omega arith))
+      (λ e. with-round k _ (le-leb 1 (length (toldBy g)) (some-told e)) few)
 
   -- taking a Start
-  pub start-stands : (from′ : ℕ) → isIdle (g .round .phase) ≡ true → awaited from′ (from (g .settings .n) (g .settings .own)) (g .round .arrived) ≡ true
-      → Standing (g .settings) (oneStart (from (g .settings .n) (g .settings .own)) (g .round .arrived + bitOf from′ (from (g .settings .n) (g .settings .own))) g .gateway)
+  pub start-stands : (sender : ℕ) → isIdle (g .round .phase) ≡ true → awaited sender (heardBy g) (g .round .arrived) ≡ true
+      → Standing (g .settings) (oneStart (heardBy g) (g .round .arrived + bitOf sender (heardBy g)) g .gateway)
   unfolding oneStart roundPossible
-  start-stands from′ h w = by-case (eqb arrived (allBits heard)) refl
-    where
-      heard : List ℕ
-      heard = from (g .settings .n) (g .settings .own)
-
-      arrived : ℕ
-      arrived = g .round .arrived + bitOf from′ heard
-
-      so-far : (phase : Phase) → isIdle phase ≡ true → arrivalsPossible (g .round .arrived) (length heard) (length (to (g .settings .n) (g .settings .own))) phase ≡ true → Arrived (length heard) (g .round .arrived)
-      so-far Idle h k = arrived-idle (g .round .arrived) (length heard) (length (to (g .settings .n) (g .settings .own))) k
-      so-far Counting h k = absurd (false≢true h)
-      so-far Stopped h k = absurd (false≢true h)
-
-      possible : OneOfTwo (length heard) arrived → (eqb arrived 0 || (eqb (length heard) 2 && oneOfTwo arrived)) ≡ true
-      possible o = or-right (eqb arrived 0) (and-both (eqb (length heard) 2) (oneOfTwo arrived) (o .two) (o .one))
-
-      by-case : (b : Bool) → eqb arrived (allBits heard) ≡ b
-          → Standing (g .settings) (cond {A = Effect} b (begun g) (record { gateway = withRound (record { phase = Idle; arrived = arrived; note = g .round .note }) g; frames = [] }) .gateway)
-      by-case true e = begun-stands
-      by-case false e =
-          with-round k (record { phase = Idle; arrived = arrived; note = g .round .note })
-          (possible (one-more from′ heard (g .round .arrived) few-heard (so-far (g .round .phase) h (k .round)) w e))
-          (k .note)
+  start-stands sender h w =
+      let arrived = g .round .arrived + bitOf sender (heardBy g) in
+      either-stands (eqb arrived (allBits (heardBy g))) _ _
+      (λ e. begun-stands)
+      (λ e.
+      let o = one-more sender (heardBy g) (g .round .arrived) few-heard (arrived-idle (g .round .arrived) (length (heardBy g)) (length (toldBy g)) (g .round .phase) h (k .round)) w e in
+      with-round k _ (or-right (eqb arrived 0) (and-both (eqb (length (heardBy g)) 2) (oneOfTwo arrived) (o .two) (o .one))) (k .note))
 
   -- taking an Lvt
   value-most : (phase : Phase) → valueIn phase g < 4294967296
@@ -191,25 +167,14 @@ module _ {g : Gateway} (k : Standing (g .settings) g) where
   value-most Counting = omega (arith, k .note)
   value-most Stopped = k .note
 
-  pub lvt-stands : (from′ hour : ℕ) → isIdle (g .round .phase) ≡ false → awaited from′ (to (g .settings .n) (g .settings .own)) (g .round .arrived) ≡ true
-      → Standing (g .settings) (oneLvt (to (g .settings .n) (g .settings .own)) (g .round .arrived + bitOf from′ (to (g .settings .n) (g .settings .own))) (min (valueIn (g .round .phase) g) hour) g .gateway)
+  pub lvt-stands : (sender hour : ℕ) → isIdle (g .round .phase) ≡ false → awaited sender (toldBy g) (g .round .arrived) ≡ true
+      → Standing (g .settings) (oneLvt (toldBy g) (g .round .arrived + bitOf sender (toldBy g)) (min (valueIn (g .round .phase) g) hour) g .gateway)
   unfolding oneLvt roundPossible
-  lvt-stands from′ hour h w = by-case (eqb arrived (allBits told)) refl
-    where
-      told : List ℕ
-      told = to (g .settings .n) (g .settings .own)
-
-      arrived : ℕ
-      arrived = g .round .arrived + bitOf from′ told
-
-      value : ℕ
-      value = min (valueIn (g .round .phase) g) hour
-
-      by-case : (b : Bool) → eqb arrived (allBits told) ≡ b
-          → Standing (g .settings) (cond {A = Effect} b (finished value g) (record { gateway = withRound (record { phase = Stopped; arrived = arrived; note = value }) g; frames = [] }) .gateway)
-      by-case true e = finished-stands value (omega (arith, value-most (g .round .phase)))
-      by-case false e =
-          let o = one-more from′ told (g .round .arrived) few-told (arrived-open (g .round .arrived) (length (from (g .settings .n) (g .settings .own))) (length told) (g .round .phase) h (k .round)) w e in
-          with-round k (record { phase = Stopped; arrived = arrived; note = value })
-          (and-both (eqb (length told) 2) (oneOfTwo arrived) (o .two) (o .one))
-          (omega (arith, value-most (g .round .phase)))
+  lvt-stands sender hour h w =
+      let arrived = g .round .arrived + bitOf sender (toldBy g) in
+      let few : min (valueIn (g .round .phase) g) hour < 4294967296 = omega (arith, value-most (g .round .phase)) in
+      either-stands (eqb arrived (allBits (toldBy g))) _ _
+      (λ e. finished-stands _ few)
+      (λ e.
+      let o = one-more sender (toldBy g) (g .round .arrived) few-told (arrived-open (g .round .arrived) (length (heardBy g)) (length (toldBy g)) (g .round .phase) h (k .round)) w e in
+      with-round k _ (and-both (eqb (length (toldBy g)) 2) (oneOfTwo arrived) (o .two) (o .one)) few)

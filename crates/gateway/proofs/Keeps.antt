@@ -1,23 +1,22 @@
 -- Every call on a proper gateway leaves a proper gateway with the same settings, whatever it answers, and never answers 10.
-use mathlib.Core.Path.{_≡_, refl, sym, _∙_, ap, subst}
-use mathlib.Core.Bool.{Bool, true, false, cond, not, _&&_, _||_, true≢false, false≢true}
+use mathlib.Core.Path.{_≡_, refl, sym, _∙_, subst}
+use mathlib.Core.Bool.{Bool, true, false, cond, not, _&&_}
 use mathlib.Core.List.{List, [], _∷_, List·Memᴰ·head as here}
-use Prim.Native.Nat.{ℕ, zero, suc, _+_, _-_, _/_, _≤_, _<_, _^_, max}
+use Prim.Native.Nat.{ℕ, zero, suc, _-_, _/_, _≤_, _<_, max}
 use native.Mathlib.Omega.{arith}
 use lib.Dec.{leb, ltb, eqb}
 use lib.ListN.{length}
-use borrow.Author.Tests.{leb-true, ltb-true, eqb-true, not-true}
-use Rattle.routing.specs.Arcs.{_∈_, from, to}
+use borrow.Author.Tests.{eqb-true, not-true}
+use Rattle.routing.specs.Arcs.{from, to}
 use Rattle.buffer.specs.Slice.{Bytes}
 use Rattle.model.specs.Messages.{kindNumber}
 use Rattle.model.specs.declared.Message.{Message}
 use Rattle.model.specs.declared.Kind.{Kind}
 use Rattle.model.specs.declared.Kind.the-variants.{Failure, Request, Delivery, Restock, Start, Lvt, Update}
-use Rattle.frame.specs.Claims.{OneToOne}
+use Rattle.frame.proofs.Laws.{one-to-one}
 use Rattle.frame.specs.Reasons.{reading, formNumber}
 use Rattle.frame.specs.Limits.{refusal}
 use Rattle.frame.specs.declared.Frame.{Frame}
-use Rattle.frame.specs.declared.Reading.{Reading}
 use Rattle.frame.specs.declared.Sense.{Sense}
 use Rattle.frame.specs.declared.Sense.the-variants.{Plain, Cancel, Acknowledgment, CancelAcknowledgment}
 use Rattle.memory.specs.Records.{Gateway}
@@ -25,17 +24,17 @@ use Rattle.memory.specs.Validity.{isProcessed, isWaiting}
 use Rattle.memory.specs.declared.Settings.{Settings}
 use Rattle.memory.specs.declared.Entry.{Entry}
 use Rattle.memory.proofs.Validated.{and-left, and-right, valid-facts}
-use Rattle.gateway.specs.Effects.{Effect, Outcome, bytesOfFrames, fits, refused, settled, withQueue, withOutstanding, withAgreed}
+use Rattle.gateway.specs.Effects.{Outcome, bytesOfFrames, fits, refused, settled, withQueue}
 use Rattle.gateway.specs.Undoing.{processedOf}
 use Rattle.gateway.specs.Taking.{any, withoutFirst, takePlain, takeCancel, isSent, takeAcknowledgment}
 use Rattle.gateway.specs.Working.{pendingOf, done, Progress, stopped, onceMore, workedBy, worked}
-use Rattle.gateway.specs.Rounds.{begun, isIdle, start, bitOf, awaited, oneStart, takeStart, oneLvt, takeLvt, valueIn, frames, children, takeUpdate}
+use Rattle.gateway.specs.Rounds.{begun, isIdle, start, awaited, takeStart, takeLvt, frames, takeUpdate}
 use Rattle.gateway.specs.Committing.{recordOf, commitOldest, commit}
 use Rattle.gateway.specs.Calls.{unlessBelow, takeByKind, takeBySense, takeFrame, takeBytes}
 use Rattle.gateway.proofs.Lists.{part-member, part-length}
 use Rattle.gateway.proofs.Searches.{without-first, pending-member}
 use Rattle.gateway.proofs.Replies.{Good}
-use Rattle.gateway.proofs.Changes.{Proper, Standing, standing, Kept, enough, Ends, unchanged, refuse, with-agreed, with-outstanding, fitting, settle}
+use Rattle.gateway.proofs.Maintaining.{Proper, Standing, standing, Kept, enough, Ends, unchanged, refuse, with-agreed, with-outstanding, fitting, settle}
 use Rattle.gateway.proofs.Queues.{leave-out}
 use Rattle.gateway.proofs.Arrivals.{begun-stands, start-stands, lvt-stands}
 use Rattle.gateway.proofs.Accepting.{form-good, Accepted, refusal-few, not-refused, accepted-good, cancel-kind}
@@ -150,9 +149,9 @@ module _ {g : Gateway} (p : Proper g) where
       by-sense CancelAcknowledgment e = acknowledgment-keeps true (f .message)
 
   -- taking a byte string
-  pub bytes-keep : OneToOne → (bytes : List ℕ) → Bytes bytes → (room : ℕ) → Ends (g .settings) (takeBytes bytes room g)
+  pub bytes-keep : (bytes : List ℕ) → Bytes bytes → (room : ℕ) → Ends (g .settings) (takeBytes bytes room g)
   unfolding takeBytes
-  bytes-keep one bytes h room =
+  bytes-keep bytes h room =
       let r = reading bytes in
       let s = g .settings in
       let formed = eqb (formNumber (r .form)) 0 in
@@ -163,8 +162,8 @@ module _ {g : Gateway} (p : Proper g) where
       let good = form-good (r .form) (and-left formed carried e) in
       either (eqb number 0)
       (λ z. frame-keeps room (r .frame) (record {
-        form = one .readWellFormed bytes h good;
-        ranged = one .readRanged bytes h good;
+        form = one-to-one .readWellFormed bytes h good;
+        ranged = one-to-one .readRanged bytes h good;
         passes = not-refused s (r .frame) (eqb-true number 0 z);
       }))
       (refuses number (refusal-few (r .frame) (s .n) (s .own) (s .last))))

@@ -2,7 +2,7 @@
 pub mod Lists
 pub mod Searches
 pub mod Replies
-pub mod Changes
+pub mod Maintaining
 pub mod Queues
 pub mod Arrivals
 pub mod Takings

@@ -1,12 +1,12 @@
 -- Set up that is not refused leaves a proper gateway.
 use mathlib.Core.Path.{_≡_, refl, sym, _∙_, ap, subst}
 use mathlib.Core.Logic.{⊎-elim}
-use mathlib.Core.Bool.{Bool, true, false, cond, _&&_, _||_, true≢false, false≢true}
+use mathlib.Core.Bool.{Bool, true, false, cond, _&&_, _||_, false≢true}
 use mathlib.Core.List.{List, [], _∷_, _++_, List·Memᴰ·head as here, List·Memᴰ·tail as there, List·Memᴰ·not-nil, List·Memᴰ·cases-cons, List·Memᴰ·append-cases, Memᴰ·append-left, Memᴰ·append-right}
 use Prim.Native.Nat.{ℕ, zero, suc, _+_, _≤_, _<_}
 use native.Mathlib.Omega.{arith}
 use native.Mathlib.Decide.{decLt}
-use lib.Dec.{leb, ltb, eqb}
+use lib.Dec.{leb, eqb}
 use lib.ListN.{length, length-append, length-take, getD, take, drop, List·getD-eq-default}
 use lib.Seq.{getD-take, getD-drop}
 use borrow.Author.Tests.{leb-true, eqb-true, eqb-false}
@@ -14,7 +14,7 @@ use Rattle.buffer.specs.Slice.{Bytes}
 use Rattle.routing.specs.Arcs.{_∈_, none}
 use Rattle.model.specs.Messages.{kindNumber}
 use Rattle.model.specs.declared.Message.{Message}
-use Rattle.frame.specs.Claims.{OneToOne}
+use Rattle.frame.proofs.Laws.{one-to-one}
 use Rattle.frame.specs.Kinds.{senseNumber}
 use Rattle.frame.specs.Layout.{wholeLength}
 use Rattle.frame.specs.Limits.{refusal}
@@ -23,8 +23,7 @@ use Rattle.frame.specs.declared.Frame.{Frame}
 use Rattle.frame.specs.declared.Sense.{Sense}
 use Rattle.frame.specs.declared.Sense.the-variants.{Plain, Cancel, Acknowledgment, CancelAcknowledgment}
 use Rattle.memory.specs.Layout.{sizeFor}
-use Rattle.memory.specs.Records.{Gateway}
-use Rattle.memory.specs.Validity.{isPending, roundPossible, settingsValid, frameIf}
+use Rattle.memory.specs.Validity.{isPending, roundPossible}
 use Rattle.memory.specs.declared.Settings.{Settings}
 use Rattle.memory.specs.declared.Entry.{Entry}
 use Rattle.memory.proofs.Validated.{and-left, and-right, settings-facts}
@@ -33,7 +32,7 @@ use Rattle.gateway.specs.Undoing.{pendingEntry}
 use Rattle.gateway.specs.SettingUp.{settingsOf, openingValid, cutFrames, mayOpen, openingRefusal, firstRefusal, queued, opened, setUpRefusal}
 use Rattle.gateway.specs.declared.Opening.{Opening}
 use Rattle.gateway.proofs.Searches.{cut-again}
-use Rattle.gateway.proofs.Changes.{Kept, Standing, enough}
+use Rattle.gateway.proofs.Maintaining.{Kept, enough}
 use Rattle.gateway.proofs.Queues.{GoodQueue, pending-good, opening-enters}
 use Rattle.gateway.proofs.Accepting.{Accepted, Taken, form-good, not-refused, accepted-good}
 
@@ -84,7 +83,7 @@ few-kinds n = by-case (eqb n 0) refl
     by-case false e h = omega (arith, eqb-true n 3 h)
 
 -- an opening message
-module _ (one : OneToOne) (s : Settings) where
+module _ (s : Settings) where
   opening-taken : (bytes : List ℕ) → Bytes bytes → openingRefusal s bytes ≡ 0 → Taken s false (reading bytes .frame .message)
   unfolding openingRefusal
   opening-taken bytes h = by-case (eqb (formNumber (reading bytes .form)) 0 && mayOpen (reading bytes .frame)) refl
@@ -100,7 +99,7 @@ module _ (one : OneToOne) (s : Settings) where
           accepted-good s false (f .message)
           (few-kinds (kindNumber (f .message .kind)) (and-right (eqb (senseNumber (f .sense)) 0) (eqb (kindNumber (f .message .kind)) 0 || eqb (kindNumber (f .message .kind)) 3) may))
           (subst (λ (t : Sense). Accepted s (record { message = f .message; sense = t })) plain
-          (record { form = one .readWellFormed bytes h good; ranged = one .readRanged bytes h good; passes = not-refused s f z }))
+          (record { form = one-to-one .readWellFormed bytes h good; ranged = one-to-one .readRanged bytes h good; passes = not-refused s f z }))
       by-case false e z = absurd (omega arith)
 
 -- the queue that the opening messages make
@@ -160,13 +159,13 @@ opening-long o size list h =
     let valid : openingValid o size ≡ true = opening-passes o size list h .valid in
     leb-true (sizeFor (o .q) (o .u)) size (search (and-left, and-right))
 
-pub opened-keeps : OneToOne → (o : Opening) (size : ℕ) (list : List ℕ) → Bytes list → setUpRefusal o size list ≡ 0 → Kept (settingsOf o) (opened o (cutFrames (length list) list))
+pub opened-keeps : (o : Opening) (size : ℕ) (list : List ℕ) → Bytes list → setUpRefusal o size list ≡ 0 → Kept (settingsOf o) (opened o (cutFrames (length list) list))
 unfolding opened roundPossible openingValid
-opened-keeps one o size list bytes h =
+opened-keeps o size list bytes h =
     let fs = cutFrames (length list) list in
     let passes = opening-passes o size list h in
     let q = queued-good {s = settingsOf o} [] (record { entries = λ e m. absurd (List·Memᴰ·not-nil m); order = none }) (λ e m. absurd (List·Memᴰ·not-nil m)) fs
-    (λ f m. opening-taken one (settingsOf o) f (cut-bytes (length list) list bytes f m) (none-refused (settingsOf o) fs (passes .frames) f m)) in
+    (λ f m. opening-taken (settingsOf o) f (cut-bytes (length list) list bytes f m) (none-refused (settingsOf o) fs (passes .frames) f m)) in
     let valid : openingValid o size ≡ true = passes .valid in
     enough
     (record {

@@ -1,29 +1,28 @@
 -- The queue after each call: its entries are good, and they may stand in the order in which they do.
 use mathlib.Core.Path.{_≡_, refl, sym, _∙_, ap, subst}
 use mathlib.Core.Logic.{⊎-elim}
-use mathlib.Core.Bool.{Bool, true, false, cond, not, _&&_, _||_, true≢false, false≢true}
+use mathlib.Core.Bool.{Bool, true, false, cond, not, _&&_, true≢false, false≢true}
 use mathlib.Core.List.{List, [], _∷_, _++_, map, List·Memᴰ·head as here, List·Memᴰ·tail as there, List·Memᴰ·not-nil, List·Memᴰ·cases-cons, List·Memᴰ·append-cases, Memᴰ·append-left, Memᴰ·append-right, Sublistᴰ}
-use Prim.Native.Nat.{ℕ, _≤_, _<_}
 use native.Mathlib.Omega.{arith}
 use borrow.Author.Tests.{not-false}
 use Rattle.routing.specs.Arcs.{_∈_, Ascending, none, more}
 use Rattle.model.specs.declared.Message.{Message}
 use Rattle.model.specs.declared.State.{State}
-use Rattle.memory.specs.Validity.{pendingMark, processedMark, waitingMark, isPending, isProcessed, isWaiting, equal, later, noState, isNoState}
+use Rattle.memory.specs.Validity.{pendingMark, processedMark, waitingMark, isPending, isProcessed, isWaiting, equal, later, noState}
 use Rattle.memory.specs.declared.Settings.{Settings}
 use Rattle.memory.specs.declared.Entry.{Entry}
 use Rattle.memory.specs.declared.Mark.{Mark}
 use Rattle.memory.specs.declared.Mark.the-variants.{Pending, Processed, Waiting}
 use Rattle.memory.proofs.EventLaws.{later-flip, not-later-self, same-equal}
-use Rattle.memory.specs.Ranges.{RangedState, RangedMessage, RangedEntry}
-use Rattle.memory.proofs.Validated.{Storable, ValidEntry, MayStand, first-of, rest-of}
+use Rattle.memory.specs.Ranges.{RangedState}
+use Rattle.memory.proofs.Validated.{Storable, MayStand}
 use Rattle.gateway.specs.Undoing.{pendingEntry, undone}
-use Rattle.gateway.specs.Taking.{any, withoutFirst, beforeLast, fromLast, tailOf, upTo, behind, isCancelOf, isPlain, waitingEntry}
+use Rattle.gateway.specs.Taking.{any, beforeLast, fromLast, tailOf, upTo, behind, isCancelOf, isPlain, waitingEntry}
 use Rattle.gateway.specs.Working.{processedNext}
 use Rattle.gateway.proofs.Lists.{part-member, part-ascending, insert-ascending, map-member, map-behind}
-use Rattle.gateway.proofs.Searches.{none-passes, without-first, around-last, part-tail, part-behind, cut-again, up-to-not-later, behind-later}
+use Rattle.gateway.proofs.Searches.{none-passes, around-last, part-tail, part-behind, cut-again, up-to-not-later, behind-later}
 use Rattle.gateway.proofs.Replies.{Good}
-use Rattle.gateway.proofs.Changes.{GoodEntry}
+use Rattle.gateway.proofs.Maintaining.{GoodEntry}
 
 -- a queue as it is to be
 pub record GoodQueue (s : Settings) (es : List Entry) : Type 0 where
@@ -54,12 +53,12 @@ pending-not-processed Waiting h = refl
 pub zero-state : RangedState noState
 zero-state = record { stock = omega arith; failed = omega arith; fitted = omega arith; short = omega arith }
 
-module _ {s : Settings} (m : Message) (here′ : m .to ≡ s .own) where
+module _ {s : Settings} (m : Message) (to-here : m .to ≡ s .own) where
   pub pending-good : Good s false m → GoodEntry s (pendingEntry m)
-  pending-good g = record { valid = record { message = g .storable; to = here′; saved = refl }; ranged = record { message = g .ranged; before = zero-state } }
+  pending-good g = record { valid = record { message = g .storable; to = to-here; saved = refl }; ranged = record { message = g .ranged; before = zero-state } }
 
   pub waiting-good : Good s true m → GoodEntry s (waitingEntry m)
-  waiting-good g = record { valid = record { message = g .storable; to = here′; saved = refl }; ranged = record { message = g .ranged; before = zero-state } }
+  waiting-good g = record { valid = record { message = g .storable; to = to-here; saved = refl }; ranged = record { message = g .ranged; before = zero-state } }
 
 -- an entry after undoing
 pub record Undone (e f : Entry) : Type 0 where
@@ -118,13 +117,13 @@ undo-behind {s} us vs q =
 -- one put in
 pub put-in : {s : Settings} (us vs : List Entry) (x : Entry) → GoodQueue s (us ++ vs) → GoodEntry s x
     → ((u : Entry) → u ∈ us → MayStand u x) → ((v : Entry) → v ∈ vs → MayStand x v) → GoodQueue s (us ++ (x ∷ vs))
-put-in {s} us vs x q g before behind′ =
+put-in {s} us vs x q g before after =
     record {
       entries = λ e m. ⊎-elim
           (λ n. q .entries e (Memᴰ·append-left vs n))
           (λ n. ⊎-elim (λ (p : e ≡ x). subst (GoodEntry s) (sym p) g) (λ o. q .entries e (Memᴰ·append-right us o)) (List·Memᴰ·cases-cons n))
           (List·Memᴰ·append-cases us m);
-      order = insert-ascending us x (q .order) before behind′;
+      order = insert-ascending us x (q .order) before after;
     }
 
 -- a message that is not processed put in behind what is not later, before what is later

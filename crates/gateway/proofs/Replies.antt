@@ -1,24 +1,21 @@
 -- What doing a stored message sends may be stored too, and the state after it fits its fields.
-use mathlib.Core.Path.{_≡_, refl, sym, _∙_, ap, subst}
-use mathlib.Core.Logic.{⊎-elim}
-use mathlib.Core.Bool.{Bool, true, false, cond, _&&_}
+use mathlib.Core.Path.{_≡_, refl, sym, subst}
+use mathlib.Core.Bool.{Bool, true, false, cond}
 use mathlib.Core.List.{List, [], _∷_, List·Memᴰ·not-nil, List·Memᴰ·eq-of-singleton}
-use Prim.Native.Nat.{ℕ, _+_, _-_, _≤_, _<_, min}
+use Prim.Native.Nat.{ℕ, _+_, _-_, _≤_, _<_}
 use native.Mathlib.Omega.{arith}
 use lib.Dec.{leb, ltb}
-use lib.ListN.{length}
 use borrow.Author.Tests.{leb-true, le-leb, eq-eqb, ne-eqb}
 use Rattle.routing.specs.Arcs.{_∈_}
 use Rattle.model.specs.Messages.{kindNumber, originOf, quantityOf}
-use Rattle.model.specs.Doing.{after, counted, shelved, notPast, reply, sent, sentFor, requestHours, deliveryHours, lifeHours}
+use Rattle.model.specs.Doing.{after, counted, notPast, reply, sent, sentFor, requestHours, deliveryHours, lifeHours}
 use Rattle.model.specs.declared.Kind.{Kind}
 use Rattle.model.specs.declared.Kind.the-variants.{Failure, Request, Delivery, Restock, Start, Lvt, Update}
 use Rattle.model.specs.declared.Message.{Message}
 use Rattle.model.specs.declared.State.{State}
-use Rattle.frame.specs.Kinds.{hasLamp, senseNumber}
-use Rattle.frame.specs.Writing.{wellFormed, lampFits, allBetween, gatewaysAgree, senseAllowed, hourFits}
+use Rattle.frame.specs.Writing.{wellFormed, lampFits, allBetween, gatewaysAgree}
 use Rattle.memory.specs.Records.{siteOf}
-use Rattle.memory.specs.Validity.{frameIf, senseIf}
+use Rattle.memory.specs.Validity.{frameIf}
 use Rattle.memory.specs.declared.Settings.{Settings}
 use Rattle.memory.specs.declared.Sent.{Sent}
 use Rattle.memory.specs.Ranges.{RangedState, RangedMessage}

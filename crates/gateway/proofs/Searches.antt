@@ -1,5 +1,5 @@
 -- Laws of the searches of the queue and of what is outstanding.
-use mathlib.Core.Path.{_≡_, refl, sym, _∙_, ap, subst}
+use mathlib.Core.Path.{_≡_, refl, _∙_, ap}
 use mathlib.Core.Logic.{⊎-elim}
 use mathlib.Core.Bool.{Bool, true, false, cond, _||_, true≢false, false≢true}
 use mathlib.Core.List.{List, [], _∷_, _++_, List·Memᴰ·head as here, List·Memᴰ·tail as there, List·Memᴰ·not-nil, List·Memᴰ·cases-cons, Sublistᴰ, Sublistᴰ·slnil as neither, Sublistᴰ·cons as leave, Sublistᴰ·cons-cons as keep, Sublistᴰ·refl}
@@ -8,7 +8,7 @@ use Rattle.model.specs.declared.Message.{Message}
 use Rattle.memory.specs.Validity.{isPending, isProcessed, later}
 use Rattle.memory.specs.declared.Entry.{Entry}
 use Rattle.memory.proofs.EventLaws.{later-onward}
-use Rattle.memory.proofs.Validated.{MayStand, first-of, rest-of}
+use Rattle.memory.proofs.Validated.{MayStand}
 use Rattle.gateway.specs.Taking.{any, withoutFirst, beforeLast, fromLast, tailOf, upTo, behind}
 use Rattle.gateway.specs.Undoing.{processedOf}
 use Rattle.gateway.specs.Working.{pendingOf}

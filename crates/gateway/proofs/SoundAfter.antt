@@ -8,7 +8,6 @@ use lib.Dec.{eqb}
 use lib.ListN.{length}
 use borrow.Author.Tests.{eqb-true, eqb-false}
 use Rattle.buffer.specs.Slice.{Bytes, part, write}
-use Rattle.frame.specs.Claims.{OneToOne}
 use Rattle.memory.specs.Records.{Gateway}
 use Rattle.memory.specs.Layout.{sizeFor}
 use Rattle.memory.specs.Claims.{ReadingLaws}
@@ -20,16 +19,16 @@ use Rattle.gateway.specs.Rounds.{start}
 use Rattle.gateway.specs.Committing.{commit}
 use Rattle.gateway.specs.SettingUp.{settingsOf, cutFrames, opened, setUpRefusal}
 use Rattle.gateway.specs.Calls.{Left, refusedWith, leaving, onSound, takeBytes, taken, started, committed, workedOff, setUp, agreedTime}
-use Rattle.gateway.specs.Claims.{SoundBytes, Keeps, NeverUnsound}
+use Rattle.gateway.specs.Claims.{SoundBytes, StaysSound, NeverUnsound}
 use Rattle.gateway.specs.declared.Answer.{Answer}
 use Rattle.gateway.specs.declared.Opening.{Opening}
-use Rattle.gateway.proofs.Changes.{Proper, Kept, Ends}
+use Rattle.gateway.proofs.Maintaining.{Proper, Kept, Ends}
 use Rattle.gateway.proofs.Keeps.{start-keeps, commit-keeps, bytes-keep, work-keeps}
 use Rattle.gateway.proofs.Openings.{opened-keeps, opening-long}
 
 -- a proper gateway written over memory that is long enough for it
 written : {s : Settings} {g : Gateway} (memory : List ℕ) → Bytes memory → Kept s g → sizeFor (s .q) (s .u) ≤ length memory → {number : ℕ} → number < 10
-    → Keeps s memory number (encode g memory)
+    → StaysSound s memory number (encode g memory)
 written {s} {g} memory bytes k long h =
     let w = codec-laws .writing g memory (k .proper .valid) (k .proper .ranged) (rw (k .same) long) in
     record {
@@ -49,7 +48,7 @@ module _ (memory : List ℕ) (h : SoundBytes memory) where
 
   -- a call that ends well
   ends-sound : (call : ℕ → Gateway → Outcome) → ((room : ℕ) → Ends (decode memory .settings) (call room (decode memory))) → (output : List ℕ)
-      → Keeps (decode memory .settings) memory (onSound call memory output .answer .number) (onSound call memory output .memory)
+      → StaysSound (decode memory .settings) memory (onSound call memory output .answer .number) (onSound call memory output .memory)
   unfolding onSound leaving
   ends-sound call ends output = rw (h .is-sound) (by-case (eqb (r .number) 0))
     where
@@ -62,11 +61,11 @@ module _ (memory : List ℕ) (h : SoundBytes memory) where
           (record { answer = record { number = 0; written = length (r .output) }; memory = encode (r .gateway) memory; output = write 0 (r .output) output })
           (refusedWith (r .number) memory output)
 
-      by-case : (b : Bool) → Keeps (decode memory .settings) memory (left b .answer .number) (left b .memory)
+      by-case : (b : Bool) → StaysSound (decode memory .settings) memory (left b .answer .number) (left b .memory)
       by-case true = written memory (h .bytes) (ends (length output) .gateway) (held .long) (omega arith)
       by-case false = record { still = h; settings = refl; as-long = refl; rest = λ n. refl; answer = ends (length output) .number }
 
-  work-sound : (b : ℕ) (output : List ℕ) → Keeps (decode memory .settings) memory (workedOff b memory output .answer .why) (workedOff b memory output .memory)
+  work-sound : (b : ℕ) (output : List ℕ) → StaysSound (decode memory .settings) memory (workedOff b memory output .answer .why) (workedOff b memory output .memory)
   unfolding workedOff
   work-sound b output =
       let w = work-keeps b (length output) held-proper in
@@ -76,10 +75,10 @@ module _ (memory : List ℕ) (h : SoundBytes memory) where
   unfolding agreedTime
   time-read = rw (h .is-sound)
 
-set-up-sound : OneToOne → (o : Opening) (list memory : List ℕ) → Bytes list → Bytes memory → setUp o list memory .answer .number ≡ 0
-    → Keeps (settingsOf o) memory 0 (setUp o list memory .memory)
+set-up-sound : (o : Opening) (list memory : List ℕ) → Bytes list → Bytes memory → setUp o list memory .answer .number ≡ 0
+    → StaysSound (settingsOf o) memory 0 (setUp o list memory .memory)
 unfolding setUp
-set-up-sound one o list memory list-bytes bytes = by-case (eqb number 0) refl
+set-up-sound o list memory list-bytes bytes = by-case (eqb number 0) refl
   where
     number : ℕ
     number = setUpRefusal o (length memory) list
@@ -87,18 +86,18 @@ set-up-sound one o list memory list-bytes bytes = by-case (eqb number 0) refl
     left : Bool → Left Answer
     left b = cond b (record { answer = record { number = 0; written = 0 }; memory = encode (opened o (cutFrames (length list) list)) memory; output = [] }) (refusedWith number memory [])
 
-    by-case : (b : Bool) → eqb number 0 ≡ b → left b .answer .number ≡ 0 → Keeps (settingsOf o) memory 0 (left b .memory)
+    by-case : (b : Bool) → eqb number 0 ≡ b → left b .answer .number ≡ 0 → StaysSound (settingsOf o) memory 0 (left b .memory)
     by-case true e z =
         let accepted = eqb-true number 0 e in
-        written memory bytes (opened-keeps one o (length memory) list list-bytes accepted) (opening-long o (length memory) list accepted) (omega arith)
+        written memory bytes (opened-keeps o (length memory) list list-bytes accepted) (opening-long o (length memory) list accepted) (omega arith)
     by-case false e z = absurd (eqb-false number 0 e z)
 
-pub never-unsound : OneToOne → NeverUnsound
+pub never-unsound : NeverUnsound
 unfolding taken started committed
-never-unsound one =
+never-unsound =
     record {
-      bySetUp = set-up-sound one;
-      byTaking = λ memory frame output bytes h. ends-sound memory h (takeBytes frame) (bytes-keep (held-proper memory h) one frame bytes) output;
+      bySetUp = set-up-sound;
+      byTaking = λ memory frame output bytes h. ends-sound memory h (takeBytes frame) (bytes-keep (held-proper memory h) frame bytes) output;
       byStarting = λ memory output h. ends-sound memory h start (start-keeps (held-proper memory h)) output;
       byCommitting = λ memory output h. ends-sound memory h commit (commit-keeps (held-proper memory h)) output;
       byWorking = λ b memory output h. work-sound memory h b output;

@@ -1,5 +1,5 @@
 -- The starred examples hold, by computation.
-use mathlib.Core.Path.{_≡_, refl}
+use mathlib.Core.Path.{refl}
 use Rattle.buffer.specs.Slice.{part, write}
 use Rattle.buffer.specs.Number.{bytesOf, numberFrom, numberOf}
 use Rattle.routing.specs.Figure2.{gvtcfg, widen, share, setFrom, setTo}

@@ -10,11 +10,8 @@ use Rattle.memory.specs.Codec.{decode}
 use Rattle.memory.specs.Soundness.{sound}
 use Rattle.memory.specs.declared.Settings.{Settings}
 use Rattle.gateway.specs.SettingUp.{settingsOf}
-use Rattle.gateway.specs.Calls.{Left, taken, started, committed, workedOff, setUp, agreedTime}
-use Rattle.gateway.specs.declared.Answer.{Answer}
-use Rattle.gateway.specs.declared.Worked.{Worked}
+use Rattle.gateway.specs.Calls.{taken, started, committed, workedOff, setUp, agreedTime}
 use Rattle.gateway.specs.declared.Opening.{Opening}
-use Rattle.gateway.specs.declared.AgreedTime.{AgreedTime}
 
 -- sound memory of bytes
 pub record SoundBytes (memory : List ℕ) : Type 0 where
@@ -23,7 +20,7 @@ pub record SoundBytes (memory : List ℕ) : Type 0 where
 
 -- a call leaves sound memory with these settings, as long as it was; what lies past its last place is never touched; and the
 -- call's number is not 10
-pub record Keeps (s : Settings) (memory : List ℕ) (number : ℕ) (after : List ℕ) : Type 0 where
+pub record StaysSound (s : Settings) (memory : List ℕ) (number : ℕ) (after : List ℕ) : Type 0 where
   pub still : SoundBytes after
   pub settings : decode after .settings ≡ s
   pub as-long : length after ≡ length memory
@@ -33,14 +30,14 @@ pub record Keeps (s : Settings) (memory : List ℕ) (number : ℕ) (after : List
 -- set up that is not refused makes sound memory of any, and every other call, refused or not, keeps it
 pub record NeverUnsound : Type 0 where
   pub bySetUp : (o : Opening) (list memory : List ℕ) → Bytes list → Bytes memory → setUp o list memory .answer .number ≡ 0
-      → Keeps (settingsOf o) memory 0 (setUp o list memory .memory)
+      → StaysSound (settingsOf o) memory 0 (setUp o list memory .memory)
   pub byTaking : (memory frame output : List ℕ) → Bytes frame → SoundBytes memory
-      → Keeps (decode memory .settings) memory (taken memory frame output .answer .number) (taken memory frame output .memory)
+      → StaysSound (decode memory .settings) memory (taken memory frame output .answer .number) (taken memory frame output .memory)
   pub byStarting : (memory output : List ℕ) → SoundBytes memory
-      → Keeps (decode memory .settings) memory (started memory output .answer .number) (started memory output .memory)
+      → StaysSound (decode memory .settings) memory (started memory output .answer .number) (started memory output .memory)
   pub byCommitting : (memory output : List ℕ) → SoundBytes memory
-      → Keeps (decode memory .settings) memory (committed memory output .answer .number) (committed memory output .memory)
+      → StaysSound (decode memory .settings) memory (committed memory output .answer .number) (committed memory output .memory)
   pub byWorking : (b : ℕ) (memory output : List ℕ) → SoundBytes memory
-      → Keeps (decode memory .settings) memory (workedOff b memory output .answer .why) (workedOff b memory output .memory)
+      → StaysSound (decode memory .settings) memory (workedOff b memory output .answer .why) (workedOff b memory output .memory)
   -- reading the agreed time then gives it
   pub byReading : (memory : List ℕ) → SoundBytes memory → agreedTime memory .number ≡ 0

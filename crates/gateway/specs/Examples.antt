@@ -1,10 +1,10 @@
 -- The starred examples of document 01, as one table, in its order.
 use mathlib.Core.Path.{_≡_}
 use Prim.Native.Nat.{ℕ}
-use mathlib.Core.Bool.{Bool, true, false}
+use mathlib.Core.Bool.{true, false}
 use mathlib.Core.List.{List, [], _∷_, _++_}
 use lib.ListN.{replicate}
-use Rattle.routing.specs.Arcs.{Arc, figure2, from, to, mid0, mid1, arcs, roundMessages}
+use Rattle.routing.specs.Arcs.{figure2, from, to, mid0, mid1, arcs, roundMessages}
 use Rattle.routing.specs.Answers.{neighboursOf, totalsOf}
 use Rattle.model.specs.declared.Message.{Message}
 use Rattle.model.specs.declared.Kind.the-variants.{Failure, Request}

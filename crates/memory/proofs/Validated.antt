@@ -1,18 +1,16 @@
 -- Validity as facts: what each test of a gateway says, both ways.
 use mathlib.Core.Path.{_≡_, refl, sym, _∙_, ap, subst}
-use mathlib.Core.Logic.{_↔_, ⊎-elim}
+use mathlib.Core.Logic.{⊎-elim}
 use mathlib.Core.Bool.{Bool, true, false, cond, not, _&&_, _||_, true≢false, false≢true}
 use mathlib.Core.List.{List, [], _∷_, List·Memᴰ·head as here, List·Memᴰ·tail as there, List·Memᴰ·not-nil, List·Memᴰ·cases-cons}
-use Prim.Native.Nat.{ℕ, _≤_, _<_}
-use lib.Dec.{leb, ltb, eqb}
+use Prim.Native.Nat.{_≤_, _<_}
 use lib.ListN.{length}
 use borrow.Author.Tests.{leb-true, ltb-true, eqb-true, not-true, le-leb, lt-ltb, eq-eqb}
 use Rattle.routing.specs.Arcs.{_∈_, Ascending, none, more}
 use Rattle.model.specs.Messages.{kindNumber, originOf}
 use Rattle.model.specs.declared.Message.{Message}
-use Rattle.frame.specs.Kinds.{hasLamp}
 use Rattle.frame.specs.Writing.{wellFormed}
-use Rattle.frame.specs.Limits.{numbersBelow, nothingDue}
+use Rattle.frame.specs.Limits.{nothingDue}
 use Rattle.memory.specs.Records.{Gateway}
 use Rattle.memory.specs.Validity.{every, settingsValid, roundPossible, isPending, isProcessed, isWaiting, equal, later, ordered, processedFirst, meet, noneMeet, frameIf, storable, isNoState, entryValid, sentValid, valid}
 use Rattle.memory.specs.declared.Settings.{Settings}

@@ -1,6 +1,6 @@
 -- The numbers of a gateway fit their fields, as those of every gateway that bytes hold do: what validity does not say already.
 use mathlib.Core.Path.{_≡_}
-use Prim.Native.Nat.{ℕ, _<_}
+use Prim.Native.Nat.{_<_}
 use lib.ListN.{length}
 use Rattle.routing.specs.Arcs.{_∈_}
 use Rattle.model.specs.Messages.{quantityOf}

@@ -11,3 +11,9 @@ pub mod SingleQueues
 pub mod Ledgers
 pub mod EventsUnderWay
 pub mod AcceptedFrames
+pub mod EventWorlds
+pub mod OpeningQueues
+pub mod ReadableFrames
+pub mod WorkChains
+pub mod CommittedRecords
+pub mod TakeChains

@@ -1,11 +1,10 @@
 -- What a gateway keeps to, whether or not it has places for all of it, and the changes that keep to it.
-use mathlib.Core.Path.{_≡_, refl, sym, _∙_, ap, subst}
+use mathlib.Core.Path.{_≡_, refl, sym, subst}
 use mathlib.Core.Logic.{⊎-elim}
-use mathlib.Core.Bool.{Bool, true, false, cond, _&&_, _||_, true≢false, false≢true}
-use mathlib.Core.List.{List, [], _∷_, _++_, map, List·Memᴰ·head as here, List·Memᴰ·tail as there, List·Memᴰ·not-nil, List·Memᴰ·cases-cons, List·Memᴰ·append-cases, List·Memᴰ·eq-of-singleton}
-use Prim.Native.Nat.{ℕ, _≤_, _<_, min}
+use mathlib.Core.Bool.{Bool, true, false, cond}
+use mathlib.Core.List.{List, [], _∷_, _++_, List·Memᴰ·head as here, List·Memᴰ·tail as there, List·Memᴰ·not-nil, List·Memᴰ·append-cases, List·Memᴰ·eq-of-singleton}
+use Prim.Native.Nat.{ℕ, _≤_, _<_}
 use native.Mathlib.Omega.{arith}
-use lib.Dec.{leb}
 use lib.ListN.{length}
 use borrow.Author.Tests.{leb-true}
 use Rattle.routing.specs.Arcs.{_∈_, Ascending}
@@ -13,18 +12,18 @@ use Rattle.model.specs.Doing.{sent}
 use Rattle.model.specs.declared.Message.{Message}
 use Rattle.model.specs.declared.State.{State}
 use Rattle.memory.specs.Records.{Gateway, siteOf}
-use Rattle.memory.specs.Validity.{isProcessed, isWaiting, roundPossible, valid}
+use Rattle.memory.specs.Validity.{roundPossible, valid}
 use Rattle.memory.specs.declared.Settings.{Settings}
 use Rattle.memory.specs.declared.Entry.{Entry}
 use Rattle.memory.specs.declared.Sent.{Sent}
 use Rattle.memory.specs.declared.Round.{Round}
 use Rattle.memory.specs.declared.Phase.{Phase}
 use Rattle.memory.specs.declared.Phase.the-variants.{Idle, Counting, Stopped}
-use Rattle.memory.specs.Ranges.{Ranged, RangedState, RangedMessage, RangedEntry}
-use Rattle.memory.proofs.Validated.{and-left, and-right, ValidSettings, Storable, ValidEntry, ValidSent, MayStand, Valid, valid-facts, facts-valid}
+use Rattle.memory.specs.Ranges.{Ranged, RangedState, RangedEntry}
+use Rattle.memory.proofs.Validated.{and-left, and-right, ValidSettings, ValidEntry, MayStand, valid-facts, facts-valid}
 use Rattle.gateway.specs.Effects.{Effect, Outcome, fits, refused, settled, bytesOfFrames, withQueue, withState, withAgreed, withRound, withOutstanding, loweredIn, noted, sentOne, sentAll}
 use Rattle.gateway.specs.Undoing.{restored, sentBack, rolledBack}
-use Rattle.gateway.proofs.Replies.{Good, GoodSent, sent-good}
+use Rattle.gateway.proofs.Replies.{GoodSent, sent-good}
 
 -- a valid gateway whose numbers fit their fields: what a call finds in sound memory, and what it leaves
 pub record Proper (g : Gateway) : Type 0 where
@@ -154,6 +153,11 @@ module _ {s : Settings} {g : Gateway} (k : Standing s g) where
   roll-back events h =
       send-all (with-state k (restored (g .state) events) (restored-ranged events h)) true (sentBack (siteOf (g .settings)) events)
       (λ m n. sent-back-good events h m (rw (k .same) at n))
+
+-- either of two effects
+pub either-stands : {s : Settings} (b : Bool) (u v : Effect) → (b ≡ true → Standing s (u .gateway)) → (b ≡ false → Standing s (v .gateway)) → Standing s (cond b u v .gateway)
+either-stands true u v h l = h refl
+either-stands false u v h l = l refl
 
 -- an effect for which there is room
 pub fitting : {s : Settings} (room : ℕ) (e : Effect) → Standing s (e .gateway) → fits room e ≡ true → Kept s (e .gateway)

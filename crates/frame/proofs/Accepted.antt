@@ -1,0 +1,157 @@
+-- What is known of a byte string that is read.
+use mathlib.Core.Path.{_≡_, refl, sym, _∙_, ap}
+use Prim.Native.Nat.{ℕ, zero, suc, _+_, _*_, _/_, _%_, _^_, _<_, _≤_}
+use native.Mathlib.Omega.{arith}
+use mathlib.Core.Bool.{Bool, true, false, cond, not, _&&_, _||_, false≢true}
+use mathlib.Core.Logic.{_⊎_, inl, inr, ⊎-elim}
+use mathlib.Core.List.{List, [], _∷_}
+use lib.Dec.{leb, ltb, eqb}
+use lib.ListN.{length, getD}
+use borrow.Author.Tests.{leb-true, ltb-true, eqb-true, not-true, not-false, le-leb}
+use Rattle.buffer.specs.Slice.{part}
+use Rattle.model.specs.Messages.{kindNumber, kindOf}
+use Rattle.frame.specs.Layout.{odd, wholeLength, cut}
+use Rattle.frame.specs.Kinds.{mapOfKind, hasLamp}
+use Rattle.frame.specs.Writing.{lampFits, gatewaysAgree}
+use Rattle.frame.specs.Reasons.{fieldsOf, frameOf, mapFits, senseFits, unless, fieldsForm, formOf, formNumber, readAs, reading}
+use Rattle.frame.proofs.Places.{read-one}
+use Rattle.frame.specs.Lamps.{isGood, carriesLamp}
+use Rattle.frame.specs.declared.Frame.{Frame}
+use Rattle.frame.specs.declared.Form.{Form}
+use Rattle.frame.specs.declared.Form.the-variants.{Good, TooShort, WrongMap, WrongLength, WrongSense, WrongLamp, WrongGateways}
+use Rattle.frame.specs.declared.Reading.{Reading}
+
+-- each test was passed
+pub record Passes (s : List ℕ) : Type 0 where
+  pub long : 2 ≤ length s
+  pub map : mapFits (getD s 0 0) (getD s 1 0) ≡ true
+  pub whole : length s ≡ wholeLength (getD s 0 0)
+  pub sense : senseFits (getD s 0 0) (fieldsOf s .sense) ≡ true
+  pub lamp : lampFits (frameOf (fieldsOf s) .message) ≡ true
+  pub gateways : gatewaysAgree (fieldsOf s .from) (fieldsOf s .to) (frameOf (fieldsOf s) .message .kind) ≡ true
+  pub frame : reading s .frame ≡ frameOf (fieldsOf s)
+
+-- a reason counts unless its test was passed
+passed : (b : Bool) (reason rest : Form) → formNumber reason ≡ 1 → unless b reason rest ≡ Good → (b ≡ true) × (rest ≡ Good)
+passed true reason rest n e = (refl, e)
+passed false reason rest n e = let z : formNumber reason ≡ 0 = ap formNumber e in absurd (omega arith)
+
+form-read : (form : Form) (f : Frame) → readAs form f .form ≡ form
+form-read Good f = refl
+form-read TooShort f = refl
+form-read WrongMap f = refl
+form-read WrongLength f = refl
+form-read WrongSense f = refl
+form-read WrongLamp f = refl
+form-read WrongGateways f = refl
+
+pub accepted : (s : List ℕ) → reading s .form ≡ Good → Passes s
+unfolding reading formOf fieldsForm
+accepted s e =
+    let good : formOf s ≡ Good = sym (form-read (formOf s) (frameOf (fieldsOf s))) ∙ e in
+    let a = passed _ _ _ refl good in
+    let b = passed _ _ _ refl (a .1) in
+    let c = passed _ _ _ refl (b .1) in
+    let d = passed _ _ _ refl (c .1) in
+    let f = passed _ _ _ refl (d .1) in
+    let g = passed _ _ _ refl (f .1) in
+    record {
+      long = leb-true _ _ (a .0);
+      map = b .0;
+      whole = eqb-true _ _ (c .0);
+      sense = d .0;
+      lamp = f .0;
+      gateways = g .0;
+      frame = rw good;
+    }
+
+-- the five maps, with the kinds that have them
+pub data Table (map kind : ℕ) : Type 0 where
+  plain : map ≡ 63 → kind ≤ 2 → Table map kind
+  sensed : map ≡ 191 → kind ≤ 2 → Table map kind
+  restock : map ≡ 79 → kind ≡ 3 → Table map kind
+  start : map ≡ 7 → kind ≡ 4 → Table map kind
+  hourly : map ≡ 15 → 5 ≤ kind → kind ≤ 6 → Table map kind
+
+either : (a b : Bool) → (a || b) ≡ true → (a ≡ true) ⊎ (b ≡ true)
+either true b e = inl refl
+either false b e = inr e
+
+-- both parts of a test
+pub first : (a b : Bool) → (a && b) ≡ true → a ≡ true
+first true b e = refl
+first false b e = e
+
+pub second : (a b : Bool) → (a && b) ≡ true → b ≡ true
+second true b e = e
+second false b e = absurd (false≢true e)
+
+with-lamp : (map kind : ℕ) → kind ≤ 2 → (eqb map 63 || eqb map 191) ≡ true → Table map kind
+with-lamp map kind h e = ⊎-elim (λ p. plain (eqb-true map 63 p) h) (λ p. sensed (eqb-true map 191 p) h) (either (eqb map 63) (eqb map 191) e)
+
+without-lamp : (map n : ℕ) → (eqb map n || false) ≡ true → map ≡ n
+without-lamp map n e = ⊎-elim (λ p. eqb-true map n p) (λ p. absurd (false≢true p)) (either (eqb map n) false e)
+
+pub table : (map kind : ℕ) → mapFits map kind ≡ true → Table map kind
+unfolding mapFits
+table map zero e = with-lamp map 0 (omega arith) e
+table map (suc zero) e = with-lamp map 1 (omega arith) e
+table map (suc (suc zero)) e = with-lamp map 2 (omega arith) e
+table map (suc (suc (suc zero))) e = restock (without-lamp map 79 e) refl
+table map (suc (suc (suc (suc zero)))) e = start (without-lamp map 7 e) refl
+table map (suc (suc (suc (suc (suc zero))))) e = hourly (without-lamp map 15 e) (omega arith) (omega arith)
+table map (suc (suc (suc (suc (suc (suc zero)))))) e = hourly (without-lamp map 15 e) (omega arith) (omega arith)
+table map (suc (suc (suc (suc (suc (suc (suc kind))))))) e =
+    let below : suc (suc (suc (suc (suc (suc (suc kind)))))) < 7 = ltb-true _ 7 (first _ _ e) in
+    absurd (omega arith)
+
+pub kind-back : (kind origin quantity : ℕ) → kind < 7 → kindNumber (kindOf kind origin quantity) ≡ kind
+kind-back zero origin quantity h = refl
+kind-back (suc zero) origin quantity h = refl
+kind-back (suc (suc zero)) origin quantity h = refl
+kind-back (suc (suc (suc zero))) origin quantity h = refl
+kind-back (suc (suc (suc (suc zero)))) origin quantity h = refl
+kind-back (suc (suc (suc (suc (suc zero))))) origin quantity h = refl
+kind-back (suc (suc (suc (suc (suc (suc zero)))))) origin quantity h = refl
+kind-back (suc (suc (suc (suc (suc (suc (suc kind))))))) origin quantity h = absurd (omega arith)
+
+-- the kind is the second byte
+pub kind-byte : (s : List ℕ) → Passes s → fieldsOf s .kind ≡ getD s 1 0
+unfolding fieldsOf
+kind-byte s p = by (table (getD s 0 0) (getD s 1 0) (p .map))
+  where
+    from : (map : ℕ) → getD s 0 0 ≡ map → odd map ≡ true → fieldsOf s .kind ≡ getD s 1 0
+    from map e o = rw (e, o) (sym (read-one s 1 (p .long)))
+
+    by : Table (getD s 0 0) (getD s 1 0) → fieldsOf s .kind ≡ getD s 1 0
+    by (plain e h) = from 63 e refl
+    by (sensed e h) = from 191 e refl
+    by (restock e h) = from 79 e refl
+    by (start e h) = from 7 e refl
+    by (hourly e h k) = from 15 e refl
+
+good-form : (form : Form) → isGood form ≡ true → form ≡ Good
+good-form Good e = refl
+good-form TooShort e = absurd (false≢true e)
+good-form WrongMap e = absurd (false≢true e)
+good-form WrongLength e = absurd (false≢true e)
+good-form WrongSense e = absurd (false≢true e)
+good-form WrongLamp e = absurd (false≢true e)
+good-form WrongGateways e = absurd (false≢true e)
+
+-- a frame with a lamp has at least 27 bytes
+pub lamp-inside : (s : List ℕ) → carriesLamp (reading s) ≡ true → 27 ≤ length s
+unfolding wholeLength
+lamp-inside s e =
+    let p : Passes s = accepted s (good-form (reading s .form) (first _ _ e)) in
+    by p (table (getD s 0 0) (getD s 1 0) (p .map)) (leb-true _ 2 (second (isGood (reading s .form)) _ e))
+  where
+    kind : (p : Passes s) → getD s 1 0 < 7 → kindNumber (reading s .frame .message .kind) ≡ getD s 1 0
+    kind p h = ap (λ (f : Frame). kindNumber (f .message .kind)) (p .frame) ∙ kind-back (fieldsOf s .kind) _ _ (rw (kind-byte s p) h) ∙ kind-byte s p
+
+    by : (p : Passes s) → Table (getD s 0 0) (getD s 1 0) → kindNumber (reading s .frame .message .kind) ≤ 2 → 27 ≤ length s
+    by p (plain q h) k = let size = rw q at (p .whole) in omega arith
+    by p (sensed q h) k = let size = rw q at (p .whole) in omega arith
+    by p (restock q h) k = let same = kind p (omega arith) in absurd (omega arith)
+    by p (start q h) k = let same = kind p (omega arith) in absurd (omega arith)
+    by p (hourly q h j) k = let same = kind p (omega arith) in absurd (omega arith)

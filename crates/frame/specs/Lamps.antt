@@ -1,0 +1,54 @@
+-- Reading the lamp hands back its eighteen bytes of the frame, as a part of the lent frame.
+use mathlib.Core.Path.{_≡_}
+use Prim.Native.Nat.{ℕ, _+_}
+use mathlib.Core.Bool.{Bool, true, false, cond, _&&_}
+use mathlib.Core.List.{List, [], _∷_}
+use lib.ListN.{take}
+use denote.Ref.{RefT, ptr, now}
+use Rattle.buffer.specs.Slice.{part}
+use Rattle.model.specs.Messages.{kindNumber}
+use Rattle.frame.specs.Layout.{widths, lampWidth, total}
+use Rattle.frame.specs.Kinds.{hasLamp}
+use Rattle.frame.specs.Reasons.{reading}
+use Rattle.frame.specs.declared.Form.{Form}
+use Rattle.frame.specs.declared.Form.the-variants.{Good, TooShort, WrongMap, WrongLength, WrongSense, WrongLamp, WrongGateways}
+use Rattle.frame.specs.declared.Reading.{Reading}
+
+abbrev pub isGood : Form → Bool
+isGood Good = true
+isGood TooShort = false
+isGood WrongMap = false
+isGood WrongLength = false
+isGood WrongSense = false
+isGood WrongLamp = false
+isGood WrongGateways = false
+
+-- a frame with a lamp
+abbrev pub carriesLamp : Reading → Bool
+carriesLamp r = isGood (r .form) && hasLamp (kindNumber (r .frame .message .kind))
+
+-- the lamp's place: behind the map and the fields of bits 0 to 4
+unfoldable pub lampPlace : ℕ
+unfolding total
+lampPlace = 1 + total (take 5 widths)
+
+-- a slice is the very part of another from position at on: it lies in the same block of memory, at bytes further, and has the n bytes there
+pub record IsPart (whole : RefT (List ℕ)) (at n : ℕ) (p : RefT (List ℕ)) : Type 0 where
+  pub place : ptr p ≡ (ptr whole .0, at + ptr whole .1)
+  pub bytes : now p ≡ part (now whole) at n
+
+-- where the lamp starts and how long it is; without a lamp the part is empty
+abbrev pub lampStart : Reading → ℕ
+lampStart r = cond (carriesLamp r) lampPlace 0
+
+abbrev pub lampLength : Reading → ℕ
+lampLength r = cond (carriesLamp r) lampWidth 0
+
+-- the part that holds a frame's lamp
+abbrev pub IsLamp : RefT (List ℕ) → RefT (List ℕ) → Type 0
+IsLamp frame p = IsPart frame (lampStart (reading (now frame))) (lampLength (reading (now frame))) p
+
+-- this paper's number for it: the empty part is 1
+abbrev pub lampNumber : List ℕ → ℕ
+lampNumber [] = 1
+lampNumber (b ∷ bs) = 0

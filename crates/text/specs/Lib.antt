@@ -1,0 +1,2 @@
+-- The definitions of decimal text.
+pub mod Decimal
