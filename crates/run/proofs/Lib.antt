@@ -17,3 +17,4 @@ pub mod ReadableFrames
 pub mod WorkChains
 pub mod CommittedRecords
 pub mod TakeChains
+pub mod EventTakings
