@@ -18,3 +18,4 @@ pub mod WorkChains
 pub mod CommittedRecords
 pub mod TakeChains
 pub mod EventTakings
+pub mod ClaimParts
