@@ -19,3 +19,4 @@ pub mod CommittedRecords
 pub mod TakeChains
 pub mod EventTakings
 pub mod ClaimParts
+pub mod OpeningWorlds
