@@ -26,16 +26,18 @@ use Rattle.timewarp.specs.Lists.{All}
 use Rattle.timewarp.specs.Gateways.{openingData}
 use Rattle.timewarp.specs.Arcs.{Graph}
 use Rattle.timewarp.specs.RoundSteps as RoundSteps
+use Rattle.timewarp.specs.SingleQueue as Theory
 use Rattle.timewarp.specs.Worlds as Worlds
-use Rattle.run.specs.SingleQueue.{SetUp, openingMessages}
+use Rattle.run.specs.SingleQueue.{SetUp, openingMessages, wholeRecord}
 use Rattle.run.specs.World.{openingWorld}
 use Rattle.run.specs.Demand3.{Forecast}
+use Rattle.run.proofs.ForecastModel.{forecastModel}
 use Rattle.run.proofs.QueueViews.{viewOf}
-use Rattle.run.proofs.SingleQueues.{recordOf}
+use Rattle.run.proofs.SingleQueues.{recordOf, Settled, whole-record}
 use Rattle.run.proofs.Ledgers.{Follows}
 use Rattle.run.proofs.EventsUnderWay.{seenIn}
 use Rattle.run.proofs.EventWorlds.{settingOf}
-use Rattle.run.proofs.OpeningQueues.{openingEntries, opening-entered, opening-view, Lawful, lawful-opening}
+use Rattle.run.proofs.OpeningQueues.{openingEntries, opening-entered, opening-view, Lawful, lawful-opening, opening-agrees}
 use Rattle.run.proofs.ClaimParts.{Beside}
 
 -- the agreed time that is read is the gateway's
@@ -105,3 +107,24 @@ module _ (n last : ℕ) (setups : ℕ → SetUp) (lent : ℕ → List ℕ) (fore
         records = λ i h. refl;
         ledgers = λ i h. subst (λ (g : Gateway). Follows n last setups (g .queue) (openingWorld setups lent .ledgers i)) (sym (memory-holds i h)) (opening-entered n last setups i .follows);
       }
+
+  -- the settings of a gateway that was set up
+  pub settled : (i : ℕ) → i < n → Settled n last setups i
+  unfolding opened
+  settled i h =
+      let v = valid-facts (first i h) (kept i h .proper .valid) .settings in
+      record {
+        own = forecast .numbers i h;
+        until = forecast .oneLast i h;
+        supplied = omega (arith, v .supplier, forecast .gateways i h);
+      }
+
+  hours-end : last < nothingDue
+  unfolding opened
+  hours-end =
+      let h : 0 < n = forecast .some in
+      omega (arith, valid-facts (first 0 h) (kept 0 h .proper .valid) .settings .last, forecast .oneLast 0 h)
+
+  -- the whole record of the single queue is that of the theory's single queue
+  pub single-queue : (i : ℕ) → wholeRecord n last setups i ≡ recordOf n last setups i (Theory.singleHistory (forecastModel n last setups) i)
+  single-queue i = whole-record n last setups hours-end settled (opening-agrees n last setups (forecast .some) lawful) i
