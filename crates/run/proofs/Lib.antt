@@ -20,3 +20,17 @@ pub mod TakeChains
 pub mod EventTakings
 pub mod ClaimParts
 pub mod OpeningWorlds
+pub mod FigureGraph
+pub mod ArrivalBits
+pub mod Standing
+pub mod RoundCounters
+pub mod RoundChains
+pub mod RoundsUnderWay
+pub mod RoundCalls
+pub mod RoundWorlds
+pub mod LeastHours
+pub mod FramesCut
+pub mod AcceptedCalls
+pub mod RoundForms
+pub mod RoundNotes
+pub mod RoundClaims

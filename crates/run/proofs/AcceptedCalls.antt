@@ -1,0 +1,95 @@
+-- What a call on bytes comes to where it is accepted: the outcome on the gateway that the memory holds.
+use mathlib.Core.Path.{_≡_, refl, sym, _∙_, ap}
+use mathlib.Core.Bool.{Bool, true, false, cond, not, _&&_, true≢false}
+use mathlib.Core.List.{List, [], _∷_}
+use Prim.Native.Nat.{ℕ, _+_, _-_, _/_, _≤_, min, max}
+use native.Mathlib.Omega.{arith}
+use lib.Dec.{eqb, leb}
+use lib.ListN.{length}
+use borrow.Author.Tests.{eqb-true, eq-eqb}
+use Rattle.buffer.specs.Slice.{write}
+use Rattle.routing.specs.Arcs.{from, to}
+use Rattle.model.specs.declared.Kind.the-variants.{Update}
+use Rattle.memory.specs.Records.{Gateway}
+use Rattle.memory.specs.Codec.{decode, encode}
+use Rattle.memory.specs.Soundness.{sound}
+use Rattle.memory.proofs.Validated.{and-left, and-right}
+use Rattle.gateway.specs.Effects.{Effect, Outcome, refused, settled, withAgreed}
+use Rattle.gateway.specs.Rounds.{start, begun, isIdle, takeStart, takeLvt, takeUpdate, oneStart, oneLvt, awaited, bitOf, valueIn, frames, children}
+use Rattle.gateway.specs.Calls.{Left, onSound, leaving, refusedWith}
+use Rattle.gateway.specs.declared.Answer.{Answer}
+use Rattle.run.proofs.AcceptedFrames.{outcomeOf, settles}
+
+-- what an accepted outcome leaves
+abbrev pub left : Outcome → List ℕ → List ℕ → Left Answer
+left r memory output =
+    record {
+      answer = record { number = 0; written = length (r .output) };
+      memory = encode (r .gateway) memory;
+      output = write 0 (r .output) output;
+    }
+
+-- an accepted call found its memory sound
+pub on-sound : (call : ℕ → Gateway → Outcome) (memory output : List ℕ) → onSound call memory output .answer .number ≡ 0
+    → (sound memory ≡ true) × (call (length output) (decode memory) .number ≡ 0)
+    × (onSound call memory output ≡ left (call (length output) (decode memory)) memory output)
+unfolding onSound leaving
+on-sound call memory output = go (sound memory) (eqb (call (length output) (decode memory) .number) 0) refl
+  where
+    r : Outcome
+    r = call (length output) (decode memory)
+
+    whole : Bool → Bool → Left Answer
+    whole b d = cond b (cond d (left r memory output) (refusedWith (r .number) memory output)) (refusedWith 10 memory output)
+
+    go : (b d : Bool) → eqb (r .number) 0 ≡ d → whole b d .answer .number ≡ 0 → (b ≡ true) × (r .number ≡ 0) × (whole b d ≡ left r memory output)
+    go true true e h = (refl, eqb-true (r .number) 0 e, refl)
+    go true false e h = absurd (true≢false (sym (eq-eqb (r .number) 0 h) ∙ e))
+    go false d e h = absurd (omega arith)
+
+-- the start call
+pub start-accepted : (room : ℕ) (g : Gateway) → start room g .number ≡ 0
+    → (g .settings .own ≡ 0) × (isIdle (g .round .phase) ≡ true) × (start room g ≡ outcomeOf (begun g))
+unfolding start
+start-accepted room g = go (eqb (g .settings .own) 0 && isIdle (g .round .phase)) refl
+  where
+    go : (b : Bool) → (eqb (g .settings .own) 0 && isIdle (g .round .phase)) ≡ b → cond b (settled room g (begun g)) (refused 4 g) .number ≡ 0
+        → (g .settings .own ≡ 0) × (isIdle (g .round .phase) ≡ true) × (cond b (settled room g (begun g)) (refused 4 g) ≡ outcomeOf (begun g))
+    go true e h = (
+      eqb-true (g .settings .own) 0 (and-left (eqb (g .settings .own) 0) (isIdle (g .round .phase)) e),
+      and-right (eqb (g .settings .own) 0) (isIdle (g .round .phase)) e,
+      settles room g (begun g) h .comes-to,
+    )
+    go false e h = absurd (omega arith)
+
+-- a call that is refused with 4 out of turn
+in-turn-accepted : (room : ℕ) (g : Gateway) (e : Effect) (b : Bool) → cond b (settled room g e) (refused 4 g) .number ≡ 0
+    → cond b (settled room g e) (refused 4 g) ≡ outcomeOf e
+in-turn-accepted room g e true h = settles room g e h .comes-to
+in-turn-accepted room g e false h = absurd (omega arith)
+
+pub start-taken-accepted : (room k : ℕ) (g : Gateway) → takeStart room k g .number ≡ 0
+    → let heard = from (g .settings .n) (g .settings .own) in
+    takeStart room k g ≡ outcomeOf (oneStart heard (g .round .arrived + bitOf k heard) g)
+unfolding takeStart
+start-taken-accepted room k g h =
+    let heard = from (g .settings .n) (g .settings .own) in
+    in-turn-accepted room g (oneStart heard (g .round .arrived + bitOf k heard) g)
+    (isIdle (g .round .phase) && awaited k heard (g .round .arrived)) h
+
+pub lvt-taken-accepted : (room k hour : ℕ) (g : Gateway) → takeLvt room k hour g .number ≡ 0
+    → let told = to (g .settings .n) (g .settings .own) in
+    takeLvt room k hour g ≡ outcomeOf (oneLvt told (g .round .arrived + bitOf k told) (min (valueIn (g .round .phase) g) hour) g)
+unfolding takeLvt
+lvt-taken-accepted room k hour g h =
+    let told = to (g .settings .n) (g .settings .own) in
+    in-turn-accepted room g (oneLvt told (g .round .arrived + bitOf k told) (min (valueIn (g .round .phase) g) hour) g)
+    (not (isIdle (g .round .phase)) && awaited k told (g .round .arrived)) h
+
+pub update-taken-accepted : (room k hour : ℕ) (g : Gateway) → takeUpdate room k hour g .number ≡ 0
+    → takeUpdate room k hour g
+    ≡ outcomeOf (record { gateway = withAgreed (max (g .agreed) hour) g; frames = frames Update hour (g .settings .own) (children (g .settings)) })
+unfolding takeUpdate
+update-taken-accepted room k hour g h =
+    in-turn-accepted room g (record { gateway = withAgreed (max (g .agreed) hour) g; frames = frames Update hour (g .settings .own) (children (g .settings)) })
+    (leb 1 (g .settings .own) && eqb k ((g .settings .own - 1) / 2)) h

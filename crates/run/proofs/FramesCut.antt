@@ -1,0 +1,46 @@
+-- What a call wrote, cut into frames again.
+use mathlib.Core.Path.{_≡_, refl, sym, _∙_, ap}
+use mathlib.Core.List.{List, [], _∷_, _++_, map}
+use Prim.Native.Nat.{ℕ, zero, suc, _+_, _≤_}
+use native.Mathlib.Omega.{arith}
+use lib.ListN.{length, take, drop, length-append}
+use lib.Seq.{take-append-seam, drop-append-seam}
+use Rattle.buffer.specs.Slice.{write}
+use Rattle.frame.specs.Layout.{wholeLength}
+use Rattle.frame.specs.Kinds.{mapOf}
+use Rattle.frame.specs.Writing.{written}
+use Rattle.frame.specs.declared.Frame.{Frame}
+use Rattle.gateway.specs.Effects.{bytesOfFrames}
+use Rattle.gateway.specs.SettingUp.{cutFrames}
+use Rattle.timewarp.specs.Lists.{All, nil, cons}
+use Rattle.run.specs.World.{framesIn}
+
+-- a frame is as long as the table says of its map
+abbrev pub Whole : Frame → Type 0
+Whole f = wholeLength (mapOf f) ≡ length (written f)
+
+-- frames one behind the other are cut into these frames
+pub cut-written : (fs : List Frame) → All Whole fs → (turns : ℕ) → length fs ≤ turns → cutFrames turns (bytesOfFrames fs) ≡ map written fs
+unfolding cutFrames bytesOfFrames written
+cut-written [] a zero h = refl
+cut-written [] a (suc turns) h = refl
+cut-written (f ∷ fs) a zero h = absurd (omega arith)
+cut-written (f ∷ fs) (cons e a) (suc turns) h =
+    ap (λ k. take k (written f ++ bytesOfFrames fs) ∷ cutFrames turns (drop k (written f ++ bytesOfFrames fs))) e
+    ∙ ap (λ l. l ∷ cutFrames turns (drop (length (written f)) (written f ++ bytesOfFrames fs))) (take-append-seam (written f) (bytesOfFrames fs))
+    ∙ ap (λ l. written f ∷ cutFrames turns l) (drop-append-seam (written f) (bytesOfFrames fs))
+    ∙ ap (λ l. written f ∷ l) (cut-written fs a turns (omega arith))
+
+-- every frame has a byte
+pub frames-bytes : (fs : List Frame) → length fs ≤ length (bytesOfFrames fs)
+unfolding bytesOfFrames written
+frames-bytes [] = omega arith
+frames-bytes (f ∷ fs) = omega (arith, frames-bytes fs, length-append (written f) (bytesOfFrames fs))
+
+-- the frames that a call wrote, as the run cuts them out of its output
+pub frames-in : (fs : List Frame) (output : List ℕ) → All Whole fs
+    → framesIn (length (bytesOfFrames fs)) (write 0 (bytesOfFrames fs) output) ≡ map written fs
+unfolding write
+frames-in fs output a =
+    ap (cutFrames (length (bytesOfFrames fs))) (take-append-seam (bytesOfFrames fs) (drop (0 + length (bytesOfFrames fs)) output))
+    ∙ cut-written fs a (length (bytesOfFrames fs)) (frames-bytes fs)

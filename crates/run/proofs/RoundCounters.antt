@@ -1,0 +1,237 @@
+-- The rounds as the run counts them, and as the theory does: kept by each step of a round.
+use mathlib.Core.Path.{_≡_, refl, sym, _∙_, ap}
+use mathlib.Core.Logic.{_≢_}
+use mathlib.Core.Bool.{Bool, true, false, cond, true≢false, false≢true}
+use mathlib.Core.List.{List, [], _∷_}
+use Prim.Native.Nat.{ℕ, zero, suc, _+_, _-_, _≤_, _<_, min}
+use native.Mathlib.Omega.{arith}
+use lib.Dec.{eqb, ltb}
+use lib.ListN.{length}
+use Rattle.timewarp.specs.Families.{change, put}
+use Rattle.timewarp.specs.Arcs.{Graph, Arc, times, children}
+use Rattle.timewarp.specs.RoundSteps.{idle, counting, stopped, finished, RoundFrame, raise, lower, begin, hear, stop, takeLvt, finish, close, takeUpdate}
+use Rattle.timewarp.specs.RoundSteps
+use Rattle.timewarp.proofs.FamilyLaws.{Same, same, other, same?, Changed, at, off, change?, change-at, change-off, Put, put?, put-at, put-off}
+use Rattle.run.specs.Lines
+use Rattle.run.specs.World.{Rounds, tookMore, opens, closes, accepts}
+use Rattle.run.proofs.ArrivalBits.{oneIf, howMany, alike, one-more, none-in}
+use Rattle.run.proofs.Standing.{lvtIn, lvts-after-start, lvts-elsewhere, lvts-here}
+
+-- the two changes of a family are one
+pub same-change : {A : Type 0} (i : ℕ) (v : A) (f : ℕ → A) (k : ℕ) → Lines.change i v f k ≡ change i v f k
+unfolding Lines.change change
+same-change i v f k = refl
+
+-- whether the round is open: gateway 0 has begun
+abbrev pub isOpen : ℕ → Bool
+isOpen s = ltb 0 s
+
+-- the number of messages that a round took, after more
+pub more-taken : (f : ℕ → ℕ) (g : ℕ → ℕ) (t c : ℕ) → ((k : ℕ) → f (suc k) ≡ g k) → (k : ℕ) → Lines.change (suc t) (f (suc t) + c) f (suc k) ≡ raise t c g k
+unfolding raise
+more-taken f g t c e k = go (change? t (g t + c) g k)
+  where
+    go : Changed t (g t + c) g k → Lines.change (suc t) (f (suc t) + c) f (suc k) ≡ change t (g t + c) g k
+    go (at p d) =
+        omega (arith, same-change (suc t) (f (suc t) + c) f (suc k), change-at (suc t) (f (suc t) + c) f (suc k) (omega arith), e t)
+    go (off n d) =
+        omega (arith, same-change (suc t) (f (suc t) + c) f (suc k), change-off (suc t) (f (suc t) + c) f (suc k) (omega arith), e k)
+
+-- gateway 0 has accepted one more Lvt
+abbrev pub oneMore : Rounds → Rounds
+oneMore c = record { opened = c .opened; open? = c .open?; lvts = suc (c .lvts); took = c .took; closed = c .closed; accepted = c .accepted }
+
+-- Round t of the theory is round t + 1 of the run.
+pub record Counted (G : Graph) (c : Rounds) (r : RoundSteps.Rounds) : Type 0 where
+  pub opened : c .opened ≡ r .tag + oneIf (c .open?)
+  pub is-open : c .open? ≡ isOpen (r .status 0)
+  pub lvts : c .open? ≡ true → c .lvts ≡ howMany (lvtIn G (r .arrived) 0) (G .to 0)
+  pub took : (t : ℕ) → c .took (suc t) ≡ r .written t
+  pub closed : (t : ℕ) → c .closed t ≡ true → (1 ≤ t) × (t ≤ r .tag)
+  pub accepted : (t j : ℕ) → c .accepted (suc t) j ≡ true → 1 ≤ r .accepted t j
+
+module _ (G : Graph) (c : Rounds) (r : RoundSteps.Rounds) (h : Counted G c r) where
+  open RoundSteps.Rounds r using (status, arrived, tag, written)
+
+  -- the open round's number
+  pub open-number : c .open? ≡ true → c .opened ≡ suc tag
+  open-number o = omega (arith, h .opened, ap oneIf o)
+
+  -- messages that the open round took more
+  more-in-open : (m : ℕ) → c .open? ≡ true → (t : ℕ) → tookMore (c .opened) m c .took (suc t) ≡ raise tag m written t
+  more-in-open m o t = rw (open-number o) (more-taken (c .took) written tag m (h .took) t)
+
+  -- gateway j takes the Start from i
+  pub hear-counted : (i j : ℕ) (rest : List RoundFrame) → arrived i j ≡ 0 → Counted G c (hear i j rest r)
+  unfolding hear
+  hear-counted i j rest z =
+      record {
+        opened = h .opened;
+        is-open = h .is-open;
+        lvts =
+            λ o. h .lvts o
+            ∙ sym (alike (lvtIn G (put i j 1 arrived) 0) (lvtIn G arrived 0) (G .to 0) (λ x m. lvts-after-start G arrived i j z 0 x) .1);
+        took = h .took;
+        closed = h .closed;
+        accepted = h .accepted;
+      }
+
+  -- gateway 0 begins
+  pub open-counted : (v : ℕ) → status 0 ≡ idle → ((k : ℕ) → Arc G 0 k → arrived 0 k ≡ 0)
+      → Counted G (tookMore (opens c .opened) (length (G .to 0)) (opens c)) (begin G 0 v r)
+  unfolding begin
+  open-counted v s z =
+      let shut : c .open? ≡ false = h .is-open ∙ ap isOpen s in
+      let number : c .opened ≡ tag = omega (arith, h .opened, ap oneIf shut) in
+      record {
+        opened = omega arith;
+        is-open = sym (ap isOpen (change-at 0 counting status 0 refl));
+        lvts = λ o. sym (none-in (lvtIn G arrived 0) (G .to 0) (λ k a. ap (λ (x : ℕ). eqb x 2) (z k a)) .1);
+        took = λ t. rw number (more-taken (c .took) written tag (length (G .to 0)) (h .took) t);
+        closed = h .closed;
+        accepted = h .accepted;
+      }
+
+  -- another gateway begins
+  pub begin-counted : (i v : ℕ) → i ≢ 0 → c .open? ≡ true → Counted G (tookMore (c .opened) (length (G .to i)) c) (begin G i v r)
+  unfolding begin
+  begin-counted i v n o =
+      record {
+        opened = h .opened;
+        is-open = h .is-open ∙ sym (ap isOpen (change-off i counting status 0 n));
+        lvts = h .lvts;
+        took = more-in-open (length (G .to i)) o;
+        closed = h .closed;
+        accepted = h .accepted;
+      }
+
+  -- a gateway stops
+  pub stop-counted : (i v : ℕ) → status i ≡ counting → Counted G c (stop i v r)
+  unfolding stop
+  stop-counted i v s =
+      record {
+        opened = h .opened;
+        is-open = go (change? i stopped status 0);
+        lvts = h .lvts;
+        took = h .took;
+        closed = h .closed;
+        accepted = h .accepted;
+      }
+    where
+      go : Changed i stopped status 0 → c .open? ≡ isOpen (change i stopped status 0)
+      go (at p e) = h .is-open ∙ ap isOpen (sym (ap status p) ∙ s) ∙ sym (ap isOpen e)
+      go (off n e) = h .is-open ∙ sym (ap isOpen e)
+
+  -- a gateway but 0 takes an Lvt
+  pub lvt-counted : (j i t : ℕ) (rest : List RoundFrame) → i ≢ 0 → Counted G c (takeLvt j i t rest r)
+  unfolding takeLvt
+  lvt-counted j i t rest n =
+      record {
+        opened = h .opened;
+        is-open = h .is-open;
+        lvts =
+            λ o. h .lvts o
+            ∙ sym (alike (lvtIn G (put i j 2 arrived) 0) (lvtIn G arrived 0) (G .to 0) (λ x m. lvts-elsewhere G arrived i j 0 n x) .1);
+        took = h .took;
+        closed = h .closed;
+        accepted = h .accepted;
+      }
+
+  -- gateway 0 takes an Lvt
+  pub own-lvt-counted : (j t : ℕ) (rest : List RoundFrame) → Arc G 0 j → arrived 0 j ≡ 1
+      → Counted G (oneMore c) (takeLvt j 0 t rest r)
+  unfolding takeLvt
+  own-lvt-counted j t rest a z =
+      record {
+        opened = h .opened;
+        is-open = h .is-open;
+        lvts = λ o. omega (arith, h .lvts o, lvts-here G arrived 0 j a z .1);
+        took = h .took;
+        closed = h .closed;
+        accepted = h .accepted;
+      }
+
+  -- a gateway but 0 sends its Lvts
+  pub finish-counted : (j : ℕ) → 0 < j → c .open? ≡ true → Counted G (tookMore (c .opened) (length (G .from j)) c) (finish G j r)
+  unfolding finish
+  finish-counted j n o =
+      record {
+        opened = h .opened;
+        is-open = h .is-open ∙ sym (ap isOpen (change-off j finished status 0 (omega arith)));
+        lvts = h .lvts;
+        took = more-in-open (length (G .from j)) o;
+        closed = h .closed;
+        accepted = h .accepted;
+      }
+
+  -- the round is closed
+  pub close-counted : c .open? ≡ true → Counted G (closes (tookMore (c .opened) (length (children (G .last) 0)) c)) (close G r)
+  unfolding close
+  close-counted o =
+      record {
+        opened = omega (arith, open-number o);
+        is-open = refl;
+        lvts = λ e. absurd (false≢true e);
+        took = more-in-open (length (children (G .last) 0)) o;
+        closed = λ t e. is-closed t (change? (c .opened) true (c .closed) t) (sym (same-change (c .opened) true (c .closed) t) ∙ e);
+        accepted = λ t j e. still t j (h .accepted t j e) (put? tag 0 1 (r .accepted) t j);
+      }
+    where
+      is-closed : (t : ℕ) → Changed (c .opened) true (c .closed) t → change (c .opened) true (c .closed) t ≡ true → (1 ≤ t) × (t ≤ suc tag)
+      is-closed t (at p e) d = omega (arith, open-number o)
+      is-closed t (off p e) d = omega (arith, h .closed t (sym e ∙ d))
+
+      still : (t j : ℕ) → 1 ≤ r .accepted t j → Put tag 0 1 (r .accepted) t j → 1 ≤ put tag 0 1 (r .accepted) t j
+      still t j a (at p q e) = omega arith
+      still t j a (off p e) = omega arith
+
+  -- gateway j takes the Update of round t
+  pub update-counted : (j t v : ℕ) (rest : List RoundFrame)
+      → Counted G (accepts (suc t) j (tookMore (suc t) (length (children (G .last) j)) c)) (takeUpdate G j t v rest r)
+  unfolding takeUpdate
+  update-counted j t v rest =
+      record {
+        opened = h .opened;
+        is-open = h .is-open;
+        lvts = h .lvts;
+        took = more-taken (c .took) written t (length (children (G .last) j)) (h .took);
+        closed = h .closed;
+        accepted = λ u k e. is-accepted u k (put? t j (suc (r .accepted t j)) (r .accepted) u k) e;
+      }
+    where
+      was : (u k : ℕ) → (t ≡ u → j ≢ k) → Lines.change (suc t) (Lines.change j true (c .accepted (suc t))) (c .accepted) (suc u) k ≡ c .accepted (suc u) k
+      was u k n = go (change? (suc t) (Lines.change j true (c .accepted (suc t))) (c .accepted) (suc u))
+        where
+          go : Changed (suc t) (Lines.change j true (c .accepted (suc t))) (c .accepted) (suc u)
+              → Lines.change (suc t) (Lines.change j true (c .accepted (suc t))) (c .accepted) (suc u) k ≡ c .accepted (suc u) k
+          go (at p e) =
+              ap (λ f. f k) (same-change (suc t) (Lines.change j true (c .accepted (suc t))) (c .accepted) (suc u) ∙ e)
+              ∙ same-change j true (c .accepted (suc t)) k
+              ∙ change-off j true (c .accepted (suc t)) k (n (omega arith))
+              ∙ ap (λ x. c .accepted x k) p
+          go (off p e) = ap (λ f. f k) (same-change (suc t) (Lines.change j true (c .accepted (suc t))) (c .accepted) (suc u) ∙ e)
+
+      is-accepted : (u k : ℕ) → Put t j (suc (r .accepted t j)) (r .accepted) u k
+          → Lines.change (suc t) (Lines.change j true (c .accepted (suc t))) (c .accepted) (suc u) k ≡ true
+          → 1 ≤ put t j (suc (r .accepted t j)) (r .accepted) u k
+      is-accepted u k (at p q e) d = omega arith
+      is-accepted u k (off n e) d = omega (arith, h .accepted u k (sym (was u k n) ∙ d))
+
+  -- a gateway sends a message or cancel
+  pub lower-counted : (i t : ℕ) → Counted G c (lower i t r)
+  unfolding lower
+  lower-counted i t =
+      record { opened = h .opened; is-open = h .is-open; lvts = h .lvts; took = h .took; closed = h .closed; accepted = h .accepted }
+
+  -- only the numbers taken matter
+  pub same-counted : (d : Rounds) → d .opened ≡ c .opened → d .open? ≡ c .open? → d .lvts ≡ c .lvts
+      → ((t : ℕ) → d .took (suc t) ≡ c .took (suc t)) → d .closed ≡ c .closed → d .accepted ≡ c .accepted → Counted G d r
+  same-counted d p q l e k a =
+      record {
+        opened = rw (p, q) (h .opened);
+        is-open = q ∙ h .is-open;
+        lvts = λ o. l ∙ h .lvts (sym q ∙ o);
+        took = λ t. e t ∙ h .took t;
+        closed = rw k (h .closed);
+        accepted = rw a (h .accepted);
+      }
