@@ -34,3 +34,4 @@ pub mod AcceptedCalls
 pub mod RoundForms
 pub mod RoundNotes
 pub mod RoundClaims
+pub mod BesideCalls
