@@ -35,3 +35,4 @@ pub mod RoundForms
 pub mod RoundNotes
 pub mod RoundClaims
 pub mod BesideCalls
+pub mod CommitCalls
