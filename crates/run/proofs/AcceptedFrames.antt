@@ -33,7 +33,7 @@ acknowledgmentSense b = cond b CancelAcknowledgment Acknowledgment
 
 -- how a frame was accepted
 pub data Accepted (room : ℕ) (f : Frame) (g : Gateway) : Outcome → Type 0 where
-  plain-taken : f .sense ≡ Plain → IsEvent (f .message) → g .agreed ≤ f .message .hour → fits room (takePlain (f .message) g) ≡ true
+  plain-taken : f .sense ≡ Plain → IsEvent (f .message) → kindNumber (f .message .kind) ≤ 2 → g .agreed ≤ f .message .hour → fits room (takePlain (f .message) g) ≡ true
       → Accepted room f g (outcomeOf (takePlain (f .message) g))
   cancel-taken : f .sense ≡ Cancel → g .agreed ≤ f .message .hour → fits room (takeCancel (f .message) g) ≡ true
       → Accepted room f g (outcomeOf (takeCancel (f .message) g))
@@ -72,12 +72,12 @@ not-below hour g r h = by-case (ltb hour (g .agreed)) refl
     by-case false p = record { in-time = ltb-false hour (g .agreed) p; comes-to = rw p }
 
 module _ (room : ℕ) (f : Frame) (g : Gateway) where
-  plain-accepted : f .sense ≡ Plain → IsEvent (f .message) → unlessBelow (f .message .hour) g (settled room g (takePlain (f .message) g)) .number ≡ 0
+  plain-accepted : f .sense ≡ Plain → IsEvent (f .message) → kindNumber (f .message .kind) ≤ 2 → unlessBelow (f .message .hour) g (settled room g (takePlain (f .message) g)) .number ≡ 0
       → Accepted room f g (unlessBelow (f .message .hour) g (settled room g (takePlain (f .message) g)))
-  plain-accepted s k h =
+  plain-accepted s k few h =
       let b = not-below (f .message .hour) g (settled room g (takePlain (f .message) g)) h in
       let e = settles room g (takePlain (f .message) g) (ap (λ (r : Outcome). r .number) (sym (b .comes-to)) ∙ h) in
-      subst (Accepted room f g) (sym (b .comes-to ∙ e .comes-to)) (plain-taken s k (b .in-time) (e .room-enough))
+      subst (Accepted room f g) (sym (b .comes-to ∙ e .comes-to)) (plain-taken s k few (b .in-time) (e .room-enough))
 
   cancel-accepted : f .sense ≡ Cancel → unlessBelow (f .message .hour) g (settled room g (takeCancel (f .message) g)) .number ≡ 0
       → Accepted room f g (unlessBelow (f .message .hour) g (settled room g (takeCancel (f .message) g)))
@@ -95,9 +95,9 @@ module _ (room : ℕ) (f : Frame) (g : Gateway) where
       by-case false p = absurd (omega (arith, rw p at h))
 
   by-kind : f .sense ≡ Plain → (k : Kind) → f .message .kind ≡ k → takeByKind room (f .message) g k .number ≡ 0 → Accepted room f g (takeByKind room (f .message) g k)
-  by-kind s (Failure origin) e h = plain-accepted s (rw e) h
-  by-kind s (Request origin) e h = plain-accepted s (rw e) h
-  by-kind s (Delivery origin) e h = plain-accepted s (rw e) h
+  by-kind s (Failure origin) e h = plain-accepted s (rw e) (omega (arith, ap kindNumber e)) h
+  by-kind s (Request origin) e h = plain-accepted s (rw e) (omega (arith, ap kindNumber e)) h
+  by-kind s (Delivery origin) e h = plain-accepted s (rw e) (omega (arith, ap kindNumber e)) h
   by-kind s (Restock quantity) e h = absurd (omega (arith, h))
   by-kind s Start e h = start-taken s e h
   by-kind s Lvt e h =

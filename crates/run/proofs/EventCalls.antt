@@ -134,7 +134,7 @@ module _ (n last : ℕ) (setups : ℕ → SetUp) (i : ℕ) where
     origins x k = omega (arith, st .valid .entries x k .message .origin, st .count)
 
     -- doing the earliest pending message
-    did : (m : Message) → done m g .gateway ≡
+    pub did : (m : Message) → done m g .gateway ≡
         withOutstanding (g .outstanding ++ map (sentAs false) (sent (siteOf (g .settings)) (g .state) m))
         (withRound (notedAll (sent (siteOf (g .settings)) (g .state) m) (g .round)) (withState (after (g .state) (m .kind)) (withQueue (processedNext (g .state) (g .queue)) g)))
     unfolding done
@@ -186,7 +186,7 @@ module _ (n last : ℕ) (setups : ℕ → SetUp) (i : ℕ) where
     abbrev pub back : List Entry → List Message
     back es = sentBack (siteOf (g .settings)) (processedOf es)
 
-    rolled : (events : List Entry) → rolledBack events g ≡
+    pub rolled : (events : List Entry) → rolledBack events g ≡
         withOutstanding (g .outstanding ++ map (sentAs true) (sentBack (siteOf (g .settings)) events))
         (withRound (notedAll (sentBack (siteOf (g .settings)) events) (g .round)) (withState (restored (g .state) events) g))
     unfolding rolledBack

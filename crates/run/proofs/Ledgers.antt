@@ -422,7 +422,7 @@ items-met m (e ∷ es) = by-case (isCancelOf m e) refl (items-met m es)
     by-case false q k = ap itemsOf (without-later (isCancelOf m) e es q) ∙ items-more e (withoutFirst (isCancelOf m) es) es k
 
 -- an element has what all have
-all-each : {A : Type 0} {p : A → Type 0} {l : List A} → All p l → (x : A) → x ∈ l → p x
+pub all-each : {A : Type 0} {p : A → Type 0} {l : List A} → All p l → (x : A) → x ∈ l → p x
 all-each nil x m = absurd (List·Memᴰ·not-nil m)
 all-each {p = p} (cons {a = y} h a) x m = ⊎-elim (λ (e : x ≡ y). subst p (sym e) h) (λ n. all-each a x n) (List·Memᴰ·cases-cons m)
 
@@ -523,7 +523,7 @@ module _ (n last : ℕ) (setups : ℕ → SetUp) where
           );
         }
 
-    entry-follows : Ascending MayStand es
+    pub entry-follows : Ascending MayStand es
         → Follows (upTo m es ++ (pendingEntry m ∷ map undone (behind m es)))
         (record { items = Ledger.upTo m (l .items) ++ (record { message = m; done = false } ∷ map notDone (Ledger.behind m (l .items))); cancels = l .cancels })
     entry-follows a =

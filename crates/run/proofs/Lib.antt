@@ -11,6 +11,15 @@ pub mod SingleQueues
 pub mod Ledgers
 pub mod EventsUnderWay
 pub mod AcceptedFrames
+pub mod EventWorlds
+pub mod OpeningQueues
+pub mod ReadableFrames
+pub mod WorkChains
+pub mod CommittedRecords
+pub mod TakeChains
+pub mod EventTakings
+pub mod ClaimParts
+pub mod OpeningWorlds
 pub mod FigureGraph
 pub mod ArrivalBits
 pub mod Standing
@@ -27,3 +36,5 @@ pub mod RoundNotes
 pub mod RoundClaims
 pub mod RoundOpening
 pub mod StartOnBytes
+pub mod BesideCalls
+pub mod CommitCalls

@@ -9,6 +9,7 @@ use Rattle.timewarp.specs.EventSteps.{EventStep}
 use Rattle.timewarp.specs.RoundSteps.{Rounds, lower}
 use Rattle.timewarp.specs.Worlds.{Setting, World, Step, event, Steps, none as noSteps, then as oneMore, lowerAll}
 use Rattle.timewarp.proofs.FamilyLaws.{change-at, change-off}
+use Rattle.timewarp.proofs.CallChains.{steps-join}
 
 -- Event steps of gateway i one after another, with all that it sends in them.
 pub data Chain (M : Model) (i time : ℕ) (g : Gateway (M .Message)) (n : Network (M .Message)) : List (M .Message) → Gateway (M .Message) → Network (M .Message) → Type 1 where
@@ -69,3 +70,16 @@ module _ (S : Setting) where
             network = refl;
             rounds = ap (lowerAll S i t) (r .rounds) ∙ sym (lower-append i s t (w .rounds)) ∙ ap (λ k. lowerAll S i k (w .rounds)) (sym e);
           }
+
+  -- one such world after another
+  pub led-join : {i : ℕ} {w : World S} {s t : List (model .Message)} {g h : Gateway (model .Message)} {n m : Network (model .Message)} →
+      (a : Led i w s g n) → Led i (a .world) t h m → Led i w (s ++ t) h m
+  led-join {i} {w} {s} {t} a b =
+      record {
+        world = b .world;
+        steps = steps-join (a .steps) (b .steps);
+        here = b .here;
+        elsewhere = λ j e. b .elsewhere j e ∙ a .elsewhere j e;
+        network = b .network;
+        rounds = b .rounds ∙ ap (lowerAll S i t) (a .rounds) ∙ sym (lower-append i s t (w .rounds));
+      }

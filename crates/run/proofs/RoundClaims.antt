@@ -23,8 +23,7 @@ module _ (n : ℕ) (some : 1 ≤ n) (M : Model) (equal : n - 1 ≡ M .last)
   completed : (t : ℕ) → Completed n c t → (1 ≤ t) × RoundSteps.Completed (figureGraph n some) (w .rounds) (t - 1)
   completed t d =
       let (one, most) = h .closed t (d .isClosed) in
-      let number : t ≡ suc (t - 1) = omega arith in
-      (
+      let number : t ≡ suc (t - 1) = omega arith in (
         one,
         record {
           is-closed = omega arith;

@@ -1,0 +1,109 @@
+-- What the abstract theorem says of a run's world that is beside a reachable world of the theory.
+use mathlib.Core.Path.{_≡_, refl, sym, _∙_, ap, subst}
+use Prim.Native.Nat.{ℕ, _-_, _≤_, _<_}
+use native.Mathlib.Omega.{arith}
+use mathlib.Core.Bool.{Bool, true, false, cond}
+use mathlib.Core.List.{List, [], _∷_, _++_}
+use lib.Dec.{eqb}
+use lib.ListN.{length}
+use borrow.Author.Tests.{eqb-true}
+use Rattle.routing.specs.Arcs.{_∈_}
+use Rattle.model.specs.EventOrder.{key}
+use Rattle.model.specs.declared.Message.{Message}
+use Rattle.frame.specs.Limits.{nothingDue}
+use Rattle.frame.specs.Reasons.{reading}
+use Rattle.memory.specs.Records.{Gateway}
+use Rattle.memory.specs.Codec.{decode}
+use Rattle.memory.specs.Soundness.{sound}
+use Rattle.gateway.specs.Effects.{Outcome}
+use Rattle.gateway.specs.Committing.{commit}
+use Rattle.gateway.specs.Working.{pendingOf}
+use Rattle.gateway.specs.Calls.{committed, onSound, leaving}
+use Rattle.timewarp.specs.Lists.{All}
+use Rattle.timewarp.specs.Models.{hour, first}
+use Rattle.timewarp.specs.Gateways.{Event, message, Gateway as View, Network}
+use Rattle.timewarp.specs.SingleQueue as Theory
+use Rattle.timewarp.specs.Arcs.{Graph}
+use Rattle.timewarp.specs.Worlds as Worlds
+use Rattle.timewarp.proofs.Theorem.{claim-holds}
+use Rattle.run.specs.Lines.{Beginning}
+use Rattle.run.specs.SingleQueue.{SetUp, wholeRecord}
+use Rattle.run.specs.Ledger.{waiting}
+use Rattle.run.specs.World.{World, Carried, kindIn}
+use Rattle.run.specs.Demand3.{agreed, NothingToCommit}
+use Rattle.run.proofs.ForecastModel.{forecastModel}
+use Rattle.run.proofs.QueueViews.{viewOf, waitingOf}
+use Rattle.run.proofs.SingleQueues.{recordOf}
+use Rattle.run.proofs.Ledgers.{Follows, waiting-have}
+use Rattle.run.proofs.EventsUnderWay.{seenIn, eventOf, acknowledgedOf, bound-seen}
+use Rattle.run.proofs.EventWorlds.{settingOf, networkIn}
+use Rattle.run.proofs.CommittedRecords.{nothing-to-commit, record-begins}
+
+-- the number that commit answers on sound memory
+commit-number : (memory output : List ℕ) → sound memory ≡ true → committed memory output .answer .number ≡ commit (length output) (decode memory) .number
+unfolding committed onSound leaving
+commit-number memory output s = rw s (by-case (eqb (commit (length output) (decode memory) .number) 0) refl)
+  where
+    by-case : (t : Bool) → eqb (commit (length output) (decode memory) .number) 0 ≡ t → leaving (commit (length output) (decode memory)) memory output .answer .number ≡ commit (length output) (decode memory) .number
+    by-case true p = rw p (sym (eqb-true (commit (length output) (decode memory) .number) 0 p))
+    by-case false p = rw p
+
+module _ (n last : ℕ) (setups : ℕ → SetUp) (G : Graph) (same : G .last ≡ n - 1) where
+  abbrev S : Worlds.Setting
+  S = settingOf n last setups G same
+
+  -- the run's world is beside the theory's world: events, agreed times, records and ledgers
+  pub record Beside (w : World) (t : Worlds.World S) : Type 0 where
+    pub reached : Worlds.Reachable S t
+    pub done : ℕ → List Message
+    pub is-sound : (i : ℕ) → i < n → sound (w .memories i) ≡ true
+    pub views : (i : ℕ) → i < n → t .events .gateways i ≡ viewOf (done i) (decode (w .memories i) .queue) (decode (w .memories i) .outstanding)
+    pub network : t .events .network ≡ networkIn (w .underWay)
+    pub times : (i : ℕ) → i < n → t .rounds .agreed i ≡ agreed w i
+    pub gateway-times : (i : ℕ) → i < n → decode (w .memories i) .agreed ≡ agreed w i
+    pub records : (i : ℕ) → i < n → w .records i ≡ recordOf n last setups i (done i)
+    pub ledgers : (i : ℕ) → i < n → Follows n last setups (decode (w .memories i) .queue) (w .ledgers i)
+
+  module _ (w : World) (t : Worlds.World S) (b : Beside w t) where
+    -- each committed record is a beginning of the single queue's
+    pub beginning-part : (i : ℕ) → i < n → wholeRecord n last setups i ≡ recordOf n last setups i (Theory.singleHistory (forecastModel n last setups) i) → Beginning (w .records i) (wholeRecord n last setups i)
+    beginning-part i h whole =
+        let r = claim-holds S (b .reached) .beginning i (omega arith) in
+        record-begins n last setups i (b .done i) (w .records i) (b .records i h) whole (r .0) (r .1 ∙ ap (λ (g : View Message). r .0 ++ g .committed) (b .views i h))
+
+    -- no agreed time is past anything that waits
+    pub waiting-part : (i j : ℕ) → i < n → j < n → (m : Message) → m ∈ waiting (w .ledgers j) → agreed w i ≤ m .hour
+    unfolding hour first key
+    waiting-part i j h k m d =
+        let r = claim-holds S (b .reached) in
+        waiting-have n last setups (decode (w .memories j) .queue) (w .ledgers j) (b .ledgers j k)
+        (subst (λ (x : ℕ). All (λ y. x ≤ y .hour) (pendingOf (decode (w .memories j) .queue))) (b .times i h)
+        (subst (λ (g : View Message). All (λ (y : Message). t .rounds .agreed i ≤ y .hour) (g .pending)) (b .views j k) (r .bound-pending i j (omega arith) (omega arith))))
+        (subst (λ (x : ℕ). All (λ y. x ≤ y .hour) (waitingOf (decode (w .memories j) .queue))) (b .times i h)
+        (subst (λ (g : View Message). All (λ (y : Message). t .rounds .agreed i ≤ y .hour) (g .waiting)) (b .views j k) (r .bound-waiting i j (omega arith) (omega arith))))
+        m
+        d
+
+    -- or past any message, cancel or acknowledgment under way
+    pub underWay-part : (i : ℕ) → i < n → (c : Carried) → c ∈ w .underWay → kindIn (c .frame) < 4 → agreed w i ≤ reading (c .frame) .frame .message .hour
+    unfolding hour first key
+    underWay-part i h c d small =
+        let r = claim-holds S (b .reached) in
+        bound-seen (λ m. agreed w i ≤ m .hour) (w .underWay)
+        (subst (λ (x : ℕ). All (λ (e : Event Message). x ≤ message e .hour) (seenIn eventOf (w .underWay))) (b .times i h)
+        (subst (λ (k : Network Message). All (λ (e : Event Message). t .rounds .agreed i ≤ message e .hour) (k .events)) (b .network) (r .bound-events i (omega arith))))
+        (subst (λ (x : ℕ). All (λ (e : Event Message). x ≤ message e .hour) (seenIn acknowledgedOf (w .underWay))) (b .times i h)
+        (subst (λ (k : Network Message). All (λ (e : Event Message). t .rounds .agreed i ≤ message e .hour) (k .acknowledgments)) (b .network) (r .bound-acknowledgments i (omega arith))))
+        c
+        d
+        small
+
+    -- the record is whole where nothing is due any more and nothing is left to commit
+    pub whole-part : (i : ℕ) → i < n → wholeRecord n last setups i ≡ recordOf n last setups i (Theory.singleHistory (forecastModel n last setups) i) → agreed w i ≡ nothingDue → NothingToCommit w i → w .records i ≡ wholeRecord n last setups i
+    unfolding hour first key
+    whole-part i h whole due nothing =
+        let v = b .views i h in
+        let left = nothing-to-commit 0 (decode (w .memories i)) (sym (commit-number (w .memories i) [] (b .is-sound i h)) ∙ nothing []) in
+        let all = claim-holds S (b .reached) .whole i (omega arith) (omega (arith, b .times i h))
+        (λ m newer e. omega (arith, left m newer (ap (λ (g : View Message). g .processed) (sym v) ∙ e), b .times i h, b .gateway-times i h)) in
+        b .records i h ∙ ap (recordOf n last setups i) (ap (λ (g : View Message). g .committed) (sym v) ∙ all) ∙ sym whole

@@ -1,0 +1,142 @@
+-- An accepted event or acknowledgment that was under way: the theory's world goes on, and gateway, ledger and note follow.
+use mathlib.Core.Path.{_≡_, refl, sym, _∙_, ap, subst}
+use Prim.Native.Nat.{ℕ, _-_, _≤_, _<_}
+use mathlib.Core.Bool.{Bool, true, false, cond}
+use mathlib.Core.List.{List, [], _∷_, _++_, map, append-nil, Memᴰ·append-right}
+use borrow.Author.Tests.{le-leb}
+use Rattle.routing.specs.Arcs.{_∈_}
+use Rattle.model.specs.Messages.{kindNumber}
+use Rattle.model.specs.declared.Message.{Message}
+use Rattle.frame.specs.Claims.{OneToOne}
+use Rattle.frame.specs.Reasons.{reading}
+use Rattle.frame.specs.Writing.{written}
+use Rattle.frame.specs.declared.Frame.{Frame}
+use Rattle.frame.specs.declared.Sense.{Sense}
+use Rattle.frame.specs.declared.Sense.the-variants.{Plain, Cancel}
+use Rattle.memory.specs.Records.{Gateway}
+use Rattle.memory.specs.Validity.{isWaiting}
+use Rattle.memory.specs.declared.Entry.{Entry}
+use Rattle.memory.proofs.Validated.{valid-facts}
+use Rattle.gateway.specs.Effects.{Outcome, bytesOfFrames, framesFor, withOutstanding}
+use Rattle.gateway.specs.Undoing.{processedOf}
+use Rattle.gateway.specs.Taking.{any, withoutFirst, upTo, behind, beforeLast, fromLast, isCancelOf, isPlain, isSent, takePlain, takeCancel}
+use Rattle.gateway.proofs.Maintaining.{Proper, Kept}
+use Rattle.gateway.proofs.Replies.{Good}
+use Rattle.gateway.proofs.Searches.{processed-member, cut-again, around-last}
+use Rattle.timewarp.specs.Lists.{All, nil, cons}
+use Rattle.timewarp.specs.Arcs.{Graph}
+use Rattle.timewarp.specs.Worlds.{World}
+use Rattle.run.specs.SingleQueue.{SetUp}
+use Rattle.run.specs.Ledger as Ledger
+use Rattle.run.specs.World.{Carried, carry, isFrame, takenBySense}
+use Rattle.run.proofs.EventCalls.{Stands, notedAll, plainBack, plain-saved, cancelBack, cancel-saved}
+use Rattle.run.proofs.EventsUnderWay.{IsEvent}
+use Rattle.run.proofs.AcceptedFrames.{outcomeOf, acknowledgmentSense}
+use Rattle.run.proofs.Ledgers.{Follows, entered-follows, struckOut-follows}
+use Rattle.run.proofs.ReadableFrames.{acknowledgment-readable, back-readable}
+use Rattle.run.proofs.EventWorlds.{settingOf, Sees, GoesOn, AllReadable, plain-frames, cancel-frames, plain-goes, cancel-goes, acknowledgment-goes}
+use Rattle.run.proofs.TakeChains.{Noted, still-stands, plain-noted, cancel-noted}
+
+module _ (one : OneToOne) (n last : ℕ) (setups : ℕ → SetUp) (G : Graph) (same : G .last ≡ n - 1) (i : ℕ) (inside : i ≤ n - 1) (c : List Message) (w : World (settingOf n last setups G same)) (g : Gateway) (cs : List Carried) (l : Ledger.Ledger) (p : Proper g) (st : Stands n last setups i c g) (sees : Sees n last setups G same w i c g cs) (followed : Follows n last setups (g .queue) l) (frame : List ℕ) (found : any (isFrame frame) cs ≡ true) (tag : ℕ) where
+  abbrev m : Message
+  m = reading frame .frame .message
+
+  -- what an accepted frame comes to
+  pub record TakeGoes (o : Outcome) : Type 1 where
+    pub frames : List Frame
+    pub bytes : bytesOfFrames frames ≡ o .output
+    pub readable : AllReadable frames
+    pub sends : List Message
+    pub goes : GoesOn n last setups G same w i sends c (o .gateway) (carry tag (map written frames) (withoutFirst (isFrame frame) cs))
+    pub stands : Stands n last setups i c (o .gateway)
+    pub follows : Follows n last setups (o .gateway .queue) (takenBySense m (reading frame .frame .sense) l)
+    pub noted : Noted n last setups i c g st sends (o .gateway)
+
+  -- the messages that the queue holds are good
+  held : (e : Entry) → e ∈ g .queue → Good (g .settings) (isWaiting e) (e .message)
+  held e k = record { storable = valid-facts g (p .valid) .entries e k .message; ranged = p .ranged .queue e k .message }
+
+  plain-back-readable : (t : Bool) → any (isCancelOf m) (g .queue) ≡ t → AllReadable (framesFor true (plainBack n last setups i c g st m))
+  unfolding plainBack
+  plain-back-readable true q = rw q nil
+  plain-back-readable false q =
+      rw q
+      (back-readable one (g .settings) (valid-facts g (p .valid) .settings) (processedOf (behind m (g .queue)))
+      (λ e k. held e (subst (λ es. e ∈ es) (cut-again m (g .queue)) (Memᴰ·append-right (upTo m (g .queue)) (processed-member (behind m (g .queue)) e k)))))
+
+  plain-readable : Good (g .settings) false m → kindNumber (m .kind) ≤ 2 → AllReadable (takePlain m g .frames)
+  plain-readable good few =
+      subst AllReadable (sym (plain-frames n last setups i c g st m))
+      (cons (acknowledgment-readable one (g .settings) (valid-facts g (p .valid) .settings) false m good few) (plain-back-readable (any (isCancelOf m) (g .queue)) refl))
+
+  cancel-back-readable : (t : Bool) → any (isPlain m) (g .queue) ≡ t → AllReadable (framesFor true (cancelBack n last setups i c g st m))
+  unfolding cancelBack
+  cancel-back-readable false q = rw q nil
+  cancel-back-readable true q =
+      rw q
+      (back-readable one (g .settings) (valid-facts g (p .valid) .settings) (processedOf (fromLast (isPlain m) (g .queue)))
+      (λ e k. held e (subst (λ es. e ∈ es) (around-last (isPlain m) (g .queue) q) (Memᴰ·append-right (beforeLast (isPlain m) (g .queue)) (processed-member (fromLast (isPlain m) (g .queue)) e k)))))
+
+  cancel-readable : Good (g .settings) true m → kindNumber (m .kind) ≤ 2 → AllReadable (takeCancel m g .frames)
+  cancel-readable good few =
+      subst AllReadable (sym (cancel-frames n last setups i c g st m))
+      (cons (acknowledgment-readable one (g .settings) (valid-facts g (p .valid) .settings) true m good few) (cancel-back-readable (any (isPlain m) (g .queue)) refl))
+
+  pub plain-take : reading frame .frame .sense ≡ Plain → IsEvent m → kindNumber (m .kind) ≤ 2 → m .to ≡ i → g .agreed ≤ m .hour → Good (g .settings) false m → Kept (g .settings) (takePlain m g .gateway) →
+      TakeGoes (outcomeOf (takePlain m g))
+  plain-take s k few to-here due good kept =
+      let readable = plain-readable good few in
+      record {
+        frames = takePlain m g .frames;
+        bytes = refl;
+        readable = readable;
+        sends = plainBack n last setups i c g st m;
+        goes = plain-goes n last setups G same w i inside c g st cs sees frame found tag s k to-here due readable;
+        stands = still-stands n last setups i c g st c (takePlain m g .gateway) kept (plain-saved n last setups i c g st m);
+        follows =
+            subst (Follows n last setups (takePlain m g .gateway .queue))
+            (sym (ap (λ (t : Sense). takenBySense m t l) s ∙ rw (le-leb (kindNumber (m .kind)) 2 few)))
+            (entered-follows n last setups m g l (st .valid .order) followed);
+        noted = plain-noted n last setups i c g st m;
+      }
+
+  pub cancel-take : reading frame .frame .sense ≡ Cancel → kindNumber (m .kind) ≤ 2 → m .to ≡ i → Good (g .settings) true m → Kept (g .settings) (takeCancel m g .gateway) →
+      TakeGoes (outcomeOf (takeCancel m g))
+  cancel-take s few to-here good kept =
+      let readable = cancel-readable good few in
+      record {
+        frames = takeCancel m g .frames;
+        bytes = refl;
+        readable = readable;
+        sends = cancelBack n last setups i c g st m;
+        goes = cancel-goes n last setups G same w i inside c g st cs sees frame found tag s to-here readable;
+        stands = still-stands n last setups i c g st c (takeCancel m g .gateway) kept (cancel-saved n last setups i c g st m);
+        follows =
+            subst (Follows n last setups (takeCancel m g .gateway .queue))
+            (sym (ap (λ (t : Sense). takenBySense m t l) s))
+            (struckOut-follows n last setups m g l (st .valid .order) followed);
+        noted = cancel-noted n last setups i c g st m;
+      }
+
+  pub acknowledgment-take : (b : Bool) → reading frame .frame .sense ≡ acknowledgmentSense b → m .from ≡ i → any (isSent b m) (g .outstanding) ≡ true →
+      Kept (g .settings) (withOutstanding (withoutFirst (isSent b m) (g .outstanding)) g) →
+      TakeGoes (record { number = 0; gateway = withOutstanding (withoutFirst (isSent b m) (g .outstanding)) g; output = [] })
+  unfolding bytesOfFrames notedAll
+  acknowledgment-take b s from-here out kept =
+      record {
+        frames = [];
+        bytes = refl;
+        readable = nil;
+        sends = [];
+        goes =
+            subst (λ d. GoesOn n last setups G same w i [] c (withOutstanding (withoutFirst (isSent b m) (g .outstanding)) g) d)
+            (sym (append-nil (withoutFirst (isFrame frame) cs)))
+            (acknowledgment-goes n last setups G same w i inside c g st cs sees frame found tag b s from-here out);
+        stands = still-stands n last setups i c g st c (withOutstanding (withoutFirst (isSent b m) (g .outstanding)) g) kept (st .saved);
+        follows = subst (Follows n last setups (g .queue)) (sym (ap (λ (t : Sense). takenBySense m t l) s ∙ unmoved b)) followed;
+        noted = record { round = refl; agreed = refl };
+      }
+    where
+      unmoved : (b : Bool) → takenBySense m (acknowledgmentSense b) l ≡ l
+      unmoved true = refl
+      unmoved false = refl

@@ -1,0 +1,123 @@
+-- What the gateways write can be read again: frames of stored messages and acknowledgments are of the forms that they are written in.
+use mathlib.Core.Path.{_≡_, refl, sym, _∙_, ap, subst}
+use Prim.Native.Nat.{ℕ, zero, suc, _≤_, _<_, _^_}
+use native.Mathlib.Omega.{arith}
+use mathlib.Core.Bool.{Bool, true, false, cond, _&&_, _||_}
+use mathlib.Core.List.{List, [], _∷_, _++_, map, map-append, List·Memᴰ·head as member-first, List·Memᴰ·tail as member-rest}
+use lib.Dec.{leb}
+use lib.ListN.{length, getD}
+use borrow.Author.Tests.{leb-true, le-leb}
+use Rattle.buffer.specs.Slice.{Bytes}
+use Rattle.routing.specs.Arcs.{_∈_}
+use Rattle.model.specs.Doing.{sent}
+use Rattle.model.specs.Messages.{kindNumber, originOf, quantityOf}
+use Rattle.model.specs.declared.Message.{Message}
+use Rattle.model.specs.declared.State.{State}
+use Rattle.frame.specs.Kinds.{hasLamp}
+use Rattle.frame.specs.Writing.{allBetween, lampFits, gatewaysAgree, hourFits, wellFormed, written}
+use Rattle.frame.specs.Reasons.{reading, readAs}
+use Rattle.frame.specs.Claims.{OneToOne, Ranged}
+use Rattle.frame.specs.declared.Frame.{Frame}
+use Rattle.frame.specs.declared.Reading.{Reading}
+use Rattle.frame.specs.declared.Sense.{Sense}
+use Rattle.memory.specs.Records.{Gateway, siteOf}
+use Rattle.memory.specs.Ranges.{RangedMessage}
+use Rattle.memory.specs.Validity.{frameIf, senseIf, isWaiting}
+use Rattle.memory.specs.declared.Settings.{Settings}
+use Rattle.memory.specs.declared.Entry.{Entry}
+use Rattle.memory.specs.declared.Sent.{Sent}
+use Rattle.memory.proofs.Validated.{ValidSettings, Storable, ValidSent, and-left, and-right}
+use Rattle.gateway.specs.Effects.{framesFor}
+use Rattle.gateway.specs.Undoing.{sentBack}
+use Rattle.gateway.specs.Taking.{acknowledgment}
+use Rattle.gateway.proofs.Replies.{Good, GoodSent, sent-good}
+use Rattle.timewarp.specs.Lists.{All, nil, cons}
+use Rattle.timewarp.proofs.ListLaws.{all-append}
+use Rattle.run.proofs.QueueChanges.{each-all}
+
+-- numbers between two bytes are bytes
+between-bytes : (low high : ℕ) → high < 256 → (l : List ℕ) → allBetween low high l ≡ true → Bytes l
+unfolding allBetween
+between-bytes low high h [] e i = omega arith
+between-bytes low high h (b ∷ l) e zero = omega (arith, leb-true b high (search (and-left, and-right)))
+between-bytes low high h (b ∷ l) e (suc i) = between-bytes low high h l (search (and-left, and-right)) i
+
+lamp-bytes : (m : Message) → lampFits m ≡ true → Bytes (m .lamp)
+unfolding lampFits
+lamp-bytes m e = by-case (hasLamp (kindNumber (m .kind))) e
+  where
+    by-case : (t : Bool) → cond t (allBetween 33 126 (m .lamp)) (allBetween 0 0 (m .lamp)) ≡ true → Bytes (m .lamp)
+    by-case true h = between-bytes 33 126 (omega arith) (m .lamp) h
+    by-case false h = between-bytes 0 0 (omega arith) (m .lamp) h
+
+form-lamp : (f : Frame) → wellFormed f ≡ true → lampFits (f .message) ≡ true
+unfolding wellFormed
+form-lamp f e = search (and-left, and-right) depth 9
+
+-- numbers that fit
+pub record Fitting (m : Message) : Type 0 where
+  pub hour : m .hour < 4294967296
+  pub from : m .from < 256
+  pub to : m .to < 256
+  pub origin : originOf (m .kind) < 256
+  pub ranged : RangedMessage m
+
+-- a well-formed frame whose numbers fit is read as it was written
+pub readable : OneToOne → (f : Frame) → wellFormed f ≡ true → Fitting (f .message) → reading (written f) .frame ≡ f
+readable one f e r =
+    ap (λ (x : Reading). x .frame)
+    (one .writtenRead f
+    (record {
+      hour = r .hour;
+      from = r .from;
+      to = r .to;
+      origin = r .origin;
+      quantity = r .ranged .quantity;
+      lamp = r .ranged .lamp;
+      bytes = lamp-bytes (f .message) (form-lamp f e);
+    })
+    e)
+
+module _ (one : OneToOne) (s : Settings) (v : ValidSettings s) where
+  pub stored-fits : {cancel : Bool} (m : Message) → Storable s cancel m → RangedMessage m → Fitting m
+  stored-fits m t r =
+      record {
+        hour = omega (arith, t .hour, v .last);
+        from = omega (arith, t .from, v .n);
+        to = omega (arith, t .to, v .n);
+        origin = omega (arith, t .origin, v .n);
+        ranged = r;
+      }
+
+  -- what an event sends, or the cancels of it
+  pub sent-readable : {waits : Bool} (m : Message) → Good s waits m → (cancel : Bool) (before : State) → All (λ f. reading (written f) .frame ≡ f) (framesFor cancel (sent (siteOf s) before m))
+  sent-readable m good cancel before =
+      frames-readable (sent (siteOf s) before m) (each-all (sent (siteOf s) before m) (λ x k. sent-good s v m good cancel before x k))
+    where
+      frames-readable : (ms : List Message) → All (λ x. GoodSent s (record { message = x; cancel = cancel })) ms → All (λ f. reading (written f) .frame ≡ f) (framesFor cancel ms)
+      frames-readable [] nil = nil
+      frames-readable (x ∷ ms) (cons h a) =
+          cons (readable one (frameIf cancel x) (h .valid .message .form) (stored-fits x (h .valid .message) (h .ranged))) (frames-readable ms a)
+
+-- a well-formed frame of a message with a lamp is so in any sense
+pub any-sense : (m : Message) (s t : Sense) → kindNumber (m .kind) ≤ 2 → wellFormed (record { message = m; sense = s }) ≡ true → wellFormed (record { message = m; sense = t }) ≡ true
+unfolding wellFormed
+any-sense m s t h e =
+    let hours : hourFits (kindNumber (m .kind)) (m .hour) ≡ true = search (and-left, and-right) depth 9 in
+    let lamps : cond (leb (kindNumber (m .kind)) 2) (allBetween 33 126 (m .lamp)) (allBetween 0 0 (m .lamp)) ≡ true = search (and-left, and-right) depth 9 in
+    let agrees : gatewaysAgree (m .from) (m .to) (m .kind) ≡ true = search (and-left, and-right) depth 9 in
+    rw (lamps, hours, agrees, le-leb (kindNumber (m .kind)) 2 h)
+
+module _ (one : OneToOne) (s : Settings) (v : ValidSettings s) where
+  -- the acknowledgment of a message that was taken
+  pub acknowledgment-readable : (b : Bool) (m : Message) → Good s b m → kindNumber (m .kind) ≤ 2 → reading (written (acknowledgment b m)) .frame ≡ acknowledgment b m
+  acknowledgment-readable b m good h =
+      readable one (acknowledgment b m) (any-sense m (senseIf b) (acknowledgment b m .sense) h (good .storable .form)) (stored-fits one s v m (good .storable) (good .ranged))
+
+  -- the cancels of what some events had sent
+  pub back-readable : (es : List Entry) → ((e : Entry) → e ∈ es → Good s (isWaiting e) (e .message)) → All (λ f. reading (written f) .frame ≡ f) (framesFor true (sentBack (siteOf s) es))
+  unfolding sentBack
+  back-readable [] h = nil
+  back-readable (e ∷ es) h =
+      subst (All (λ f. reading (written f) .frame ≡ f)) (sym (map-append (frameIf true) (sentBack (siteOf s) es) (sent (siteOf s) (e .before) (e .message))))
+      (all-append (back-readable es (λ x k. h x (member-rest k))) (sent-readable one s v (e .message) (h e (member-first refl)) true (e .before)))

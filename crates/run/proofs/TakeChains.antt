@@ -1,0 +1,57 @@
+-- Taking an event or an acknowledgment that is under way: what it comes to, beside the theory's world and the ledger.
+use mathlib.Core.Path.{_≡_, refl, sym, _∙_, ap, subst}
+use Prim.Native.Nat.{ℕ, _-_, _≤_, _<_}
+use mathlib.Core.Bool.{Bool, true, false, cond}
+use mathlib.Core.List.{List, [], _∷_, _++_, map}
+use Rattle.model.specs.declared.Message.{Message}
+use Rattle.frame.specs.Reasons.{reading}
+use Rattle.frame.specs.Writing.{written}
+use Rattle.frame.specs.declared.Frame.{Frame}
+use Rattle.memory.specs.Records.{Gateway}
+use Rattle.memory.specs.declared.Round.{Round}
+use Rattle.memory.proofs.Validated.{valid-facts}
+use Rattle.gateway.specs.Effects.{bytesOfFrames}
+use Rattle.gateway.specs.Undoing.{processedOf}
+use Rattle.gateway.specs.Taking.{any, behind, fromLast, isCancelOf, isPlain, takePlain, takeCancel}
+use Rattle.gateway.proofs.Maintaining.{Proper, Kept}
+use Rattle.run.specs.SingleQueue.{SetUp}
+use Rattle.run.proofs.SavedStates.{Saved}
+use Rattle.run.proofs.EventCalls.{Stands, notedAll, rolled, plainBack, plain-saved, cancelBack, cancel-saved}
+
+module _ (n last : ℕ) (setups : ℕ → SetUp) (i : ℕ) (c : List Message) (g : Gateway) (st : Stands n last setups i c g) where
+  -- a gateway that a call left stands as before
+  pub still-stands : (c′ : List Message) (h : Gateway) → Kept (g .settings) h → Saved n last setups i c′ (h .queue) (h .state) → Stands n last setups i c′ h
+  still-stands c′ h k v =
+      record {
+        own = ap (λ s. s .own) (k .same) ∙ st .own;
+        count = ap (λ s. s .n) (k .same) ∙ st .count;
+        until = ap (λ s. s .last) (k .same) ∙ st .until;
+        supplier = ap (λ s. s .supplier) (k .same) ∙ st .supplier;
+        valid = valid-facts h (k .proper .valid);
+        saved = v;
+      }
+
+  -- what taking an event does to the note and to the agreed time: it is sending
+  pub record Noted (sends : List Message) (h : Gateway) : Type 0 where
+    pub round : h .round ≡ notedAll sends (g .round)
+    pub agreed : h .agreed ≡ g .agreed
+
+  pub plain-noted : (m : Message) → Noted (plainBack n last setups i c g st m) (takePlain m g .gateway)
+  unfolding takePlain plainBack notedAll
+  plain-noted m = by-case (any (isCancelOf m) (g .queue)) refl
+    where
+      by-case : (t : Bool) → any (isCancelOf m) (g .queue) ≡ t → Noted (plainBack n last setups i c g st m) (takePlain m g .gateway)
+      by-case true p = rw p (record { round = refl; agreed = refl })
+      by-case false p =
+          let r = rolled n last setups i c g st (processedOf (behind m (g .queue))) in
+          rw p (record { round = ap (λ (h : Gateway). h .round) r; agreed = ap (λ (h : Gateway). h .agreed) r })
+
+  pub cancel-noted : (m : Message) → Noted (cancelBack n last setups i c g st m) (takeCancel m g .gateway)
+  unfolding takeCancel cancelBack notedAll
+  cancel-noted m = by-case (any (isPlain m) (g .queue)) refl
+    where
+      by-case : (t : Bool) → any (isPlain m) (g .queue) ≡ t → Noted (cancelBack n last setups i c g st m) (takeCancel m g .gateway)
+      by-case true p =
+          let r = rolled n last setups i c g st (processedOf (fromLast (isPlain m) (g .queue))) in
+          rw p (record { round = ap (λ (h : Gateway). h .round) r; agreed = ap (λ (h : Gateway). h .agreed) r })
+      by-case false p = rw p (record { round = refl; agreed = refl })
