@@ -66,7 +66,7 @@ module _ (n : ℕ) (some : 1 ≤ n) (M : Model) (equal : n - 1 ≡ M .last) (w :
       let (own, idles, outcome) = start-accepted (length output) (gs i) number in
       let z : i ≡ 0 = sym (a .own) ∙ own in
       let cut : framesIn (started (v .memories i) output .answer .written) (started (v .memories i) output .output) ≡ map written fs =
-          ap (λ l. framesIn (l .answer .written) (l .output)) (comes ∙ ap (λ r. left r (v .memories i) output) outcome) ∙ frames-in fs output (s .whole) in
+      ap (λ l. framesIn (l .answer .written) (l .output)) (comes ∙ ap (λ r. left r (v .memories i) output) outcome) ∙ frames-in fs output (s .whole) in
       let shut = not-open alike z idles (alike .standing i inside) in
       subst (λ xs. Led n some M equal w gs i (begun (gs i)) (roundsIn (carry (suc (v .rounds .opened)) xs (v .underWay))) (counters (roundFrames true xs))) (sym cut)
       (subst (λ (m : ℕ). Led n some M equal w gs i (begun (gs i)) (roundsIn (carry (suc (v .rounds .opened)) (map written fs) (v .underWay))) (counters m)) (sym (frames-counted true (s .readable) (s .counting)))
