@@ -2,3 +2,4 @@
 pub mod Writes
 pub mod Numbers
 pub mod Putting
+pub mod Equality

@@ -5,10 +5,10 @@ use native.Mathlib.Omega.{arith}
 use mathlib.Core.Bool.{Bool, true, false, not, cond, _&&_, _||_, and-assoc, and-false}
 use mathlib.Core.List.{List, [], _∷_, map}
 use lib.ListN.{take, drop}
-use Rattle.buffer.specs.Slice.{part}
+use Rattle.buffer.specs.Slice.{part, sameBytes}
 use Rattle.memory.specs.Codec.{entryBytes, entryOf, sentBytes, sentOf, placesAt}
 use Rattle.memory.specs.Validity.{every, isPending, isProcessed, isWaiting, pendingMark, equal, later, ordered, processedFirst, meet, noneMeet, entryValid, sentValid}
-use Rattle.memory.specs.Soundness.{sameBytes, entryExact, sentExact}
+use Rattle.memory.specs.Soundness.{entryExact, sentExact}
 use Rattle.memory.specs.Passes.{entryFits, queueSound, outstandingSound}
 use Rattle.memory.specs.declared.Settings.{Settings}
 use Rattle.memory.specs.declared.Entry.{Entry}

@@ -9,8 +9,7 @@ use lib.Dec.{eqb}
 use lib.ListN.{length, getD, drop, drop-of-length-le}
 use lib.Seq.{drop-cons}
 use borrow.Author.Tests.{eq-eqb, ne-eqb}
-use Rattle.buffer.specs.Slice.{write}
-use Rattle.memory.specs.Soundness.{sameBytes}
+use Rattle.buffer.specs.Slice.{write, sameBytes}
 use Rattle.memory.proofs.Stored.{write-all}
 
 same-at : (a b : List ℕ) (i : ℕ) → i < length a → i < length b

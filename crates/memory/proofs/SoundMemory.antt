@@ -13,7 +13,8 @@ use Rattle.memory.specs.Ranges.{Ranged}
 use Rattle.memory.specs.Layout.{headerSize, outstandingAt, sizeFor}
 use Rattle.memory.specs.Codec.{phaseNumber, entryBytes, entryOf, sentBytes, sentOf, headerAt, placesAt, decode, encode}
 use Rattle.memory.specs.Validity.{every, settingsValid, valid}
-use Rattle.memory.specs.Soundness.{sameBytes, headerSound, entryExact, sentExact, sound}
+use Rattle.buffer.proofs.Equality.{same-bytes, bytes-same}
+use Rattle.memory.specs.Soundness.{headerSound, entryExact, sentExact, sound}
 use Rattle.memory.specs.Claims.{after, WritingLaws, ReadingLaws, CodecLaws}
 use Rattle.memory.specs.declared.Phase.{Phase}
 use Rattle.memory.specs.declared.Phase.the-variants.{Idle, Counting, Stopped}
@@ -27,18 +28,6 @@ use Rattle.memory.proofs.StillBytes.{encode-bytes}
 use Rattle.memory.proofs.Holding.{Room, Holds, holds-header, holds-decode, encode-length, encode-holds, encode-elsewhere, encode-same, encode-room, decode-encode}
 
 -- two lists that test equal are equal
-pub same-bytes : (xs ys : List ℕ) → sameBytes xs ys ≡ true → xs ≡ ys
-unfolding sameBytes
-same-bytes [] [] h = refl
-same-bytes [] (y ∷ ys) h = absurd (false≢true h)
-same-bytes (x ∷ xs) [] h = absurd (false≢true h)
-same-bytes (x ∷ xs) (y ∷ ys) h = ap₂ _∷_ (eqb-true x y (and-left (eqb x y) (sameBytes xs ys) h)) (same-bytes xs ys (and-right (eqb x y) (sameBytes xs ys) h))
-
-pub bytes-same : (xs : List ℕ) → sameBytes xs xs ≡ true
-unfolding sameBytes
-bytes-same [] = refl
-bytes-same (x ∷ xs) = and-both (eqb x x) (sameBytes xs xs) (eq-eqb x x refl) (bytes-same xs)
-
 -- a test passed by every element
 module _ {A : Type 0} (f : A → Bool) {p : A → Type 0} (xs : List A) where
   every-all : ((x : A) → f x ≡ true → p x) → every f xs ≡ true → All p xs

@@ -4,17 +4,11 @@ use mathlib.Core.Bool.{Bool, true, false, _&&_}
 use mathlib.Core.List.{List, [], _∷_}
 use lib.Dec.{leb, eqb}
 use lib.ListN.{length, getD}
+use Rattle.buffer.specs.Slice.{sameBytes}
 use Rattle.memory.specs.Layout.{headerSize, queueSize, outstandingSize, outstandingAt, sizeFor}
 use Rattle.memory.specs.Codec.{headerAt, decode, entryBytes, entryOf, sentBytes, sentOf, placesAt}
 use Rattle.memory.specs.Validity.{every, settingsValid, valid}
 use Rattle.memory.specs.declared.Header.{Header}
-
--- the two lists are equal
-unfoldable pub sameBytes : List ℕ → List ℕ → Bool
-sameBytes [] [] = true
-sameBytes [] (y ∷ ys) = false
-sameBytes (x ∷ xs) [] = false
-sameBytes (x ∷ xs) (y ∷ ys) = eqb x y && sameBytes xs ys
 
 -- long enough for a header, settings in their ranges, long enough for its settings, a phase, no more places used than there are
 unfoldable pub headerSound : List ℕ → Bool

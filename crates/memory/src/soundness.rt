@@ -24,7 +24,8 @@ ghost use Prim.Native.Nat.{_+_, _*_, _≤_};
 ghost use lib.ListN.{length};
 ghost use Rattle.memory.specs.Codec.{headerAt, entryBytes, sentBytes};
 ghost use Rattle.memory.specs.Validity.{pendingMark, processedMark};
-ghost use Rattle.memory.specs.Soundness.{sameBytes, headerSound, sound};
+ghost use Rattle.buffer.specs.Slice.{sameBytes};
+ghost use Rattle.memory.specs.Soundness.{headerSound, sound};
 ghost use Rattle.memory.specs.Passes.{entryFits, queueSound, outstandingSound};
 
 // Whether lent memory is sound. To memory that is not, every call answers 10.

@@ -19,9 +19,9 @@ use Rattle.frame.specs.Writing.{written}
 use Rattle.frame.specs.declared.Frame.{Frame}
 use Rattle.frame.specs.declared.Sense.{Sense}
 use Rattle.frame.specs.declared.Sense.the-variants.{Plain, Cancel, Acknowledgment, CancelAcknowledgment}
-use Rattle.memory.specs.Soundness.{sameBytes}
+use Rattle.buffer.specs.Slice.{sameBytes}
 use Rattle.memory.specs.Validity.{frameIf}
-use Rattle.memory.proofs.SoundMemory.{same-bytes}
+use Rattle.buffer.proofs.Equality.{same-bytes}
 use Rattle.gateway.specs.Effects.{framesFor}
 use Rattle.gateway.specs.Taking.{any, withoutFirst, acknowledgment}
 use Rattle.timewarp.specs.Lists.{All, nil, cons, Insert, here, there}

@@ -11,7 +11,7 @@ use Rattle.model.specs.declared.Kind.the-variants.{Failure, Request, Delivery, 
 use Rattle.frame.specs.Reasons.{reading}
 use Rattle.frame.specs.Writing.{written}
 use Rattle.frame.specs.declared.Frame.{Frame}
-use Rattle.memory.proofs.SoundMemory.{same-bytes}
+use Rattle.buffer.proofs.Equality.{same-bytes}
 use Rattle.memory.specs.declared.Settings.{Settings}
 use Rattle.gateway.specs.Taking.{any, withoutFirst}
 use Rattle.gateway.specs.Rounds.{roundFrame, frames, children}

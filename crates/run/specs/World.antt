@@ -5,7 +5,7 @@ use mathlib.Core.Bool.{Bool, true, false, cond, _&&_, _||_}
 use mathlib.Core.List.{List, [], _∷_, _++_, map}
 use lib.Dec.{eqb, leb}
 use lib.ListN.{length, take}
-use Rattle.buffer.specs.Slice.{Bytes}
+use Rattle.buffer.specs.Slice.{Bytes, sameBytes}
 use Rattle.routing.specs.Arcs.{to}
 use Rattle.model.specs.Messages.{kindNumber}
 use Rattle.model.specs.declared.Message.{Message}
@@ -13,7 +13,6 @@ use Rattle.frame.specs.Reasons.{reading}
 use Rattle.frame.specs.declared.Frame.{Frame}
 use Rattle.frame.specs.declared.Sense.{Sense}
 use Rattle.frame.specs.declared.Sense.the-variants.{Plain, Cancel, Acknowledgment, CancelAcknowledgment}
-use Rattle.memory.specs.Soundness.{sameBytes}
 use Rattle.gateway.specs.Taking.{any, withoutFirst}
 use Rattle.gateway.specs.SettingUp.{cutFrames}
 use Rattle.gateway.specs.Calls.{taken, started, committed, workedOff, setUp, agreedTime}

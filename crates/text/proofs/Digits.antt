@@ -9,7 +9,9 @@ use native.Mathlib.Decide.{decLt, decLe, ℕ-discrete}
 use lib.Dec.{ltb}
 use borrow.Author.Tests.{lt-ltb, le-ltb, eq-eqb, ne-eqb, le-leb, lt-leb}
 use Rattle.text.specs.declared.Spelled.the-variants.{Number, Nothing}
-use Rattle.text.specs.Decimal.{digit, digits, decimal, valueFrom, value, same, spelled, Laws}
+use Rattle.buffer.specs.Slice.{sameBytes}
+use Rattle.buffer.proofs.Equality.{bytes-same, same-bytes}
+use Rattle.text.specs.Decimal.{digit, digits, decimal, valueFrom, value, spelled, Laws}
 
 -- a digit more, by its test
 digits-turn : (most n : ℕ) {b : Bool} → ltb n 10 ≡ b → digits (suc most) n ≡ elim b as (λ x. List ℕ) [ true ↦ digit n ∷ [] | false ↦ digits most (n / 10) ++ (digit (n % 10) ∷ []) ]
@@ -149,38 +151,21 @@ plain-decimal (from {b = b} {l = l} p q d) =
     behind (10 * 0 + (b - 48)) (omega arith) d
     ∙ ap (λ (t : List ℕ). t ++ l) (decimal-small (10 * 0 + (b - 48)) (omega arith) ∙ ap (λ (c : ℕ). c ∷ []) (omega arith))
 
--- equal texts
-same-refl : (l : List ℕ) → same l l ≡ true
-unfolding same
-same-refl [] = refl
-same-refl (x ∷ l) = rw (eq-eqb x x refl, same-refl l)
-
-same-eq : (k l : List ℕ) → same k l ≡ true → k ≡ l
-unfolding same
-same-eq [] [] e = refl
-same-eq [] (y ∷ l) e = absurd (false≢true e)
-same-eq (x ∷ k) [] e = absurd (false≢true e)
-same-eq (x ∷ k) (y ∷ l) e = go (ℕ-discrete x y) (same-eq k l)
-  where
-    go : Dec (x ≡ y) → (same k l ≡ true → k ≡ l) → x ∷ k ≡ y ∷ l
-    go (yes h) rest = ap₂ (λ (c : ℕ) (t : List ℕ). c ∷ t) h (rest (rw (eq-eqb x y h) at e))
-    go (no h) rest = absurd (false≢true (rw (ne-eqb x y h) at e))
-
 -- what a text spells
 module _ (most : ℕ) (text : List ℕ) where
   pub is-spelled : (n : ℕ) → decimal n ≡ text → n ≤ most → spelled most text ≡ Number n
   unfolding spelled
   is-spelled n e h =
       let v : value text ≡ n = ap value (sym e) ∙ value-decimal n in
-      rw (v, e, same-refl text, le-leb n most h)
+      rw (v, e, bytes-same text, le-leb n most h)
 
   -- it spells its value, or nothing
   cases : ((decimal (value text) ≡ text) × (value text ≤ most)) ⊎ (spelled most text ≡ Nothing)
   unfolding spelled
-  cases = go (same (decimal (value text)) text) refl (decLe (value text) most)
+  cases = go (sameBytes (decimal (value text)) text) refl (decLe (value text) most)
     where
-      go : (b : Bool) → same (decimal (value text)) text ≡ b → Dec (value text ≤ most) → ((decimal (value text) ≡ text) × (value text ≤ most)) ⊎ (spelled most text ≡ Nothing)
-      go true e (yes h) = inl (same-eq (decimal (value text)) text e, h)
+      go : (b : Bool) → sameBytes (decimal (value text)) text ≡ b → Dec (value text ≤ most) → ((decimal (value text) ≡ text) × (value text ≤ most)) ⊎ (spelled most text ≡ Nothing)
+      go true e (yes h) = inl (same-bytes (decimal (value text)) text e, h)
       go true e (no h) = inr (rw (e, lt-leb (value text) most (omega arith)))
       go false e h = inr (rw e)
 

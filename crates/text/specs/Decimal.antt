@@ -5,6 +5,7 @@ use mathlib.Core.Bool.{Bool, true, false, cond, _&&_}
 use mathlib.Core.List.{List, [], _∷_, _++_}
 use Prim.Native.Nat.{ℕ, zero, suc, _+_, _*_, _-_, _/_, _%_, _≤_, _<_}
 use lib.Dec.{leb, ltb, eqb}
+use Rattle.buffer.specs.Slice.{sameBytes}
 use Rattle.text.specs.declared.Spelled.{Spelled}
 use Rattle.text.specs.declared.Spelled.the-variants.{Number, Nothing}
 
@@ -31,16 +32,9 @@ valueFrom n (b ∷ text) = valueFrom (10 * n + (b - 48)) text
 unfoldable pub value : List ℕ → ℕ
 value text = valueFrom 0 text
 
--- Whether two texts are equal, byte by byte.
-unfoldable pub same : List ℕ → List ℕ → Bool
-same [] [] = true
-same [] (y ∷ ys) = false
-same (x ∷ xs) [] = false
-same (x ∷ xs) (y ∷ ys) = eqb x y && same xs ys
-
 -- The number up to most that a text spells: its value, if the text is the decimal text of that.
 unfoldable pub spelled : (most : ℕ) → List ℕ → Spelled
-spelled most text = cond (same (decimal (value text)) text && leb (value text) most) (Number (value text)) Nothing
+spelled most text = cond (sameBytes (decimal (value text)) text && leb (value text) most) (Number (value text)) Nothing
 
 -- What holds of decimal text.
 pub record Laws : Type 0 where

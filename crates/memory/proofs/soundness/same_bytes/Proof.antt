@@ -4,7 +4,7 @@ use mathlib.Core.Path.{_≡_, refl}
 use Prim.Native.Nat.{_≤_, _-_}
 use native.Mathlib.Omega.{arith}
 use lib.ListN.{length, drop}
-use Rattle.memory.specs.Soundness.{sameBytes}
+use Rattle.buffer.specs.Slice.{sameBytes}
 use Rattle.memory.proofs.SameBytes.{same-differs, same-turn, same-end}
 use Rattle.memory.proofs.soundness.same_bytes.Statement.{statement}
 use Rattle.memory.proofs.soundness.same_bytes.Tie as tie
