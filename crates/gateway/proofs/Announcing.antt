@@ -22,10 +22,11 @@ use Rattle.memory.specs.Records.{Gateway, headerOf}
 use Rattle.memory.specs.Layout.{outstandingAt}
 use Rattle.memory.specs.Codec.{headerFront, headerBack, entryBytes, sentBytes, placesBytes, decode, encode}
 use Rattle.memory.specs.declared.Header.{Header}
+use Rattle.memory.specs.Fits.{Room}
 use Rattle.memory.proofs.Standing.{write-stands}
 use Rattle.memory.proofs.RoundTrips.{length-front, length-back}
 use Rattle.memory.proofs.FourWrites.{four-writes}
-use Rattle.memory.proofs.Holding.{Room, length-queue, length-outstanding}
+use Rattle.memory.proofs.Holding.{length-queue, length-outstanding}
 use Rattle.memory.proofs.SoundMemory.{sound-facts, sound-holds, sound-room, sound-fits, header-held}
 use Rattle.gateway.specs.Effects.{bytesOfFrames, fits, settled}
 use Rattle.gateway.specs.Rounds.{roundFrame, frames}

@@ -15,11 +15,11 @@ use Rattle.memory.specs.Codec.{headerAt, headerFront, headerBack, entryBytes, e
 use Rattle.memory.specs.declared.Header.{Header}
 use Rattle.memory.specs.declared.Entry.{Entry}
 use Rattle.memory.specs.declared.Sent.{Sent}
+use Rattle.memory.specs.Fits.{All, GatewayFits, Room}
 use Rattle.memory.proofs.Validated.{ValidSettings, settings-facts}
 use Rattle.memory.proofs.Standing.{Stands}
-use Rattle.memory.proofs.Places.{All, all-append, all-front, all-back, Sized, remove-place, length-read}
-use Rattle.memory.proofs.Fitting.{GatewayFits}
-use Rattle.memory.proofs.Holding.{Room, Holds, queue-sized, outstanding-sized}
+use Rattle.memory.proofs.Places.{all-append, all-front, all-back, Sized, remove-place, length-read}
+use Rattle.memory.proofs.Holding.{Holds, queue-sized, outstanding-sized}
 use Rattle.memory.proofs.SoundMemory.{sound-facts, sound-holds, sound-room, sound-fits, header-held}
 use Rattle.memory.proofs.Changes.{queue-changed, outstanding-changed}
 use Rattle.gateway.specs.Effects.{withQueue, withOutstanding}

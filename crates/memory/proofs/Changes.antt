@@ -11,12 +11,12 @@ use Rattle.memory.specs.Layout.{headerSize, queueAt, outstandingAt}
 use Rattle.memory.specs.Codec.{entryBytes, sentBytes, headerFront, headerBack, placesBytes, encode}
 use Rattle.memory.specs.declared.Entry.{Entry}
 use Rattle.memory.specs.declared.Sent.{Sent}
+use Rattle.memory.specs.Fits.{All, EntryFits, SentFits, GatewayFits, Room}
 use Rattle.memory.proofs.Standing.{Stands, write-stands, write-covers, stands-after}
 use Rattle.memory.proofs.FourWrites.{headed}
-use Rattle.memory.proofs.Places.{All, all-map, length-places, append-places, append-place, replace-place, remove-place, insert-place}
-use Rattle.memory.proofs.Fitting.{EntryFits, SentFits, GatewayFits}
+use Rattle.memory.proofs.Places.{all-map, length-places, append-places, append-place, replace-place, remove-place, insert-place}
 use Rattle.memory.proofs.RoundTrips.{entry-length, sent-length}
-use Rattle.memory.proofs.Holding.{Room, Holds, length-queue, length-outstanding, encode-by}
+use Rattle.memory.proofs.Holding.{Holds, length-queue, length-outstanding, encode-by}
 
 -- the bytes of the queue and of what is outstanding, written where they belong
 abbrev pub queueWritten : List Entry → List ℕ → List ℕ

@@ -19,48 +19,9 @@ use Rattle.memory.specs.declared.Phase.the-variants.{Idle, Counting, Sto
 use Rattle.memory.specs.declared.Header.{Header}
 use Rattle.memory.specs.declared.Entry.{Entry}
 use Rattle.memory.specs.declared.Sent.{Sent}
+use Rattle.memory.specs.Fits.{MessageFits, EntryFits, SentFits, SettingsFit, RoundFits, HeaderFits, GatewayFits, All}
 use Rattle.memory.proofs.Validated.{Valid, ValidSettings, Storable, and-left, and-right}
-use Rattle.memory.proofs.Places.{All, all-of, all-each}
-
-pub record MessageFits (m : Message) : Type 0 where
-  pub hour : m .hour < 4294967296
-  pub from : m .from < 256
-  pub to : m .to < 256
-  pub origin : originOf (m .kind) < 256
-  pub quantity : quantityOf (m .kind) < 65536
-  pub lamp : length (m .lamp) ≡ 18
-
-pub record EntryFits (e : Entry) : Type 0 where
-  pub message : MessageFits (e .message)
-  pub before : RangedState (e .before)
-
-pub record SentFits (s : Sent) : Type 0 where
-  pub message : MessageFits (s .message)
-
-pub record SettingsFit (s : Settings) : Type 0 where
-  pub n : s .n < 256
-  pub own : s .own < 256
-  pub supplier : s .supplier < 256
-  pub last : s .last < 4294967296
-  pub q : s .q < 65536
-  pub u : s .u < 65536
-
-pub record RoundFits (r : Round) : Type 0 where
-  pub arrived : r .arrived < 256
-  pub note : r .note < 4294967296
-
-pub record HeaderFits (h : Header) : Type 0 where
-  pub settings : SettingsFit (h .settings)
-  pub state : RangedState (h .state)
-  pub agreed : h .agreed < 4294967296
-  pub round : RoundFits (h .round)
-  pub queued : h .queued < 65536
-  pub outstanding : h .outstanding < 65536
-
-pub record GatewayFits (g : Gateway) : Type 0 where
-  pub header : HeaderFits (headerOf g)
-  pub queue : All EntryFits (g .queue)
-  pub outstanding : All SentFits (g .outstanding)
+use Rattle.memory.proofs.Places.{all-of, all-each}
 
 -- a valid gateway's ranges, element by element
 message-fits : (s : Settings) (cancel : Bool) (m : Message) → ValidSettings s → Storable s cancel m → RangedMessage m → MessageFits m

@@ -16,9 +16,8 @@ use Rattle.model.specs.declared.Kind.{Kind}
 use Rattle.model.specs.declared.Kind.the-variants.{Failure, Request, Delivery, Restock, Start, Lvt, Update}
 use Rattle.memory.specs.Ranges.{RangedState}
 use Rattle.memory.specs.Codec.{phaseNumber, phaseOf, stateOf, messageOf, entryOf, sentOf, headerAt, headerFront, headerBack, placesAt}
+use Rattle.memory.specs.Fits.{All, nil, cons, MessageFits, EntryFits, SentFits, HeaderFits}
 use Rattle.memory.proofs.Standing.{part-add}
-use Rattle.memory.proofs.Places.{All, nil, cons}
-use Rattle.memory.proofs.Fitting.{MessageFits, EntryFits, SentFits, HeaderFits}
 use Rattle.memory.proofs.RoundTrips.{byte-back}
 
 -- a part of bytes is bytes

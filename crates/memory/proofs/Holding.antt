@@ -12,15 +12,9 @@ use Rattle.memory.specs.Claims.{Untouched}
 use Rattle.memory.specs.Codec.{entryBytes, entryOf, sentBytes, sentOf, headerAt, headerFront, headerBack, placesAt, placesBytes, decode, encode}
 use Rattle.memory.proofs.Standing.{Stands}
 use Rattle.memory.proofs.FourWrites.{headed, FourWrites, four-writes}
-use Rattle.memory.proofs.Places.{All, Sized, all-map, length-places, read-stored}
-use Rattle.memory.proofs.Fitting.{GatewayFits}
+use Rattle.memory.proofs.Places.{Sized, all-map, length-places, read-stored}
+use Rattle.memory.specs.Fits.{GatewayFits, Room, All}
 use Rattle.memory.proofs.RoundTrips.{length-front, length-back, entry-length, sent-length, entry-kept, sent-kept, header-back}
-
--- the memory is long enough for the gateway's settings, and no more places are used than there are
-pub record Room (g : Gateway) (m : List ℕ) : Type 0 where
-  pub long : sizeFor (g .settings .q) (g .settings .u) ≤ length m
-  pub queued : length (g .queue) ≤ g .settings .q
-  pub sent : length (g .outstanding) ≤ g .settings .u
 
 -- the gateway's bytes stand in the memory
 pub record Holds (g : Gateway) (m : List ℕ) : Type 0 where

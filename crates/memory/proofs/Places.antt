@@ -10,15 +10,12 @@ use lib.ListN.{length, length-append}
 use Rattle.routing.specs.Arcs.{_∈_}
 use Rattle.buffer.specs.Slice.{part, write}
 use Rattle.buffer.proofs.Writes.{part-nil}
+use Rattle.memory.specs.Fits.{All, nil, cons}
 use Rattle.memory.specs.Codec.{placesAt, placesBytes}
 use Rattle.memory.specs.Claims.{Apart}
 use Rattle.memory.proofs.Standing.{Stands, part-add, part-within, part-apart, stands-front, stands-back, write-past-front, write-replaced, write-removed, write-inserted}
 
--- every element has the property
-pub data All {A : Type 0} (p : A → Type 0) : List A → Type 0 where
-  nil : All p []
-  cons : {x : A} {xs : List A} → p x → All p xs → All p (x ∷ xs)
-
+-- laws of every element having a property
 module _ {A : Type 0} {p : A → Type 0} where
   pub all-of : (xs : List A) → ((x : A) → x ∈ xs → p x) → All p xs
   all-of [] h = nil

@@ -26,10 +26,10 @@ use Rattle.memory.specs.declared.Mark.{Mark}
 use Rattle.memory.specs.declared.Mark.the-variants.{Pending, Processed, Waiting}
 use Rattle.memory.specs.declared.Phase.{Phase}
 use Rattle.memory.specs.declared.Phase.the-variants.{Idle, Counting, Stopped}
+use Rattle.memory.specs.Fits.{MessageFits, EntryFits, SentFits, HeaderFits}
 use Rattle.memory.proofs.Stored.{length-state, length-message, length-entry, length-sent}
 use Rattle.memory.proofs.Standing.{part-front, part-back}
 use Rattle.memory.proofs.Places.{ReadBack}
-use Rattle.memory.proofs.Fitting.{MessageFits, EntryFits, SentFits, HeaderFits}
 
 -- one byte
 pub byte-back : (n : ℕ) → n < 256 → n / 256 ^ 0 % 256 ≡ n

@@ -18,14 +18,15 @@ use Rattle.memory.specs.Soundness.{headerSound, entryExact, sentExact, s
 use Rattle.memory.specs.Claims.{after, WritingLaws, ReadingLaws, CodecLaws}
 use Rattle.memory.specs.declared.Phase.{Phase}
 use Rattle.memory.specs.declared.Phase.the-variants.{Idle, Counting, Stopped}
+use Rattle.memory.specs.Fits.{All, GatewayFits, Room}
 use Rattle.memory.proofs.Validated.{Valid, valid-facts, facts-settings, every-each, each-every, and-left, and-right, and-both}
 use Rattle.memory.proofs.Standing.{stands-part}
-use Rattle.memory.proofs.Places.{All, all-of, all-each, Exact, all-map, length-read, stored-exact, exact-stands}
-use Rattle.memory.proofs.Fitting.{GatewayFits, valid-fits, fits-ranged}
+use Rattle.memory.proofs.Places.{all-of, all-each, Exact, all-map, length-read, stored-exact, exact-stands}
+use Rattle.memory.proofs.Fitting.{valid-fits, fits-ranged}
 use Rattle.memory.proofs.RoundTrips.{length-front, length-back, entry-kept, sent-kept, phase-byte}
 use Rattle.memory.proofs.FromBytes.{entry-fits, sent-fits, header-fits, read-all, front-again, back-again}
 use Rattle.memory.proofs.StillBytes.{encode-bytes}
-use Rattle.memory.proofs.Holding.{Room, Holds, holds-header, holds-decode, encode-length, encode-holds, encode-elsewhere, encode-same, encode-room, decode-encode}
+use Rattle.memory.proofs.Holding.{Holds, holds-header, holds-decode, encode-length, encode-holds, encode-elsewhere, encode-same, encode-room, decode-encode}
 
 -- two lists that test equal are equal
 -- a test passed by every element

@@ -21,8 +21,9 @@ use Rattle.memory.specs.Validity.{isWaiting, frameIf}
 use Rattle.memory.specs.declared.Header.{Header}
 use Rattle.memory.specs.declared.Entry.{Entry}
 use Rattle.memory.specs.declared.Sent.{Sent}
+use Rattle.memory.specs.Fits.{All, nil, cons}
 use Rattle.memory.proofs.Validated.{Valid, and-left, and-right}
-use Rattle.memory.proofs.Places.{All, nil, cons, all-of, all-append, all-front, all-back}
+use Rattle.memory.proofs.Places.{all-of, all-append, all-front, all-back}
 
 abbrev Byte : ℕ → Type 0
 Byte b = b < 256

@@ -2,6 +2,7 @@
 pub mod Records
 pub mod Ranges
 pub mod Layout
+pub mod Fits
 pub mod Codec
 pub mod Validity
 pub mod Soundness
