@@ -1,0 +1,56 @@
+// Sending a message or a cancel: it takes an outstanding place, its frame goes to the output, and it lowers the note.
+use crate::Sending;
+use frame::writer::put;
+use memory::Header;
+use memory::Phase;
+use memory::Round;
+use memory::Sent;
+use memory::place::write_sent;
+use memory::rules::frame_if;
+use model::Message;
+ghost use mathlib.Core.Path.{_≡_};
+ghost use Rattle.gateway.specs.Effects.{noted};
+ghost use Rattle.effects.specs.Sending.{MaySend, Sends};
+
+// Sends a message, or its cancel.
+pub fn send(
+    memory: &mut [u8],
+    output: &mut [u8],
+    so_far: Sending,
+    cancel: bool,
+    message: Message,
+) -> Sending
+    requires { ⌜ MaySend (now memory) (now output) so_far cancel message ⌝ }
+    ensures { λ r. ⌜ Sends (now (memory .entry)) (now (output .entry)) (now (memory .exit)) (now (output .exit)) so_far cancel message r ⌝ }
+{
+    let header = so_far.header;
+    let settings = header.settings;
+    let at = 256 + 64 * (settings.q as usize) + 32 * (header.outstanding as usize);
+    write_sent(memory, at, Sent { message, cancel });
+    let written = put(output, so_far.written, frame_if(cancel, message));
+    let mut next = header;
+    next.round = note(header.round, message.hour);
+    next.outstanding = header.outstanding + 1;
+    Sending {
+        header: next,
+        written,
+    }
+}
+
+// The round after a message or cancel of that hour is sent.
+fn note(round: Round, hour: u32) -> Round
+    ensures { λ r. ⌜ r ≡ noted hour round ⌝ }
+{
+    let phase = round.phase;
+    let mut next = round;
+    match phase {
+        Phase::Idle => {}
+        Phase::Counting => {
+            if hour < round.note {
+                next.note = hour;
+            }
+        }
+        Phase::Stopped => {}
+    }
+    next
+}
