@@ -16,18 +16,18 @@ ghost use Rattle.effects.specs.Sending.{MaySend, Sends};
 pub fn send(
     memory: &mut [u8],
     output: &mut [u8],
-    so_far: Sending,
+    sending: Sending,
     cancel: bool,
     message: Message,
 ) -> Sending
-    requires { ⌜ MaySend (now memory) (now output) so_far cancel message ⌝ }
-    ensures { λ r. ⌜ Sends (now (memory .entry)) (now (output .entry)) (now (memory .exit)) (now (output .exit)) so_far cancel message r ⌝ }
+    requires { ⌜ MaySend (now memory) (now output) sending cancel message ⌝ }
+    ensures { λ r. ⌜ Sends (now (memory .entry)) (now (output .entry)) (now (memory .exit)) (now (output .exit)) sending cancel message r ⌝ }
 {
-    let header = so_far.header;
+    let header = sending.header;
     let settings = header.settings;
     let at = 256 + 64 * (settings.q as usize) + 32 * (header.outstanding as usize);
     write_sent(memory, at, Sent { message, cancel });
-    let written = put(output, so_far.written, frame_if(cancel, message));
+    let written = put(output, sending.written, frame_if(cancel, message));
     let mut next = header;
     next.round = note(header.round, message.hour);
     next.outstanding = header.outstanding + 1;
