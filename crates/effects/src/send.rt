@@ -1,6 +1,6 @@
 // Sending a message or a cancel: it takes an outstanding place, its frame goes to the output, and it lowers the note.
 use crate::Sending;
-use frame::writer::put;
+use frame::outgoing::put_frame;
 use memory::Header;
 use memory::Phase;
 use memory::Round;
@@ -27,7 +27,7 @@ pub fn send(
     let settings = header.settings;
     let at = 256 + 64 * (settings.q as usize) + 32 * (header.outstanding as usize);
     write_sent(memory, at, Sent { message, cancel });
-    let written = put(output, sending.written, frame_if(cancel, message));
+    let written = put_frame(output, sending.written, frame_if(cancel, message));
     let mut next = header;
     next.round = note(header.round, message.hour);
     next.outstanding = header.outstanding + 1;
