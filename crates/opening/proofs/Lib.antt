@@ -1,1 +1,4 @@
 -- Laws and proofs of set up.
+pub mod FramePositions
+pub mod Checking
+pub mod Entering
