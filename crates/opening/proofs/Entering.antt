@@ -12,6 +12,7 @@ use Rattle.model.specs.declared.Message.{Message}
 use Rattle.frame.specs.Claims.{Ranged}
 use Rattle.frame.specs.Reasons.{reading, formOf, fieldsOf, frameOf, readAs, blank}
 use Rattle.frame.specs.declared.Frame.{Frame}
+use Rattle.frame.specs.declared.Reading.{Reading}
 use Rattle.frame.specs.declared.Form.{Form}
 use Rattle.frame.specs.declared.Form.the-variants.{Good, TooShort, WrongMap, WrongLength, WrongSense, WrongLamp, WrongGateways}
 use Rattle.frame.proofs.Laws.{one-to-one}
@@ -29,6 +30,7 @@ use Rattle.gateway.specs.Taking.{upTo, behind}
 use Rattle.gateway.specs.SettingUp.{queued}
 use Rattle.gateway.specs.Searching.{firstWhere, passes, entriesIn}
 use Rattle.gateway.specs.declared.places.Search.the-variants.{Later}
+use Rattle.gateway.proofs.Openings.{length-entered}
 use Rattle.gateway.proofs.Positions.{first-bound}
 use Rattle.effects.proofs.EnteringLaws.{up-to-first, behind-first}
 use Rattle.opening.specs.Frames.{framesFrom, frameEnd, entered}
@@ -112,8 +114,8 @@ module _ (before : List ℕ) (es : List Entry) (m : Message) (fits : All EntryFi
   back : length (drop cut es) ≡ length es - cut
   back = length-drop cut es
 
-  pub news-length : length news ≡ length es + 1
-  news-length = rw news-cut (simp length-append (rw (front, back) (omega (arith, within))))
+  pub news-length : length news ≡ suc (length es)
+  news-length = length-entered m (pendingEntry m) es
 
   pub entered-news : entered (length es) m (queueWritten es before) ≡ queueWritten news before
   unfolding entered memory cut
@@ -162,12 +164,13 @@ module _ (before list memory : List ℕ) (count at : ℕ) (p : Entering before l
     pub enter-room : 256 + 64 * count + 64 ≤ length before
     enter-room = omega (arith, here-length, p .counted)
 
-    pub enter-turn : Bytes list → {m : Message} → m ≡ reading (take (end - at) (drop at list)) .frame .message → {after : List ℕ} → after ≡ entered count m memory
+    pub enter-turn : Bytes list → {r : Reading} → r ≡ reading (take (end - at) (drop at list)) → {after : List ℕ} → after ≡ entered count (r .frame .message) memory
         → Entering before list after (count + 1) end
     unfolding queued part
-    enter-turn bytes {m} r {after} a =
+    enter-turn bytes {r} q {after} a =
         let b = end-between list at h e in
-        let f : MessageFits m = rw r (reading-fits (part list at (end - at)) (bytes-part list at (end - at) bytes)) in
+        let m = r .frame .message in
+        let f : MessageFits m = rw q (reading-fits (part list at (end - at)) (bytes-part list at (end - at) bytes)) in
         let space : queueAt (length (p .entries)) + 64 ≤ length before = omega (arith, enter-room, p .few) in
         record {
           inside = b .inside;
@@ -176,5 +179,5 @@ module _ (before list memory : List ℕ) (count at : ℕ) (p : Entering before l
           few = omega (arith, news-length before (p .entries) m (p .fits) f space, p .few);
           fits = news-fit before (p .entries) m (p .fits) f space;
           stored = a ∙ rw (p .stored, ← p .few) (entered-news before (p .entries) m (p .fits) f space);
-          rest = p .rest ∙ rw (here, r);
+          rest = p .rest ∙ rw (here, q);
         }

@@ -2,3 +2,4 @@
 pub mod FramePositions
 pub mod Checking
 pub mod Entering
+pub mod SetUpBranches

@@ -1,75 +1,55 @@
+-- `opening::set_up::set_up` meets its contract.
+use native.Mathlib.Omega.{arith}
+use Rattle.gateway.proofs.Changing.{bytes-known}
+use Rattle.opening.proofs.SetUpBranches.{not-valid, valid-settings, frame-refused, too-many, list-room, few-enough, set-up-done}
 use borrow.Author.Needs.{needs}
 use Rattle.opening.proofs.set_up.set_up.Statement.{statement}
 use Rattle.opening.proofs.set_up.set_up.Tie as tie
-use Rattle.opening.proofs.set_up.set_up.Reads as reads
-use Rattle.opening.proofs.set_up.set_up.Lts as lts
-use Rattle.gateway.proofs.refused.Reads as refused-reads
-use Rattle.memory.proofs.header_bytes.write_header.Reads as write-header-reads
-use Rattle.opening.proofs.list.check_list.Reads as check-list-reads
-use Rattle.opening.proofs.list.enter_list.Reads as enter-list-reads
-use Rattle.opening.proofs.settings.opened_header.Reads as opened-header-reads
-use Rattle.opening.proofs.settings.opening_valid.Reads as opening-valid-reads
-use Rattle.opening.proofs.settings.settings_of.Reads as settings-of-reads
 
--- src/set_up.rt:18:9
 opening-valid-requires : tie.Need-opening-valid-requires
 opening-valid-requires c κs = search needs
 
--- src/set_up.rt:19:9
 refused-requires : tie.Need-refused-requires
 refused-requires c κs = search needs
 
--- src/set_up.rt:19:9
 returns : tie.Need-returns
-returns c = ?
+returns c = not-valid _ _ _ (c .before .before .opening-valid .ensures) (c .before .if1 .taken) (c .refused .ensures)
 
--- src/set_up.rt:21:9
 settings-of-requires : tie.Need-settings-of-requires
-settings-of-requires c κs = ?
+settings-of-requires c κs = valid-settings (c .before .before .before .before .args .opening) (c .before .before .before .before .args .list .now) (c .before .before .before .before .args .memory .now) (c .before .opening-valid .ensures) (c .if1 .left) .settings
 
--- src/set_up.rt:22:9
 check-list-requires : tie.Need-check-list-requires
 check-list-requires c κs = search needs
 
--- src/set_up.rt:24:9
 refused-requires-2 : tie.Need-refused-requires-2
 refused-requires-2 c κs = search needs
 
--- src/set_up.rt:24:9
 returns-2 : tie.Need-returns-2
-returns-2 c = ?
+returns-2 c = frame-refused _ _ _ (c .before .before .before .before .before .before .opening-valid .ensures) (c .before .before .before .before .before .if1 .left) (c .before .before .before .before .settings-of .ensures) (c .before .before .before .check-list .ensures) (c .before .if2 .taken) (c .refused2 .ensures)
 
--- src/set_up.rt:26:24
 cast-if3 : tie.Need-cast-if3
 cast-if3 c = search needs
 
--- src/set_up.rt:27:9
 refused-requires-3 : tie.Need-refused-requires-3
 refused-requires-3 c κs = search needs
 
--- src/set_up.rt:27:9
 returns-3 : tie.Need-returns-3
-returns-3 c = ?
+returns-3 c = too-many _ _ _ (c .before .before .before .before .before .before .before .before .before .opening-valid .ensures) (c .before .before .before .before .before .before .before .before .if1 .left) (c .before .before .before .before .before .before .before .settings-of .ensures) (c .before .before .before .before .before .before .check-list .ensures) (c .before .before .before .before .if2 .left) (c .before .if3 .taken) (c .refused3 .ensures)
 
--- src/set_up.rt:29:5
 enter-list-requires : tie.Need-enter-list-requires
-enter-list-requires c κs = ?
+enter-list-requires c κs = list-room (c .before .before .before .before .before .before .before .before .before .before .before .before .args .opening) (c .before .before .before .before .before .before .before .before .before .before .before .before .args .list .now) (c .before .before .before .before .before .before .before .before .before .before .before .before .args .memory .now) (c .before .before .before .before .before .before .before .before .before .opening-valid .ensures) (c .before .before .before .before .before .before .before .before .if1 .left) (c .before .before .before .before .before .before .before .settings-of .ensures) (c .before .before .before .before .before .before .check-list .ensures) (c .before .before .before .before .if2 .left) (c .before .if3 .left)
 
--- src/set_up.rt:30:26
 opened-header-requires : tie.Need-opened-header-requires
-opened-header-requires c κs = ?
+opened-header-requires c κs = let v = valid-settings (c .before .before .before .before .before .before .before .before .before .before .before .before .before .before .before .before .args .opening) (c .before .before .before .before .before .before .before .before .before .before .before .before .before .before .before .before .args .list .now) (c .before .before .before .before .before .before .before .before .before .before .before .before .before .before .before .before .args .memory .now) (c .before .before .before .before .before .before .before .before .before .before .before .before .before .opening-valid .ensures) (c .before .before .before .before .before .before .before .before .before .before .before .before .if1 .left) in let f = few-enough (c .before .before .before .before .before .before .before .before .before .before .before .before .before .before .before .before .args .opening) (c .before .before .before .before .before .before .before .before .before .before .before .before .before .before .before .before .args .list .now) (c .before .before .before .before .before .before .before .before .before .before .before .before .before .before .before .before .args .memory .now) (c .before .before .before .before .before .before .before .before .before .before .before .before .before .opening-valid .ensures) (c .before .before .before .before .before .before .before .before .before .before .before .before .if1 .left) (c .before .before .before .before .before .before .before .before .before .before .before .settings-of .ensures) (c .before .before .before .before .before .before .before .before .before .before .check-list .ensures) (c .before .before .before .before .before .before .before .before .if2 .left) (c .before .before .before .before .before .if3 .left) in (c .before .before .before .before .before .before .before .before .before .before .before .settings-of .ensures, omega arith, omega arith)
 
--- src/set_up.rt:30:5
 write-header-requires : tie.Need-write-header-requires
-write-header-requires c κs = ?
+write-header-requires c κs = let v = valid-settings (c .before .before .before .before .before .before .before .before .before .before .before .before .before .before .before .before .before .args .opening) (c .before .before .before .before .before .before .before .before .before .before .before .before .before .before .before .before .before .args .list .now) (c .before .before .before .before .before .before .before .before .before .before .before .before .before .before .before .before .before .args .memory .now) (c .before .before .before .before .before .before .before .before .before .before .before .before .before .before .opening-valid .ensures) (c .before .before .before .before .before .before .before .before .before .before .before .before .before .if1 .left) in search needs
 
--- src/set_up.rt:15:1
 same-length : tie.Need-same-length
 same-length c = search needs
 
--- src/set_up.rt:15:1
 returns-4 : tie.Need-returns-4
-returns-4 c = ?
+returns-4 c = set-up-done _ _ _ (c .before .before .before .before .before .before .before .before .before .before .before .before .before .before .before .before .before .opening-valid .ensures) (c .before .before .before .before .before .before .before .before .before .before .before .before .before .before .before .before .if1 .left) (c .before .before .before .before .before .before .before .before .before .before .before .before .before .before .before .settings-of .ensures) (c .before .before .before .before .before .before .before .before .before .before .before .before .before .before .check-list .ensures) (c .before .before .before .before .before .before .before .before .before .before .before .before .if2 .left) (c .before .before .before .before .before .before .before .before .before .if3 .left) (bytes-known (c .before .before .before .before .before .before .before .before .before .before .before .before .before .before .before .before .before .before .before .before .args .list .now) (c .before .before .before .before .before .before .before .before .before .before .before .before .before .before .before .before .before .before .shared-slice-known .given)) (c .before .before .before .before .before .before .before .enter-list .ensures) (c .before .before .before .opened-header .ensures) (c .before .before .write-header .ensures)
 
 pub set-up-spec : {M : Type 1} → statement M
 set-up-spec =
