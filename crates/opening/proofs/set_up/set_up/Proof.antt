@@ -13,7 +13,7 @@ refused-requires : tie.Need-refused-requires
 refused-requires c κs = search needs
 
 returns : tie.Need-returns
-returns c = not-valid _ _ _ (c .before .before .opening-valid .ensures) (c .before .if1 .taken) (c .refused .ensures)
+returns c = search not-valid
 
 settings-of-requires : tie.Need-settings-of-requires
 settings-of-requires c κs = valid-settings (c .before .before .before .before .args .opening) (c .before .before .before .before .args .list .now) (c .before .before .before .before .args .memory .now) (c .before .opening-valid .ensures) (c .if1 .left) .settings
@@ -25,7 +25,7 @@ refused-requires-2 : tie.Need-refused-requires-2
 refused-requires-2 c κs = search needs
 
 returns-2 : tie.Need-returns-2
-returns-2 c = frame-refused _ _ _ (c .before .before .before .before .before .before .opening-valid .ensures) (c .before .before .before .before .before .if1 .left) (c .before .before .before .before .settings-of .ensures) (c .before .before .before .check-list .ensures) (c .before .if2 .taken) (c .refused2 .ensures)
+returns-2 c = search frame-refused
 
 cast-if3 : tie.Need-cast-if3
 cast-if3 c = search needs
@@ -34,10 +34,10 @@ refused-requires-3 : tie.Need-refused-requires-3
 refused-requires-3 c κs = search needs
 
 returns-3 : tie.Need-returns-3
-returns-3 c = too-many _ _ _ (c .before .before .before .before .before .before .before .before .before .opening-valid .ensures) (c .before .before .before .before .before .before .before .before .if1 .left) (c .before .before .before .before .before .before .before .settings-of .ensures) (c .before .before .before .before .before .before .check-list .ensures) (c .before .before .before .before .if2 .left) (c .before .if3 .taken) (c .refused3 .ensures)
+returns-3 c = search too-many
 
 enter-list-requires : tie.Need-enter-list-requires
-enter-list-requires c κs = list-room (c .before .before .before .before .before .before .before .before .before .before .before .before .args .opening) (c .before .before .before .before .before .before .before .before .before .before .before .before .args .list .now) (c .before .before .before .before .before .before .before .before .before .before .before .before .args .memory .now) (c .before .before .before .before .before .before .before .before .before .opening-valid .ensures) (c .before .before .before .before .before .before .before .before .if1 .left) (c .before .before .before .before .before .before .before .settings-of .ensures) (c .before .before .before .before .before .before .check-list .ensures) (c .before .before .before .before .if2 .left) (c .before .if3 .left)
+enter-list-requires c κs = search list-room
 
 opened-header-requires : tie.Need-opened-header-requires
 opened-header-requires c κs = let v = valid-settings (c .before .before .before .before .before .before .before .before .before .before .before .before .before .before .before .before .args .opening) (c .before .before .before .before .before .before .before .before .before .before .before .before .before .before .before .before .args .list .now) (c .before .before .before .before .before .before .before .before .before .before .before .before .before .before .before .before .args .memory .now) (c .before .before .before .before .before .before .before .before .before .before .before .before .before .opening-valid .ensures) (c .before .before .before .before .before .before .before .before .before .before .before .before .if1 .left) in let f = few-enough (c .before .before .before .before .before .before .before .before .before .before .before .before .before .before .before .before .args .opening) (c .before .before .before .before .before .before .before .before .before .before .before .before .before .before .before .before .args .list .now) (c .before .before .before .before .before .before .before .before .before .before .before .before .before .before .before .before .args .memory .now) (c .before .before .before .before .before .before .before .before .before .before .before .before .before .opening-valid .ensures) (c .before .before .before .before .before .before .before .before .before .before .before .before .if1 .left) (c .before .before .before .before .before .before .before .before .before .before .before .settings-of .ensures) (c .before .before .before .before .before .before .before .before .before .before .check-list .ensures) (c .before .before .before .before .before .before .before .before .if2 .left) (c .before .before .before .before .before .if3 .left) in (c .before .before .before .before .before .before .before .before .before .before .before .settings-of .ensures, omega arith, omega arith)
