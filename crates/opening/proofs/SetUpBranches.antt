@@ -1,17 +1,17 @@
 -- Set up: a law for each branch of the call.
-use mathlib.Core.Path.{_≡_, refl, sym, _∙_, ap}
-use mathlib.Core.Bool.{Bool, true, false, not, _&&_}
+use mathlib.Core.Path.{_≡_, sym, _∙_, ap}
+use mathlib.Core.Bool.{Bool, true, false, not}
 use mathlib.Core.List.{List, []}
 use Prim.Native.Nat.{ℕ, _+_, _*_, _≤_, _<_}
 use native.Mathlib.Omega.{arith}
-use lib.Dec.{leb, eqb}
+use lib.Dec.{eqb}
 use lib.ListN.{length}
 use borrow.Author.Tests.{leb-true, le-leb, lt-leb, eq-eqb, ne-eqb, not-true, not-false}
 use Rattle.buffer.specs.Slice.{Bytes, write}
 use Rattle.buffer.proofs.Writes.{write-nil}
 use Rattle.memory.specs.Layout.{headerSize, outstandingAt, sizeFor}
 use Rattle.memory.specs.Records.{headerOf}
-use Rattle.memory.specs.Codec.{entryBytes, sentBytes, placesBytes, headerFront, headerBack, encode}
+use Rattle.memory.specs.Codec.{entryBytes, placesBytes, headerFront, headerBack, encode}
 use Rattle.memory.specs.Fits.{GatewayFits, Room}
 use Rattle.memory.specs.Validity.{settingsValid}
 use Rattle.memory.specs.declared.Header.{Header}

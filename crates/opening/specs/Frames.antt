@@ -1,8 +1,8 @@
--- The frames of the opening list by their positions, for the contracts of the functions inside set up. The call's own contract does not
--- cite this file.
+-- What the functions inside set up are told and promise: the frames of the opening list by their positions, a message entered, the header.
+-- The call's own contract does not cite this file.
 use mathlib.Core.Path.{_≡_}
 use Prim.Native.Nat.{ℕ, _+_, _-_, _*_, min}
-use mathlib.Core.List.{List, [], _∷_}
+use mathlib.Core.List.{List}
 use lib.ListN.{length, drop, getD}
 use Rattle.buffer.specs.Slice.{part, write}
 use Rattle.model.specs.declared.Message.{Message}

@@ -1,6 +1,5 @@
 -- `opening::list::check_list` meets its contract.
 use Prim.Native.Nat.{_-_}
-use native.Mathlib.Omega.{arith}
 use lib.ListN.{length}
 use Rattle.opening.proofs.FramePositions.{end-between}
 use Rattle.opening.proofs.Checking.{Passing, pass-start, pass-end, pass-refused, pass-turn}

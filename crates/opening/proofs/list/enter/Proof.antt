@@ -1,5 +1,4 @@
 -- `opening::list::enter` meets its contract.
-use native.Mathlib.Omega.{arith}
 use Rattle.opening.proofs.Entering.{place-within, entered-at}
 use borrow.Author.Needs.{needs}
 use Rattle.opening.proofs.list.enter.Statement.{statement}
@@ -9,7 +8,7 @@ find-requires : tie.Need-find-requires
 find-requires c κs = search needs
 
 insert-place-requires : tie.Need-insert-place-requires
-insert-place-requires c κs = (search place-within, search needs)
+insert-place-requires c κs = (search (place-within, needs), search needs)
 
 same-length : tie.Need-same-length
 same-length c = search needs

@@ -12,11 +12,11 @@ in-range-requires c κs = search needs
 
 returns : tie.Need-returns
 unfolding openingValid
-returns c = search (left-fails, right-fails, fails, refuted, granted, lt-leb, le-leb)
+returns c = search (left-fails, right-fails, fails, refuted, lt-leb)
 
 returns-2 : tie.Need-returns-2
 unfolding openingValid
-returns-2 c = search (left-fails, right-fails, fails, refuted, granted, lt-leb, le-leb)
+returns-2 c = search (left-fails, right-fails, fails, refuted, lt-leb)
 
 cast-result : tie.Need-cast-result
 cast-result c = search needs
