@@ -1,0 +1,3 @@
+-- Laws and proofs of work.
+pub mod NextPending
+pub mod WorkedLaws
