@@ -1,3 +1,4 @@
 -- Laws and proofs of work.
 pub mod NextPending
 pub mod WorkedLaws
+pub mod SendingRoom
