@@ -2,3 +2,4 @@
 pub mod NextPending
 pub mod WorkedLaws
 pub mod SendingRoom
+pub mod EventDone

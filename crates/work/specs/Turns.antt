@@ -15,7 +15,7 @@ use Rattle.memory.specs.Ranges.{Ranged}
 use Rattle.memory.specs.Validity.{isPending, valid}
 use Rattle.memory.specs.declared.Header.{Header}
 use Rattle.gateway.specs.Effects.{bytesOfFrames, framesFor, sentAll}
-use Rattle.gateway.specs.Working.{worked}
+use Rattle.gateway.specs.Working.{Progress, worked}
 use Rattle.gateway.specs.Searching.{firstWhere}
 use Rattle.effects.specs.Placed.{Placed}
 use Rattle.effects.specs.declared.Sending.{Sending}
@@ -40,20 +40,23 @@ pub record Reached (before memory : List ℕ) (t : Turn) (g : Gateway) : Type 0 
   pub behind : t .place ≤ length (g .queue)
   pub next : firstWhere isPending (g .queue) ≡ t .place + firstWhere isPending (drop (t .place) (g .queue))
 
--- up to b events were worked off from g on, and what they put out stands behind what was written before
-pub record Turned (b : ℕ) (before : List ℕ) (g : Gateway) (output memory′ output′ : List ℕ) (t r : Turn) : Type 0 where
-  pub reached : Reached before memory′ r (worked b (length output - t .written) g .gateway)
-  pub why : r .why ≡ worked b (length output - t .written) g .why
-  pub put : output′ ≡ write (t .written) (worked b (length output - t .written) g .output) output
-  pub written : r .written ≡ t .written + length (worked b (length output - t .written) g .output)
+-- work came to w, and what it put out stands behind what was written before
+pub record Turned (w : Progress) (before output memory′ output′ : List ℕ) (t r : Turn) : Type 0 where
+  pub reached : Reached before memory′ r (w .gateway)
+  pub why : r .why ≡ w .why
+  pub put : output′ ≡ write (t .written) (w .output) output
+  pub written : r .written ≡ t .written + length (w .output)
 
--- the same from every gateway that the memory may hold
-abbrev pub Turns : ℕ → List ℕ → List ℕ → List ℕ → List ℕ → Turn → Turn → Type 0
-Turns b memory output memory′ output′ t r = (before : List ℕ) (g : Gateway) → Reached before memory t g → Turned b before g output memory′ output′ t r
+-- one event was worked off, from every gateway that the memory may hold
+abbrev pub Turns : List ℕ → List ℕ → List ℕ → List ℕ → Turn → Turn → Type 0
+Turns memory output memory′ output′ t r =
+    (before : List ℕ) (g : Gateway) → Reached before memory t g → Turned (worked 1 (length output - t .written) g) before output memory′ output′ t r
 
 -- the same where the next unprocessed plain message stands in place k
 abbrev pub TurnsAt : ℕ → List ℕ → List ℕ → List ℕ → List ℕ → Turn → Turn → Type 0
-TurnsAt k memory output memory′ output′ t r = (before : List ℕ) (g : Gateway) → Reached before memory t g → k ≡ firstWhere isPending (g .queue) → Turned 1 before g output memory′ output′ t r
+TurnsAt k memory output memory′ output′ t r =
+    (before : List ℕ) (g : Gateway) → Reached before memory t g → k ≡ firstWhere isPending (g .queue)
+    → Turned (worked 1 (length output - t .written) g) before output memory′ output′ t r
 
 -- a turn that stops work, with that number
 abbrev pub stoppedWith : ℕ → Turn → Turn

@@ -21,7 +21,7 @@ ghost use Rattle.work.specs.Turns.{Ready, Turns, TurnsAt, stoppedWith, s
 
 pub fn work_one(memory: &mut [u8], output: &mut [u8], turn: Turn) -> Turn
     requires { ⌜ Ready (now memory) (now output) turn ⌝ }
-    ensures { λ r. ⌜ Turns 1 (now (memory .entry)) (now (output .entry)) (now (memory .exit)) (now (output .exit)) turn r ⌝ }
+    ensures { λ r. ⌜ Turns (now (memory .entry)) (now (output .entry)) (now (memory .exit)) (now (output .exit)) turn r ⌝ }
 {
     let header = turn.header;
     let queued = header.queued as usize;
