@@ -18,6 +18,7 @@ use Rattle.model.specs.declared.Site.{Site}
 use Rattle.model.specs.declared.event.Outcome.{Outcome}
 use Rattle.memory.specs.Records.{Gateway, headerOf, siteOf}
 use Rattle.memory.specs.Codec.{entryOf, entryBytes, placesAt}
+use Rattle.memory.specs.Ranges.{RangedState}
 use Rattle.memory.specs.Fits.{EntryFits, GatewayFits, Room}
 use Rattle.memory.specs.Validity.{isPending}
 use Rattle.memory.specs.declared.Header.{Header}
@@ -37,7 +38,7 @@ use Rattle.effects.proofs.PlacedLaws.{placed-rest, placed-count, placed-entry, 
 use Rattle.work.specs.Turns.{Ready, Reached, Turned, stoppedWith, sendingAfter, roomFor, MaySendAll, SentAll, SendsAll}
 use Rattle.work.specs.declared.Turn.{Turn}
 use Rattle.work.proofs.NextPending.{none-pending, next-message, processed-at, processed-length, next-behind}
-use Rattle.work.proofs.WorkedLaws.{worked-none, worked-full, worked-more}
+use Rattle.work.proofs.WorkedLaws.{worked-none, worked-full, doneBy, worked-one}
 
 -- work that stops before an event
 pub turn-stopped : {before memory : List ℕ} (output : List ℕ) {t : Turn} {g : Gateway} → Reached before memory t g → (why : ℕ) → {w : Progress} → w ≡ stopped why g
@@ -77,7 +78,15 @@ module _ (o : Outcome) (g : Gateway) where
       by-case true = rw (le-leb (length (g .queue)) (g .settings .q) h, length-append)
       by-case false = rw (le-leb (length (g .queue)) (g .settings .q) h, add-zero)
 
-  pub sent-queue : sentAll false (sentBy o) g .queue ≡ g .queue
+  sent-settings : sentAll false (sentBy o) g .settings ≡ g .settings
+  unfolding sentAll sentOne
+  sent-settings = by-case (o .sends)
+    where
+      by-case : (b : Bool) → sentAll false (cond b (o .sent ∷ []) []) g .settings ≡ g .settings
+      by-case true = refl
+      by-case false = refl
+
+  sent-queue : sentAll false (sentBy o) g .queue ≡ g .queue
   unfolding sentAll sentOne
   sent-queue = by-case (o .sends)
     where
@@ -127,10 +136,8 @@ module _ {before memory : List ℕ} {t : Turn} {g : Gateway} (reached : Reached 
       fitting : fits (length output - t .written) (done (e .message) g) ≡ true
       fitting = fits-is (length output - t .written) ∙ sym has-is ∙ not-false has n
 
-      work-is : worked 1 (length output - t .written) g
-          ≡ record { count = 1; why = 0; gateway = sentAll false (sentBy o) (processedIn o g); output = bytesOfFrames (framesFor false (sentBy o)) }
-      unfolding worked
-      work-is = worked-more (length output - t .written) g (e .message) (pending .0) (pending .1) 0 fitting ∙ rw (append-nil, done-is)
+      work-is : worked 1 (length output - t .written) g ≡ doneBy (record { gateway = sentAll false (sentBy o) (processedIn o g); frames = framesFor false (sentBy o) })
+      work-is = worked-one (length output - t .written) g (e .message) (pending .0) (pending .1) _ done-is fitting
 
       proper : Proper (sentAll false (sentBy o) (processedIn o g))
       proper =
@@ -139,3 +146,73 @@ module _ {before memory : List ℕ} {t : Turn} {g : Gateway} (reached : Reached 
 
       new-fits : GatewayFits (sentAll false (sentBy o) (processedIn o g))
       new-fits = valid-fits _ (valid-facts _ (proper .valid)) (proper .ranged)
+
+      new-room : Room (sentAll false (sentBy o) (processedIn o g)) before
+      new-room =
+          let v = valid-facts _ (proper .valid) in
+          record { long = rw (sent-settings o (processedIn o g)) (reached .placed .room .long); queued = v .queued; sent = v .sent }
+
+      state-is : t .header .state ≡ g .state
+      state-is = ap (λ (h : Header). h .state) header-is
+
+      state-fits : RangedState (o .state)
+      state-fits = rw (gives .state, state-is) (after-ranged (reached .ranged .state) (e .message .kind))
+
+      -- the entry as it is processed
+      now-processed : Entry
+      now-processed = record { message = e .message; mark = Processed; before = t .header .state }
+
+      now-fits : EntryFits now-processed
+      unfolding now-processed
+      now-fits = record { message = placed-fits (reached .placed) k below read .message; before = rw state-is (reached .ranged .state) }
+
+      queue-is : take k (g .queue) ++ (now-processed ∷ drop (suc k) (g .queue)) ≡ processedNext (g .state) (g .queue)
+      unfolding now-processed
+      queue-is = rw (state-is, first) (sym (rw entry-is at (processed-at (g .state) (g .queue) e inside)))
+
+      module _ {memory₁ : List ℕ} (stored : memory₁ ≡ write (256 + 64 * k) (entryBytes (record { message = e .message; mark = Processed; before = t .header .state })) memory)
+          {s : Sending} (s-is : s ≡ sendingAfter t o) where
+        placed-processed : Placed before memory₁ (s .header) (processedIn o g)
+        unfolding now-processed
+        placed-processed =
+            let p = reached .placed in
+            let at : k ≡ length (take k (g .queue)) = sym (length-take-le k (g .queue) (omega (arith, first, inside))) in
+            let one : Placed before memory₁ (t .header) (withQueue (take k (g .queue) ++ (now-processed ∷ drop (suc k) (g .queue))) g) =
+            placed-replaced p (take k (g .queue)) e (drop (suc k) (g .queue)) (placed-split p k below read) now-processed now-fits at stored
+            in
+            let two : Placed before memory₁ (t .header) (withQueue (processedNext (g .state) (g .queue)) g) =
+            subst (λ (es : List Entry). Placed before memory₁ (t .header) (withQueue es g)) queue-is one
+            in
+            placed-state two state-fits (ap (λ (x : Sending). x .header) s-is)
+
+        pub event-done : {memory₂ output₂ : List ℕ} {r : Sending} → SendsAll memory₁ output memory₂ output₂ s o r
+            → Turned (worked 1 (length output - t .written) g) before output memory₂ output₂ t (record { header = r .header; written = r .written; place = k + 1; why = 0 })
+        event-done sends =
+            let a = sends before (processedIn o g) placed-processed new-fits new-room in
+            let at : s .written ≡ t .written = ap (λ (x : Sending). x .written) s-is in
+            let place : k + 1 ≡ suc (firstWhere isPending (g .queue)) = omega (arith, first) in
+            rw work-is
+            (record {
+              reached = record {
+                placed = a .placed;
+                validity = proper .valid;
+                ranged = proper .ranged;
+                behind = rw (sent-queue o (processedIn o g), processed-length (g .state) (g .queue)) (omega (arith, first, inside));
+                next = rw (sent-queue o (processedIn o g), place) (next-behind (g .state) (g .queue) inside);
+              };
+              why = refl;
+              put = rw at at (a .put);
+              written = rw at at (a .written);
+            })
+
+-- what sending it asks for
+module _ {memory output : List ℕ} {t : Turn} (ready : Ready memory output t) {o : Outcome} {has : Bool} (has-is : has ≡ roomFor (t .header) (length output - t .written) o)
+    (n : not has ≡ false) where
+  pub may-send-all : {memory₁ : List ℕ} {s : Sending} → length memory₁ ≡ length memory → s ≡ sendingAfter t o → MaySendAll memory₁ output s o
+  may-send-all long s-is =
+      let there-is : roomFor (t .header) (length output - t .written) o ≡ true = sym has-is ∙ not-false has n in
+      let places = leb (t .header .outstanding + length (sentBy o)) (t .header .settings .u) in
+      let bytes = leb (length (bytesOfFrames (framesFor false (sentBy o)))) (length output - t .written) in
+      let a = leb-true (t .header .outstanding + length (sentBy o)) (t .header .settings .u) (and-left places bytes there-is) in
+      let b = leb-true (length (bytesOfFrames (framesFor false (sentBy o)))) (length output - t .written) (and-right places bytes there-is) in
+      rw s-is (record { long = rw long (ready .long); sents = ready .sents; outstanding = a; room = omega (arith, b, ready .written) })

@@ -11,13 +11,17 @@ use borrow.Author.Tests.{leb-true}
 use Rattle.model.specs.declared.Message.{Message}
 use Rattle.memory.specs.Records.{Gateway}
 use Rattle.memory.proofs.Validated.{and-left, and-right}
-use Rattle.gateway.specs.Effects.{bytesOfFrames, fits}
+use Rattle.gateway.specs.Effects.{Effect, bytesOfFrames, fits}
 use Rattle.gateway.specs.Working.{pendingOf, done, Progress, stopped, onceMore, workedBy, worked}
 
 -- the first event, whatever the budget behind it: work stops before it, or it is done
 pub data First (room : ℕ) (g : Gateway) : Type 0 where
   stops : (why : ℕ) → (why ≡ 0 → ⊥) → ((b : ℕ) → worked (suc b) room g ≡ stopped why g) → First room g
   does : (output : List ℕ) (h : Gateway) → length output ≤ room → ((b : ℕ) → worked (suc b) room g ≡ onceMore output (worked b (room - length output) h)) → First room g
+
+-- one event, by what it does
+abbrev pub doneBy : Effect → Progress
+doneBy x = record { count = 1; why = 0; gateway = x .gateway; output = bytesOfFrames (x .frames) }
 
 module _ (room : ℕ) (g : Gateway) where
   -- no unprocessed message
@@ -36,6 +40,13 @@ module _ (room : ℕ) (g : Gateway) where
         → worked (suc b) room g ≡ onceMore (bytesOfFrames (done m g .frames)) (worked b (room - length (bytesOfFrames (done m g .frames))) (done m g .gateway))
     unfolding worked
     worked-more b f = rw (e, f)
+
+    -- that one alone, by what it does
+    pub worked-one : (x : Effect) → done m g ≡ x → fits room (done m g) ≡ true → worked 1 room g ≡ doneBy x
+    unfolding worked
+    worked-one x d f =
+        let one : worked 1 room g ≡ doneBy (done m g) = worked-more 0 f ∙ rw append-nil in
+        one ∙ ap doneBy d
 
     output-fits : fits room (done m g) ≡ true → length (bytesOfFrames (done m g .frames)) ≤ room
     unfolding fits
