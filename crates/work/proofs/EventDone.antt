@@ -25,10 +25,12 @@ use Rattle.memory.specs.declared.Header.{Header}
 use Rattle.memory.specs.declared.Entry.{Entry}
 use Rattle.memory.specs.declared.Mark.the-variants.{Pending, Processed}
 use Rattle.memory.proofs.Validated.{and-left, and-right, valid-facts}
+use Rattle.memory.proofs.Places.{length-read}
 use Rattle.memory.proofs.Fitting.{valid-fits}
 use Rattle.gateway.specs.Effects.{Effect, bytesOfFrames, fits, withQueue, withState, sentOne, sentAll, framesFor}
 use Rattle.gateway.specs.Working.{pendingOf, processedNext, done, Progress, stopped, worked}
 use Rattle.gateway.specs.Searching.{firstWhere, hasMark}
+use Rattle.gateway.proofs.Positions.{first-bound}
 use Rattle.gateway.proofs.Maintaining.{Proper}
 use Rattle.gateway.proofs.Keeps.{work-keeps}
 use Rattle.gateway.proofs.Replies.{after-ranged}
@@ -64,6 +66,13 @@ module _ {before memory : List ℕ} {t : Turn} {g : Gateway} (reached : Reached 
       turn-stopped output reached 6
       (worked-none (length output - t .written) g 0 (none-pending (g .queue) (omega (arith, found-next f, placed-count (reached .placed)))))
       i
+
+-- a place that the search finds among those used
+pub place-below : (memory : List ℕ) {place queued k : ℕ} → place ≤ queued → k ≡ place + firstWhere (hasMark Pending) (placesAt entryOf 64 memory (256 + 64 * place) (queued - place))
+    → (k ≡ queued → ⊥) → k < queued
+place-below memory {place} {queued} h f n =
+    let es = placesAt entryOf 64 memory (256 + 64 * place) (queued - place) in
+    omega (arith, first-bound (hasMark Pending) es, length-read entryOf 64 memory (256 + 64 * place) (queued - place))
 
 -- what is sent beside the rest of a gateway
 module _ (o : Outcome) (g : Gateway) where

@@ -3,3 +3,4 @@ pub mod NextPending
 pub mod WorkedLaws
 pub mod SendingRoom
 pub mod EventDone
+pub mod SeveralEvents

@@ -1,47 +1,36 @@
+-- `work::event::work_one` meets its contract.
+use native.Mathlib.Omega.{arith}
+use Rattle.work.proofs.EventDone.{found-next, none-left, place-below}
 use borrow.Author.Needs.{needs}
 use Rattle.work.proofs.event.work_one.Statement.{statement}
 use Rattle.work.proofs.event.work_one.Tie as tie
-use Rattle.work.proofs.event.work_one.Reads as reads
-use Rattle.work.proofs.event.work_one.Lts as lts
-use Rattle.gateway.proofs.places.next_marked.Reads as next-marked-reads
-use Rattle.work.proofs.event.stopped.Reads as stopped-reads
-use Rattle.work.proofs.event.work_at.Reads as work-at-reads
 
--- src/event.rt:27:18
 cast-queued : tie.Need-cast-queued
 cast-queued c = search needs
 
--- src/event.rt:28:9
 next-marked-requires : tie.Need-next-marked-requires
 next-marked-requires c κs = search needs
 
--- src/event.rt:30:9
 stopped-requires : tie.Need-stopped-requires
 stopped-requires c κs = search needs
 
--- src/event.rt:30:9
 same-length : tie.Need-same-length
 same-length c = search needs
 
--- src/event.rt:30:9
 returns : tie.Need-returns
-returns c = ?
+returns c = λ before g reached. none-left reached (c .before .before .before .before .before .before .before .before .args .output .now) (c .before .before .next-marked .ensures) (c .before .if1 .taken) (c .stopped .ensures)
 
--- src/event.rt:32:5
 work-at-requires : tie.Need-work-at-requires
-work-at-requires c κs = ?
+work-at-requires c κs = (c .before .before .before .before .before .before .before .before .before .pre, place-below (c .before .before .before .before .before .before .before .before .before .args .memory .now) (c .before .before .before .before .before .before .before .before .before .pre .place) (c .before .before .before .next-marked .ensures) (c .before .before .if1 .left))
 
--- src/event.rt:22:1
 same-length-2 : tie.Need-same-length-2
 same-length-2 c = search needs
 
--- src/event.rt:22:1
 same-length-3 : tie.Need-same-length-3
 same-length-3 c = search needs
 
--- src/event.rt:22:1
 returns-2 : tie.Need-returns-2
-returns-2 c = ?
+returns-2 c = λ before g reached. c .before .before .before .before .work-at .ensures before g reached (found-next reached (c .before .before .before .before .before .before .before .before .next-marked .ensures))
 
 pub work-one-spec : {M : Type 1} → statement M
 work-one-spec =
