@@ -1,15 +1,17 @@
--- Laws of several events of work: before the first, one more, and when work ends.
+-- Laws of several events of work: before the first, one more, and when work ends; and of work on memory that is not sound.
 use mathlib.Core.Path.{_≡_, refl, sym, _∙_, ap, subst}
-use mathlib.Core.Bool.{true}
+use mathlib.Core.Bool.{Bool, true, not}
 use mathlib.Core.List.{List, [], _∷_, _++_}
 use Prim.Native.Nat.{ℕ, zero, suc, _+_, _-_, _≤_, _<_}
 use native.Mathlib.Nat.{zero-add}
 use native.Mathlib.Omega.{arith}
 use lib.ListN.{length, drop, length-append}
+use borrow.Author.Tests.{not-true}
 use Rattle.buffer.specs.Slice.{Bytes, write}
 use Rattle.buffer.proofs.Writes.{write-nil, write-join, length-write}
 use Rattle.memory.specs.Records.{Gateway}
 use Rattle.memory.specs.Codec.{headerFront, headerBack, decode, encode}
+use Rattle.memory.specs.Soundness.{sound}
 use Rattle.memory.specs.declared.Header.{Header}
 use Rattle.memory.proofs.Validated.{valid-facts}
 use Rattle.memory.proofs.SoundMemory.{sound-facts, reading-laws}
@@ -179,3 +181,9 @@ module _ {before output₀ memory output : List ℕ} {t : Turn} {budget count : 
       (subst (λ (n : ℕ). Came (worked n (length output₀) (decode before)) before output₀ memory output t) e (going .came))
       (sym (worked-all count (length output₀) (decode before) done-all) ∙ ap (λ (n : ℕ). worked n (length output₀) (decode before) .count) e)
       f
+
+-- work on memory that is not sound
+pub work-unsound : (budget : ℕ) (m output : List ℕ) {ok : Bool} → ok ≡ sound m → not ok ≡ true
+    → record { answer = record { count = 0; why = 10; written = 0 }; memory = m; output = output } ≡ workedOff budget m output
+unfolding workedOff
+work-unsound budget m output {ok} e n = rw (sym e ∙ not-true ok n)
