@@ -1,7 +1,7 @@
 -- Laws of one event of work: that none is left, that there is no room for it, or that it is done.
 use mathlib.Core.Path.{_≡_, refl, sym, _∙_, ap, subst}
 use mathlib.Core.Bool.{Bool, true, false, cond, not, _&&_}
-use mathlib.Core.List.{List, [], _∷_, _++_, append-nil}
+use mathlib.Core.List.{List, [], _∷_, _++_}
 use Prim.Native.Nat.{ℕ, suc, _+_, _-_, _*_, _≤_, _<_}
 use native.Mathlib.Nat.{add-zero}
 use native.Mathlib.Omega.{arith}
@@ -13,7 +13,6 @@ use Rattle.buffer.specs.Slice.{part, write}
 use Rattle.buffer.proofs.Writes.{write-nil}
 use Rattle.model.specs.Doing.{after, sent, sentBy, Gives}
 use Rattle.model.specs.declared.Message.{Message}
-use Rattle.model.specs.declared.State.{State}
 use Rattle.model.specs.declared.Site.{Site}
 use Rattle.model.specs.declared.event.Outcome.{Outcome}
 use Rattle.memory.specs.Records.{Gateway, headerOf, siteOf}
@@ -27,7 +26,7 @@ use Rattle.memory.specs.declared.Mark.the-variants.{Pending, Processed}
 use Rattle.memory.proofs.Validated.{and-left, and-right, valid-facts}
 use Rattle.memory.proofs.Places.{length-read}
 use Rattle.memory.proofs.Fitting.{valid-fits}
-use Rattle.gateway.specs.Effects.{Effect, bytesOfFrames, fits, withQueue, withState, sentOne, sentAll, framesFor}
+use Rattle.gateway.specs.Effects.{bytesOfFrames, fits, withQueue, withState, sentOne, sentAll, framesFor}
 use Rattle.gateway.specs.Working.{pendingOf, processedNext, done, Progress, stopped, worked}
 use Rattle.gateway.specs.Searching.{firstWhere, hasMark}
 use Rattle.gateway.proofs.Positions.{first-bound}
@@ -37,7 +36,7 @@ use Rattle.gateway.proofs.Replies.{after-ranged}
 use Rattle.effects.specs.Placed.{Placed}
 use Rattle.effects.specs.declared.Sending.{Sending}
 use Rattle.effects.proofs.PlacedLaws.{placed-rest, placed-count, placed-entry, placed-split, placed-fits, placed-replaced, placed-state}
-use Rattle.work.specs.Turns.{Ready, Reached, Turned, stoppedWith, sendingAfter, roomFor, MaySendAll, SentAll, SendsAll}
+use Rattle.work.specs.Turns.{Ready, Reached, Turned, stoppedWith, sendingAfter, roomFor, MaySendAll, SendsAll}
 use Rattle.work.specs.declared.Turn.{Turn}
 use Rattle.work.proofs.NextPending.{none-pending, next-message, processed-at, processed-length, next-behind}
 use Rattle.work.proofs.WorkedLaws.{worked-none, worked-full, doneBy, worked-one}

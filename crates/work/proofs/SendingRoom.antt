@@ -1,8 +1,8 @@
 -- Laws of what doing a message sends, at most one message: whether there is room for it, and that it is sent.
-use mathlib.Core.Path.{_≡_, refl, sym, _∙_}
-use mathlib.Core.Bool.{Bool, true, false, cond, not, _&&_}
+use mathlib.Core.Path.{_≡_, sym}
+use mathlib.Core.Bool.{true, false, not}
 use mathlib.Core.List.{List, [], _∷_, _++_, append-nil}
-use Prim.Native.Nat.{ℕ, suc, _+_, _-_, _≤_, _<_}
+use Prim.Native.Nat.{ℕ, _+_, _≤_, _<_}
 use native.Mathlib.Nat.{add-zero}
 use native.Mathlib.Omega.{arith}
 use lib.Dec.{leb}
@@ -10,7 +10,6 @@ use lib.ListN.{length}
 use borrow.Author.Tests.{le-leb, lt-leb, not-true, not-false}
 use Rattle.buffer.proofs.Writes.{write-nil}
 use Rattle.model.specs.Doing.{sentBy}
-use Rattle.model.specs.declared.Message.{Message}
 use Rattle.model.specs.declared.event.Outcome.{Outcome}
 use Rattle.frame.specs.Layout.{wholeLength}
 use Rattle.frame.specs.Kinds.{mapOf}
@@ -18,12 +17,12 @@ use Rattle.frame.specs.Writing.{written}
 use Rattle.frame.specs.declared.Frame.{Frame}
 use Rattle.frame.proofs.Output.{whole-size}
 use Rattle.memory.specs.Records.{Gateway}
-use Rattle.memory.specs.Fits.{All, nil, cons, MessageFits, SentFits, GatewayFits, Room}
+use Rattle.memory.specs.Fits.{All, cons, MessageFits, SentFits, GatewayFits}
 use Rattle.memory.specs.Validity.{frameIf}
 use Rattle.memory.specs.declared.Header.{Header}
 use Rattle.memory.specs.declared.Sent.{Sent}
 use Rattle.memory.proofs.Places.{all-back}
-use Rattle.gateway.specs.Effects.{bytesOfFrames, framesFor, sentOne, sentAll}
+use Rattle.gateway.specs.Effects.{bytesOfFrames, sentOne, sentAll}
 use Rattle.effects.specs.Placed.{Placed}
 use Rattle.effects.specs.Sending.{MaySend, Sends}
 use Rattle.effects.specs.declared.Sending.{Sending}

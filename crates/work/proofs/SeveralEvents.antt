@@ -1,11 +1,11 @@
 -- Laws of several events of work: before the first, one more, and when work ends; and of work on memory that is not sound.
 use mathlib.Core.Path.{_≡_, refl, sym, _∙_, ap, subst}
 use mathlib.Core.Bool.{Bool, true, not}
-use mathlib.Core.List.{List, [], _∷_, _++_}
-use Prim.Native.Nat.{ℕ, zero, suc, _+_, _-_, _≤_, _<_}
+use mathlib.Core.List.{List, _++_}
+use Prim.Native.Nat.{ℕ, _+_, _-_, _≤_, _<_}
 use native.Mathlib.Nat.{zero-add}
 use native.Mathlib.Omega.{arith}
-use lib.ListN.{length, drop, length-append}
+use lib.ListN.{length, length-append}
 use borrow.Author.Tests.{not-true}
 use Rattle.buffer.specs.Slice.{Bytes, write}
 use Rattle.buffer.proofs.Writes.{write-nil, write-join, length-write}
@@ -15,11 +15,11 @@ use Rattle.memory.specs.Soundness.{sound}
 use Rattle.memory.specs.declared.Header.{Header}
 use Rattle.memory.proofs.Validated.{valid-facts}
 use Rattle.memory.proofs.SoundMemory.{sound-facts, reading-laws}
-use Rattle.gateway.specs.Working.{Progress, stopped, onceMore, worked}
+use Rattle.gateway.specs.Working.{Progress, worked}
 use Rattle.gateway.specs.Calls.{workedOff}
 use Rattle.gateway.specs.Premises.{Known}
 use Rattle.gateway.specs.declared.Worked.{Worked}
-use Rattle.effects.proofs.PlacedLaws.{placed-first, placed-length, placed-inside, placed-last}
+use Rattle.effects.proofs.PlacedLaws.{placed-first, placed-inside, placed-last}
 use Rattle.work.specs.Turns.{Ready, Reached, Turned, Turns}
 use Rattle.work.specs.declared.Turn.{Turn}
 use Rattle.work.proofs.WorkedLaws.{First, stops, does, first, worked-inside, worked-all, worked-then, worked-stopped}

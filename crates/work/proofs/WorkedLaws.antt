@@ -1,18 +1,17 @@
 -- Laws of work: so many events and then some more, as far as it did not stop.
 use mathlib.Core.Path.{_≡_, refl, sym, _∙_, ap}
-use mathlib.Core.Bool.{Bool, true, false, cond, _&&_}
+use mathlib.Core.Bool.{Bool, true, false}
 use mathlib.Core.List.{List, [], _∷_, _++_, append-assoc, append-nil}
-use Prim.Native.Nat.{ℕ, zero, suc, _+_, _-_, _≤_, _<_}
+use Prim.Native.Nat.{ℕ, zero, suc, _+_, _-_, _≤_}
 use native.Mathlib.Nat.{suc-add, zero-add, sub-zero}
 use native.Mathlib.Omega.{arith}
-use lib.Dec.{leb}
 use lib.ListN.{length, length-append}
 use borrow.Author.Tests.{leb-true}
 use Rattle.model.specs.declared.Message.{Message}
 use Rattle.memory.specs.Records.{Gateway}
 use Rattle.memory.proofs.Validated.{and-left, and-right}
 use Rattle.gateway.specs.Effects.{Effect, bytesOfFrames, fits}
-use Rattle.gateway.specs.Working.{pendingOf, done, Progress, stopped, onceMore, workedBy, worked}
+use Rattle.gateway.specs.Working.{pendingOf, done, Progress, stopped, onceMore, worked}
 
 -- the first event, whatever the budget behind it: work stops before it, or it is done
 pub data First (room : ℕ) (g : Gateway) : Type 0 where

@@ -52,7 +52,7 @@ fn work_at(memory: &mut [u8], output: &mut [u8], turn: Turn, k: usize) -> Turn
         before: state,
     };
     write_entry(memory, at, done);
-    let sending = send_outcome(memory, output, after(turn, outcome), outcome);
+    let sending = send_outcome(memory, output, sending_after(turn, outcome), outcome);
     let next = sending.header;
     Turn {
         header: next,
@@ -74,7 +74,7 @@ fn site_of(header: Header) -> Site
 }
 
 // The header with the state after a message, and the bytes of output so far.
-fn after(turn: Turn, outcome: Outcome) -> Sending
+fn sending_after(turn: Turn, outcome: Outcome) -> Sending
     ensures { λ r. ⌜ r ≡ sendingAfter turn outcome ⌝ }
 {
     let mut header = turn.header;

@@ -40,11 +40,11 @@ returns c = λ before g reached first.
 write-entry-requires : tie.Need-write-entry-requires
 write-entry-requires c κs = let ready = c .before .before .before .before .before .before .before .before .before .before .before .before .before .pre .0 in let below = c .before .before .before .before .before .before .before .before .before .before .before .before .before .pre .1 in omega (arith, ready .long, ready .queued)
 
-after-requires : tie.Need-after-requires
-after-requires c κs = search needs
+sending-after-requires : tie.Need-sending-after-requires
+sending-after-requires c κs = search needs
 
 send-outcome-requires : tie.Need-send-outcome-requires
-send-outcome-requires c κs = may-send-all (c .before .before .before .before .before .before .before .before .before .before .before .before .before .before .before .before .before .before .before .pre .0) (c .before .before .before .before .before .before .before .before .has-room .ensures) (c .before .before .before .before .before .before .before .if1 .left) (search needs) (c .after .ensures)
+send-outcome-requires c κs = may-send-all (c .before .before .before .before .before .before .before .before .before .before .before .before .before .before .before .before .before .before .before .pre .0) (c .before .before .before .before .before .before .before .before .has-room .ensures) (c .before .before .before .before .before .before .before .if1 .left) (search needs) (c .sending-after .ensures)
 
 add-t14 : tie.Need-add-t14
 add-t14 c = let ready = c .before .before .before .before .before .before .before .before .before .before .before .before .before .before .before .before .before .before .before .before .before .before .before .before .before .pre .0 in let below = c .before .before .before .before .before .before .before .before .before .before .before .before .before .before .before .before .before .before .before .before .before .before .before .before .before .pre .1 in omega (arith, ready .queued, ready .places)
@@ -58,7 +58,7 @@ same-length-3 c = search needs
 returns-2 : tie.Need-returns-2
 returns-2 c = λ before g reached first.
     event-done reached (c .before .before .before .before .before .before .before .before .before .before .before .before .before .before .before .before .before .before .before .before .before .before .before .before .before .pre .1) first (c .before .before .before .before .before .before .before .before .before .before .before .before .before .before .before .before .before .before .before .read-entry .ensures) (c .before .before .before .before .before .before .before .before .before .before .before .before .before .before .before .before .before .site-of .ensures) (c .before .before .before .before .before .before .before .before .before .before .before .before .before .before .before .before .perform .ensures)
-    (c .before .before .before .before .before .before .before .before .before .before .before .before .before .before .before .before .before .before .before .before .before .before .before .before .before .args .output .now) (c .before .before .before .before .before .before .before .before .before .before .before .before .before .before .has-room .ensures) (c .before .before .before .before .before .before .before .before .before .before .before .before .before .if1 .left) (c .before .before .before .before .before .before .before .before .before .before .before .write-entry .ensures) (c .before .before .before .before .before .before .after .ensures) (c .before .before .before .before .before .send-outcome .ensures)
+    (c .before .before .before .before .before .before .before .before .before .before .before .before .before .before .before .before .before .before .before .before .before .before .before .before .before .args .output .now) (c .before .before .before .before .before .before .before .before .before .before .before .before .before .before .has-room .ensures) (c .before .before .before .before .before .before .before .before .before .before .before .before .before .if1 .left) (c .before .before .before .before .before .before .before .before .before .before .before .write-entry .ensures) (c .before .before .before .before .before .before .sending-after .ensures) (c .before .before .before .before .before .send-outcome .ensures)
 
 pub work-at-spec : {M : Type 1} → statement M
 work-at-spec =
@@ -75,7 +75,7 @@ work-at-spec =
     same-length
     returns
     write-entry-requires
-    after-requires
+    sending-after-requires
     send-outcome-requires
     add-t14
     same-length-2

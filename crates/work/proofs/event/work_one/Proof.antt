@@ -1,5 +1,4 @@
 -- `work::event::work_one` meets its contract.
-use native.Mathlib.Omega.{arith}
 use Rattle.work.proofs.EventDone.{found-next, none-left, place-below}
 use borrow.Author.Needs.{needs}
 use Rattle.work.proofs.event.work_one.Statement.{statement}
