@@ -18,7 +18,7 @@ use Rattle.model.specs.declared.event.Outcome.{Outcome}
 use Rattle.memory.specs.Records.{Gateway, headerOf, siteOf}
 use Rattle.memory.specs.Codec.{entryOf, entryBytes, placesAt}
 use Rattle.memory.specs.Ranges.{RangedState}
-use Rattle.memory.specs.Fits.{EntryFits, GatewayFits, Room}
+use Rattle.memory.specs.Fits.{EntryFits, GatewayFits}
 use Rattle.memory.specs.Validity.{isPending}
 use Rattle.memory.specs.declared.Header.{Header}
 use Rattle.memory.specs.declared.Entry.{Entry}
@@ -86,14 +86,6 @@ module _ (o : Outcome) (g : Gateway) where
       by-case true = rw (le-leb (length (g .queue)) (g .settings .q) h, length-append)
       by-case false = rw (le-leb (length (g .queue)) (g .settings .q) h, add-zero)
 
-  sent-settings : sentAll false (sentBy o) g .settings ≡ g .settings
-  unfolding sentAll sentOne
-  sent-settings = by-case (o .sends)
-    where
-      by-case : (b : Bool) → sentAll false (cond b (o .sent ∷ []) []) g .settings ≡ g .settings
-      by-case true = refl
-      by-case false = refl
-
   sent-queue : sentAll false (sentBy o) g .queue ≡ g .queue
   unfolding sentAll sentOne
   sent-queue = by-case (o .sends)
@@ -155,11 +147,6 @@ module _ {before memory : List ℕ} {t : Turn} {g : Gateway} (reached : Reached 
       new-fits : GatewayFits (sentAll false (sentBy o) (processedIn o g))
       new-fits = valid-fits _ (valid-facts _ (proper .valid)) (proper .ranged)
 
-      new-room : Room (sentAll false (sentBy o) (processedIn o g)) before
-      new-room =
-          let v = valid-facts _ (proper .valid) in
-          record { long = rw (sent-settings o (processedIn o g)) (reached .placed .room .long); queued = v .queued; sent = v .sent }
-
       state-is : t .header .state ≡ g .state
       state-is = ap (λ (h : Header). h .state) header-is
 
@@ -196,7 +183,7 @@ module _ {before memory : List ℕ} {t : Turn} {g : Gateway} (reached : Reached 
         pub event-done : {memory₂ output₂ : List ℕ} {r : Sending} → SendsAll memory₁ output memory₂ output₂ s o r
             → Turned (worked 1 (length output - t .written) g) before output memory₂ output₂ t (record { header = r .header; written = r .written; place = k + 1; why = 0 })
         event-done sends =
-            let a = sends before (processedIn o g) placed-processed new-fits new-room in
+            let a = sends before (processedIn o g) placed-processed new-fits in
             let at : s .written ≡ t .written = ap (λ (x : Sending). x .written) s-is in
             let place : k + 1 ≡ suc (firstWhere isPending (g .queue)) = omega (arith, first) in
             rw work-is
@@ -223,4 +210,4 @@ module _ {memory output : List ℕ} {t : Turn} (ready : Ready memory output t) {
       let bytes = leb (length (bytesOfFrames (framesFor false (sentBy o)))) (length output - t .written) in
       let a = leb-true (t .header .outstanding + length (sentBy o)) (t .header .settings .u) (and-left places bytes there-is) in
       let b = leb-true (length (bytesOfFrames (framesFor false (sentBy o)))) (length output - t .written) (and-right places bytes there-is) in
-      rw s-is (record { long = rw long (ready .long); sents = ready .sents; outstanding = a; room = omega (arith, b, ready .written) })
+      rw s-is (record { long = rw long (ready .long); outstanding-places = ready .outstanding-places; outstanding = a; room = omega (arith, b, ready .written) })

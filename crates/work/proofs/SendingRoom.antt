@@ -69,7 +69,7 @@ module _ (memory output : List ℕ) (s : Sending) (o : Outcome) where
     pub may-send : MaySend memory output s false (o .sent)
     may-send = record {
       place = omega (arith, place, may .long);
-      counted = omega (arith, place, may .sents);
+      counted = omega (arith, place, may .outstanding-places);
       room = rw (one, bytes-one (frameIf false (o .sent))) at (may .room);
     }
 

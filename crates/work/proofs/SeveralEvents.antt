@@ -70,8 +70,8 @@ module _ {w : Progress} {before output₀ memory output : List ℕ} {t : Turn} (
       let queued : t .header .queued ≡ length (w .gateway .queue) = ap (λ (h : Header). h .queued) (p .header) in
       record {
         long = i .long;
-        places = rw settings (v .settings .q);
-        sents = rw settings (v .settings .u);
+        queue-places = rw settings (v .settings .q);
+        outstanding-places = rw settings (v .settings .u);
         queued = i .queued;
         outstanding = i .outstanding;
         place = rw queued (came .reached .behind);

@@ -10,7 +10,7 @@ use Rattle.model.specs.Doing.{sentBy}
 use Rattle.model.specs.declared.event.Outcome.{Outcome}
 use Rattle.memory.specs.Records.{Gateway}
 use Rattle.memory.specs.Layout.{sizeFor}
-use Rattle.memory.specs.Fits.{GatewayFits, Room}
+use Rattle.memory.specs.Fits.{GatewayFits}
 use Rattle.memory.specs.Ranges.{Ranged}
 use Rattle.memory.specs.Validity.{isPending, valid}
 use Rattle.memory.specs.declared.Header.{Header}
@@ -24,8 +24,8 @@ use Rattle.work.specs.declared.Turn.{Turn}
 -- sizes and counts between two events
 pub record Ready (memory output : List ℕ) (t : Turn) : Type 0 where
   pub long : sizeFor (t .header .settings .q) (t .header .settings .u) ≤ length memory
-  pub places : t .header .settings .q ≤ 512
-  pub sents : t .header .settings .u ≤ 512
+  pub queue-places : t .header .settings .q ≤ 512
+  pub outstanding-places : t .header .settings .u ≤ 512
   pub queued : t .header .queued ≤ t .header .settings .q
   pub outstanding : t .header .outstanding ≤ t .header .settings .u
   pub place : t .place ≤ t .header .queued
@@ -84,7 +84,7 @@ roomFor h room o =
 -- the same of the memory and the output
 pub record MaySendAll (memory output : List ℕ) (s : Sending) (o : Outcome) : Type 0 where
   pub long : sizeFor (s .header .settings .q) (s .header .settings .u) ≤ length memory
-  pub sents : s .header .settings .u ≤ 512
+  pub outstanding-places : s .header .settings .u ≤ 512
   pub outstanding : s .header .outstanding + length (sentBy o) ≤ s .header .settings .u
   pub room : s .written + length (bytesOfFrames (framesFor false (sentBy o))) ≤ length output
 
@@ -97,4 +97,4 @@ pub record SentAll (before : List ℕ) (g : Gateway) (output memory′ output′
 -- so for every gateway that the memory may hold
 abbrev pub SendsAll : List ℕ → List ℕ → List ℕ → List ℕ → Sending → Outcome → Sending → Type 0
 SendsAll memory output memory′ output′ s o r =
-    (before : List ℕ) (g : Gateway) → Placed before memory (s .header) g → GatewayFits (sentAll false (sentBy o) g) → Room (sentAll false (sentBy o) g) before → SentAll before g output memory′ output′ s o r
+    (before : List ℕ) (g : Gateway) → Placed before memory (s .header) g → GatewayFits (sentAll false (sentBy o) g) → SentAll before g output memory′ output′ s o r

@@ -7,7 +7,7 @@ use Rattle.work.proofs.event.send_outcome.Tie as tie
 returns : tie.Need-returns
 returns c =
     let start = c .before .before .before .before in
-    λ before g p fits room. none-sent (start .args .memory .now) (start .args .output .now) (start .args .sending) (start .args .outcome) (c .if1 .taken) before g p
+    λ before g p fits. none-sent (start .args .memory .now) (start .args .output .now) (start .args .sending) (start .args .outcome) (c .if1 .taken) before g p
 
 send-requires : tie.Need-send-requires
 send-requires c κs =
@@ -23,7 +23,7 @@ same-length-2 c = search needs
 returns-2 : tie.Need-returns-2
 returns-2 c =
     let start = c .before .before .before .before .before .before .before .before .before .before .before .before in
-    λ before g p fits room.
+    λ before g p fits.
     one-sent (start .args .memory .now) (start .args .output .now) (start .args .sending) (start .args .outcome) (start .pre)
     (c .before .before .before .before .before .before .before .before .if1 .left) (c .before .before .before .before .send .ensures) before g p fits
 
