@@ -38,4 +38,6 @@ pub mod RoundOpening
 pub mod StartOnBytes
 pub mod BesideCalls
 pub mod BothWorlds
+pub mod OpeningRelation
+pub mod RefusedCalls
 pub mod CommitCalls

@@ -1,0 +1,37 @@
+-- A refused call leaves the world as it was.
+use mathlib.Core.Path.{_≡_, refl, sym, _∙_, ap}
+use Prim.Native.Nat.{ℕ, _<_}
+use mathlib.Core.Bool.{Bool, true, false, cond}
+use mathlib.Core.List.{List, []}
+use lib.Dec.{eqb}
+use lib.ListN.{length}
+use borrow.Author.Tests.{eqb-true, eqb-false}
+use Rattle.gateway.specs.SettingUp.{setUpRefusal}
+use Rattle.gateway.specs.Calls.{setUp}
+use Rattle.gateway.specs.declared.Opening.{Opening}
+use Rattle.run.specs.Lines.{change}
+use Rattle.run.specs.World.{World, Call, setsUp, afterCall}
+
+-- a family changed to what it is
+pub unchanged : {A : Type 0} (i : ℕ) (v : A) (f : ℕ → A) → v ≡ f i → change i v f ≡ f
+unfolding change
+unchanged i v f e = λ k j. at j (eqb i j) refl k
+  where
+    at : (j : ℕ) (t : Bool) → eqb i j ≡ t → cond (eqb i j) v (f j) ≡ f j
+    at j true p = rw p (e ∙ ap f (eqb-true i j p))
+    at j false p = rw p
+
+-- set up that is refused leaves the memory
+pub set-up-refused : (o : Opening) (list memory : List ℕ) → (setUp o list memory .answer .number ≡ 0 → ⊥) → setUp o list memory .memory ≡ memory
+unfolding setUp
+set-up-refused o list memory h = by-case (eqb (setUpRefusal o (length memory) list) 0) refl
+  where
+    by-case : (t : Bool) → eqb (setUpRefusal o (length memory) list) 0 ≡ t → setUp o list memory .memory ≡ memory
+    by-case true p = absurd (h (rw p))
+    by-case false p = rw p
+
+pub refused-set-up : (n : ℕ) (w : World) (i : ℕ) (o : Opening) (list : List ℕ) → (setUp o list (w .memories i) .answer .number ≡ 0 → ⊥) → afterCall n w (setsUp i o list) ≡ w
+unfolding afterCall
+refused-set-up n w i o list h =
+    ap (λ (f : ℕ → List ℕ). record { memories = f; underWay = w .underWay; records = w .records; ledgers = w .ledgers; rounds = w .rounds })
+    (unchanged i (setUp o list (w .memories i) .memory) (w .memories) (set-up-refused o list (w .memories i) h))
