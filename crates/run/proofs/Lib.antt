@@ -40,4 +40,6 @@ pub mod BesideCalls
 pub mod BothWorlds
 pub mod OpeningRelation
 pub mod RefusedCalls
+pub mod KeptRelation
+pub mod Theorem
 pub mod CommitCalls

@@ -7,10 +7,10 @@ use lib.Dec.{eqb}
 use lib.ListN.{length}
 use borrow.Author.Tests.{eqb-true, eqb-false}
 use Rattle.gateway.specs.SettingUp.{setUpRefusal}
-use Rattle.gateway.specs.Calls.{setUp}
+use Rattle.gateway.specs.Calls.{setUp, taken, started, committed}
 use Rattle.gateway.specs.declared.Opening.{Opening}
 use Rattle.run.specs.Lines.{change}
-use Rattle.run.specs.World.{World, Call, setsUp, afterCall}
+use Rattle.run.specs.World.{World, Call, takes, starts, commits, setsUp, afterCall}
 
 -- a family changed to what it is
 pub unchanged : {A : Type 0} (i : ℕ) (v : A) (f : ℕ → A) → v ≡ f i → change i v f ≡ f
@@ -35,3 +35,16 @@ unfolding afterCall
 refused-set-up n w i o list h =
     ap (λ (f : ℕ → List ℕ). record { memories = f; underWay = w .underWay; records = w .records; ledgers = w .ledgers; rounds = w .rounds })
     (unchanged i (setUp o list (w .memories i) .memory) (w .memories) (set-up-refused o list (w .memories i) h))
+
+-- a refused frame, start call or commit
+pub refused-frame : (n : ℕ) (w : World) (i : ℕ) (frame output : List ℕ) → eqb (taken (w .memories i) frame output .answer .number) 0 ≡ false → afterCall n w (takes i frame output) ≡ w
+unfolding afterCall
+refused-frame n w i frame output h = rw h
+
+pub refused-start : (n : ℕ) (w : World) (i : ℕ) (output : List ℕ) → eqb (started (w .memories i) output .answer .number) 0 ≡ false → afterCall n w (starts i output) ≡ w
+unfolding afterCall
+refused-start n w i output h = rw h
+
+pub refused-commit : (n : ℕ) (w : World) (i : ℕ) (output : List ℕ) → eqb (committed (w .memories i) output .answer .number) 0 ≡ false → afterCall n w (commits i output) ≡ w
+unfolding afterCall
+refused-commit n w i output h = rw h
