@@ -36,6 +36,7 @@ pub mod RoundForms
 pub mod RoundNotes
 pub mod RoundClaims
 pub mod RoundOpening
+pub mod SendableFrames
 pub mod StartOnBytes
 pub mod BesideCalls
 pub mod BothWorlds
