@@ -31,10 +31,12 @@ pub mod RoundWorlds
 pub mod LeastHours
 pub mod FramesCut
 pub mod AcceptedCalls
+pub mod HeldGateways
 pub mod RoundForms
 pub mod RoundNotes
 pub mod RoundClaims
 pub mod RoundOpening
+pub mod SendableFrames
 pub mod StartOnBytes
 pub mod BesideCalls
 pub mod BothWorlds

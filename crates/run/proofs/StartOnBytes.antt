@@ -6,10 +6,7 @@ use Prim.Native.Nat.{ℕ, suc, _+_, _-_, _^_, _≤_, _<_}
 use native.Mathlib.Omega.{arith}
 use lib.Dec.{eqb}
 use lib.ListN.{length}
-use Rattle.model.specs.Messages.{originOf, quantityOf}
-use Rattle.model.specs.declared.Kind.{Kind}
-use Rattle.frame.specs.Claims.{OneToOne}
-use Rattle.frame.specs.Writing.{written, wellFormed}
+use Rattle.frame.specs.Writing.{written}
 use Rattle.frame.specs.declared.Frame.{Frame}
 use Rattle.memory.specs.Records.{Gateway}
 use Rattle.memory.specs.Codec.{decode}
@@ -33,13 +30,8 @@ use Rattle.run.proofs.RoundWorlds.{Alike, Led, Called, start-led}
 use Rattle.run.proofs.FramesCut.{Whole, frames-in}
 use Rattle.run.proofs.AcceptedFrames.{outcomeOf}
 use Rattle.run.proofs.AcceptedCalls.{left, on-sound, start-accepted}
-use Rattle.run.proofs.RoundForms.{counts, frames-counted, frames-readable, kind-counted}
-
--- frames that are read as they are written, as long as the table says, and that count for a round
-pub record Sendable (open? : Bool) (fs : List Frame) : Type 0 where
-  pub readable : All Readable fs
-  pub whole : All Whole fs
-  pub counting : All (λ f. counts open? (f .message .kind) ≡ true) fs
+use Rattle.run.proofs.RoundForms.{frames-counted}
+use Rattle.run.proofs.SendableFrames.{Sendable}
 
 module _ (n : ℕ) (some : 1 ≤ n) (M : Model) (equal : n - 1 ≡ M .last) (w : Worlds.World (setting n some M equal)) (k : Good (setting n some M equal) w)
     (v : World.World) (i : ℕ) (inside : i ≤ n - 1) where
@@ -81,14 +73,3 @@ module _ (n : ℕ) (some : 1 ≤ n) (M : Model) (equal : n - 1 ≡ M .last) (w :
       not-open alike z f (is-finished e q b) = absurd (alike .unfinished (ap (w .rounds .status) (sym z) ∙ q))
       not-open alike z f (is-counting e q b y) = absurd (true≢false (sym f ∙ ap isIdle e))
       not-open alike z f (is-stopped e q b y) = absurd (true≢false (sym f ∙ ap isIdle e))
-
--- frames of one kind of a round to some gateways
-pub frames-sendable : OneToOne → (open? : Bool) (kind : Kind) → originOf kind ≡ 0 → quantityOf kind ≡ 0 → counts open? kind ≡ true
-    → (v i : ℕ) → v < 256 ^ 4 → i < 256 → ((j : ℕ) → wellFormed (roundFrame kind v i j) ≡ true) → ((j : ℕ) → Whole (roundFrame kind v i j))
-    → {js : List ℕ} → All (λ j. j < 256) js → Sendable open? (frames kind v i js)
-frames-sendable one open? kind o q e v i h l formed whole {js} a =
-    record {
-      readable = frames-readable one kind o q v i h l formed a;
-      whole = all-image (roundFrame kind v i) (all-every whole js);
-      counting = kind-counted open? kind v i js e;
-    }
