@@ -8,6 +8,7 @@ pub mod UndoChains
 pub mod QueueChanges
 pub mod EventCalls
 pub mod SingleQueues
+pub mod LedgerItems
 pub mod Ledgers
 pub mod EventsUnderWay
 pub mod AcceptedFrames
