@@ -13,6 +13,8 @@ pub mod EventsUnderWay
 pub mod AcceptedFrames
 pub mod EventWorlds
 pub mod OpeningQueues
+pub mod RoundsUnderWay
+pub mod FramesCut
 pub mod ReadableFrames
 pub mod WorkChains
 pub mod CommittedRecords
@@ -25,11 +27,9 @@ pub mod ArrivalBits
 pub mod Standing
 pub mod RoundCounters
 pub mod RoundChains
-pub mod RoundsUnderWay
 pub mod RoundCalls
 pub mod RoundWorlds
 pub mod LeastHours
-pub mod FramesCut
 pub mod AcceptedCalls
 pub mod RoundForms
 pub mod RoundNotes
