@@ -36,5 +36,6 @@ pub mod RoundNotes
 pub mod RoundClaims
 pub mod RoundOpening
 pub mod StartOnBytes
+pub mod EventFrames
 pub mod BesideCalls
 pub mod CommitCalls
