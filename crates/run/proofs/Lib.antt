@@ -38,4 +38,5 @@ pub mod RoundOpening
 pub mod StartOnBytes
 pub mod EventFrames
 pub mod BesideCalls
+pub mod BothWorlds
 pub mod CommitCalls
