@@ -31,6 +31,7 @@ pub mod RoundCalls
 pub mod RoundWorlds
 pub mod LeastHours
 pub mod AcceptedCalls
+pub mod HeldGateways
 pub mod RoundForms
 pub mod RoundNotes
 pub mod RoundClaims
