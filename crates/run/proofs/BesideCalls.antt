@@ -24,17 +24,17 @@ use Rattle.run.proofs.EventWorlds.{settingOf, GoesOn}
 use Rattle.run.proofs.ClaimParts.{Beside}
 use Rattle.run.proofs.OpeningWorlds.{agreed-read}
 
-module _ (n last : ℕ) (setups : ℕ → SetUp) (G : Graph) (same : G .last ≡ n - 1) where
-  -- the run's world after a call at gateway i
-  abbrev pub worldAfter : World → ℕ → List ℕ → List Carried → List ℕ → Ledger.Ledger → Rounds → World
-  worldAfter w i memory underWay bytes l rounds = record {
-    memories = change i memory (w .memories);
-    underWay = underWay;
-    records = change i bytes (w .records);
-    ledgers = change i l (w .ledgers);
-    rounds = rounds;
-  }
+-- the run's world after a call at gateway i
+abbrev pub worldAfter : World → ℕ → List ℕ → List Carried → List ℕ → Ledger.Ledger → Rounds → World
+worldAfter w i memory underWay bytes l rounds = record {
+  memories = change i memory (w .memories);
+  underWay = underWay;
+  records = change i bytes (w .records);
+  ledgers = change i l (w .ledgers);
+  rounds = rounds;
+}
 
+module _ (n last : ℕ) (setups : ℕ → SetUp) (G : Graph) (same : G .last ≡ n - 1) where
   module _ (w : World) (t : Worlds.World (settingOf n last setups G same)) (b : Beside n last setups G same w t) (i : ℕ) (h : i < n) (memory : List ℕ) (c : List Message) (cs : List Carried) (bytes : List ℕ) (l : Ledger.Ledger) (rounds : Rounds) {s : List Message} (still : sound memory ≡ true) (goes : GoesOn n last setups G same t i s c (decode memory) cs) (time : decode memory .agreed ≡ decode (w .memories i) .agreed) (written : bytes ≡ recordOf n last setups i c) (follows : Follows n last setups (decode memory .queue) l) where
     agreed-still : (j : ℕ) → goes .world .rounds .agreed j ≡ t .rounds .agreed j
     agreed-still j = ap (λ r. r .agreed j) (goes .rounds) ∙ ap (λ (f : ℕ → ℕ). f j) (lower-agreed (settingOf n last setups G same) i s (t .rounds))
@@ -75,3 +75,8 @@ module _ (n last : ℕ) (setups : ℕ → SetUp) (G : Graph) (same : G .last ≡
           records = λ j k. record-at j k (eqb i j) refl;
           ledgers = λ j k. ledger-at j k (eqb i j);
         }
+
+    -- only what gateway i has committed changes
+    pub done-after : beside-after .done ≡ change i c (b .done)
+    unfolding beside-after
+    done-after = refl

@@ -56,7 +56,7 @@ module _ (n last : ℕ) (setups : ℕ → SetUp) (G : Graph) (same : G .last ≡
 
   -- the world after it, with the record of the event at the end of the gateway's record
   pub commit-beside : Beside n last setups G same
-      (worldAfter n last setups G same w i (encode next (w .memories i)) (w .underWay) (w .records i ++ Committing.recordOf (k .event)) (committedOne (w .ledgers i)) (w .rounds))
+      (worldAfter w i (encode next (w .memories i)) (w .underWay) (w .records i ++ Committing.recordOf (k .event)) (committedOne (w .ledgers i)) (w .rounds))
       (goes .world)
   commit-beside =
       beside-after n last setups G same w t b i h (encode next (w .memories i)) (k .event .message ∷ b .done i) (w .underWay) (w .records i ++ Committing.recordOf (k .event)) (committedOne (w .ledgers i)) (w .rounds)

@@ -40,4 +40,5 @@ pub mod StartOnBytes
 pub mod EventFrames
 pub mod BesideCalls
 pub mod BothWorlds
+pub mod EventsKept
 pub mod CommitCalls
