@@ -18,11 +18,17 @@ use Rattle.run.specs.Ledger as Ledger
 use Rattle.run.specs.World.{World, Carried, Rounds}
 use Rattle.run.proofs.LocalChains.{Led, lower-agreed}
 use Rattle.run.proofs.QueueViews.{viewOf}
+use Rattle.run.proofs.RoundCounters.{same-change}
+use Rattle.run.proofs.RoundChains.{change-same}
 use Rattle.run.proofs.SingleQueues.{recordOf}
 use Rattle.run.proofs.Ledgers.{Follows}
 use Rattle.run.proofs.EventWorlds.{settingOf, GoesOn}
 use Rattle.run.proofs.ClaimParts.{Beside}
 use Rattle.run.proofs.OpeningWorlds.{agreed-read}
+
+-- a family changed to what it is
+pub change-self : {A : Type 0} (i : ℕ) (f : ℕ → A) → change i (f i) f ≡ f
+change-self i f = λ k j. (same-change i (f i) f j ∙ change-same i f j) k
 
 -- the run's world after a call at gateway i
 abbrev pub worldAfter : World → ℕ → List ℕ → List Carried → List ℕ → Ledger.Ledger → Rounds → World

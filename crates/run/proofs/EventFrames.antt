@@ -16,10 +16,11 @@ use Rattle.frame.specs.declared.Frame.{Frame}
 use Rattle.gateway.specs.Taking.{withoutFirst}
 use Rattle.timewarp.specs.Lists.{All, nil, cons}
 use Rattle.timewarp.specs.RoundSteps.{RoundFrame}
+use Rattle.timewarp.proofs.ListLaws.{all-map}
 use Rattle.run.specs.Lines.{change}
 use Rattle.run.specs.World.{Carried, Rounds, carry, isFrame, kindIn, roundFrames, tookMore}
 use Rattle.run.proofs.ArrivalBits.{oneIf}
-use Rattle.run.proofs.RoundsUnderWay.{byKind, roundOf, roundsIn, rounds-append, tagged, round-left}
+use Rattle.run.proofs.RoundsUnderWay.{byKind, roundOf, roundsIn, rounds-append, tagged, round-left, Numbered, carried-more}
 use Rattle.run.proofs.RoundForms.{counts}
 use Rattle.run.proofs.ReadableFrames.{EventFrame}
 
@@ -83,3 +84,7 @@ took-none tag r = λ k. record { opened = r .opened; open? = r .open?; lvts = r 
 
     same : (t : ℕ) → cond (eqb tag t) (r .took tag + 0) (r .took t) ≡ r .took t
     same t = by-case t (eqb tag t) refl
+
+-- none needs the number of a round
+pub numbered-still : (tag : ℕ) {fs : List Frame} → All EventFrame fs → {cs : List Carried} → All Numbered cs → All Numbered (carry tag (map written fs) cs)
+numbered-still tag a b = carried-more tag (all-map (λ f e k. absurd (omega (arith, e .kind, ap (λ (x : Frame). kindNumber (x .message .kind)) (e .readable)))) a) b

@@ -41,4 +41,5 @@ pub mod EventFrames
 pub mod BesideCalls
 pub mod BothWorlds
 pub mod EventsKept
-pub mod CommitCalls
+pub mod WorkOnBytes
+pub mod CommitOnBytes
