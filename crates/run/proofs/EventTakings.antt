@@ -24,6 +24,7 @@ use Rattle.gateway.proofs.Maintaining.{Proper, Kept}
 use Rattle.gateway.proofs.Replies.{Good}
 use Rattle.gateway.proofs.Searches.{processed-member, cut-again, around-last}
 use Rattle.timewarp.specs.Lists.{All, nil, cons}
+use Rattle.timewarp.proofs.ListLaws.{all-map}
 use Rattle.timewarp.specs.Arcs.{Graph}
 use Rattle.timewarp.specs.Worlds.{World}
 use Rattle.run.specs.SingleQueue.{SetUp}
@@ -33,8 +34,8 @@ use Rattle.run.proofs.EventCalls.{Stands, notedAll, plainBack, plain-sa
 use Rattle.run.proofs.EventsUnderWay.{IsEvent}
 use Rattle.run.proofs.AcceptedFrames.{outcomeOf, acknowledgmentSense}
 use Rattle.run.proofs.Ledgers.{Follows, entered-follows, struckOut-follows}
-use Rattle.run.proofs.ReadableFrames.{acknowledgment-readable, back-readable}
-use Rattle.run.proofs.EventWorlds.{settingOf, Sees, GoesOn, AllReadable, plain-frames, cancel-frames, plain-goes, cancel-goes, acknowledgment-goes}
+use Rattle.run.proofs.ReadableFrames.{EventFrame, acknowledgment-frame, back-frames}
+use Rattle.run.proofs.EventWorlds.{settingOf, Sees, GoesOn, plain-frames, cancel-frames, plain-goes, cancel-goes, acknowledgment-goes}
 use Rattle.run.proofs.TakeChains.{Noted, still-stands, plain-noted, cancel-noted}
 
 module _ (one : OneToOne) (n last : ℕ) (setups : ℕ → SetUp) (G : Graph) (same : G .last ≡ n - 1) (i : ℕ) (inside : i ≤ n - 1) (c : List Message) (w : World (settingOf n last setups G same)) (g : Gateway) (cs : List Carried) (l : Ledger.Ledger) (p : Proper g) (st : Stands n last setups i c g) (sees : Sees n last setups G same w i c g cs) (followed : Follows n last setups (g .queue) l) (frame : List ℕ) (found : any (isFrame frame) cs ≡ true) (tag : ℕ) where
@@ -45,7 +46,7 @@ module _ (one : OneToOne) (n last : ℕ) (setups : ℕ → SetUp) (G : Graph) (s
   pub record TakeGoes (o : Outcome) : Type 1 where
     pub frames : List Frame
     pub bytes : bytesOfFrames frames ≡ o .output
-    pub readable : AllReadable frames
+    pub are-events : All EventFrame frames
     pub sends : List Message
     pub goes : GoesOn n last setups G same w i sends c (o .gateway) (carry tag (map written frames) (withoutFirst (isFrame frame) cs))
     pub stands : Stands n last setups i c (o .gateway)
@@ -56,42 +57,42 @@ module _ (one : OneToOne) (n last : ℕ) (setups : ℕ → SetUp) (G : Graph) (s
   held : (e : Entry) → e ∈ g .queue → Good (g .settings) (isWaiting e) (e .message)
   held e k = record { storable = valid-facts g (p .valid) .entries e k .message; ranged = p .ranged .queue e k .message }
 
-  plain-back-readable : (t : Bool) → any (isCancelOf m) (g .queue) ≡ t → AllReadable (framesFor true (plainBack n last setups i c g st m))
+  plain-back-frames : (t : Bool) → any (isCancelOf m) (g .queue) ≡ t → All EventFrame (framesFor true (plainBack n last setups i c g st m))
   unfolding plainBack
-  plain-back-readable true q = rw q nil
-  plain-back-readable false q =
+  plain-back-frames true q = rw q nil
+  plain-back-frames false q =
       rw q
-      (back-readable one (g .settings) (valid-facts g (p .valid) .settings) (processedOf (behind m (g .queue)))
+      (back-frames one (g .settings) (valid-facts g (p .valid) .settings) (processedOf (behind m (g .queue)))
       (λ e k. held e (subst (λ es. e ∈ es) (cut-again m (g .queue)) (Memᴰ·append-right (upTo m (g .queue)) (processed-member (behind m (g .queue)) e k)))))
 
-  plain-readable : Good (g .settings) false m → kindNumber (m .kind) ≤ 2 → AllReadable (takePlain m g .frames)
-  plain-readable good few =
-      subst AllReadable (sym (plain-frames n last setups i c g st m))
-      (cons (acknowledgment-readable one (g .settings) (valid-facts g (p .valid) .settings) false m good few) (plain-back-readable (any (isCancelOf m) (g .queue)) refl))
+  plain-event-frames : Good (g .settings) false m → kindNumber (m .kind) ≤ 2 → All EventFrame (takePlain m g .frames)
+  plain-event-frames good few =
+      subst (All EventFrame) (sym (plain-frames n last setups i c g st m))
+      (cons (acknowledgment-frame one (g .settings) (valid-facts g (p .valid) .settings) false m good few) (plain-back-frames (any (isCancelOf m) (g .queue)) refl))
 
-  cancel-back-readable : (t : Bool) → any (isPlain m) (g .queue) ≡ t → AllReadable (framesFor true (cancelBack n last setups i c g st m))
+  cancel-back-frames : (t : Bool) → any (isPlain m) (g .queue) ≡ t → All EventFrame (framesFor true (cancelBack n last setups i c g st m))
   unfolding cancelBack
-  cancel-back-readable false q = rw q nil
-  cancel-back-readable true q =
+  cancel-back-frames false q = rw q nil
+  cancel-back-frames true q =
       rw q
-      (back-readable one (g .settings) (valid-facts g (p .valid) .settings) (processedOf (fromLast (isPlain m) (g .queue)))
+      (back-frames one (g .settings) (valid-facts g (p .valid) .settings) (processedOf (fromLast (isPlain m) (g .queue)))
       (λ e k. held e (subst (λ es. e ∈ es) (around-last (isPlain m) (g .queue) q) (Memᴰ·append-right (beforeLast (isPlain m) (g .queue)) (processed-member (fromLast (isPlain m) (g .queue)) e k)))))
 
-  cancel-readable : Good (g .settings) true m → kindNumber (m .kind) ≤ 2 → AllReadable (takeCancel m g .frames)
-  cancel-readable good few =
-      subst AllReadable (sym (cancel-frames n last setups i c g st m))
-      (cons (acknowledgment-readable one (g .settings) (valid-facts g (p .valid) .settings) true m good few) (cancel-back-readable (any (isPlain m) (g .queue)) refl))
+  cancel-event-frames : Good (g .settings) true m → kindNumber (m .kind) ≤ 2 → All EventFrame (takeCancel m g .frames)
+  cancel-event-frames good few =
+      subst (All EventFrame) (sym (cancel-frames n last setups i c g st m))
+      (cons (acknowledgment-frame one (g .settings) (valid-facts g (p .valid) .settings) true m good few) (cancel-back-frames (any (isPlain m) (g .queue)) refl))
 
   pub plain-take : reading frame .frame .sense ≡ Plain → IsEvent m → kindNumber (m .kind) ≤ 2 → m .to ≡ i → g .agreed ≤ m .hour → Good (g .settings) false m → Kept (g .settings) (takePlain m g .gateway) →
       TakeGoes (outcomeOf (takePlain m g))
   plain-take s k few to-here due good kept =
-      let readable = plain-readable good few in
+      let are-events = plain-event-frames good few in
       record {
         frames = takePlain m g .frames;
         bytes = refl;
-        readable = readable;
+        are-events = are-events;
         sends = plainBack n last setups i c g st m;
-        goes = plain-goes n last setups G same w i inside c g st cs sees frame found tag s k to-here due readable;
+        goes = plain-goes n last setups G same w i inside c g st cs sees frame found tag s k to-here due (all-map (λ f e. e .readable) are-events);
         stands = still-stands n last setups i c g st c (takePlain m g .gateway) kept (plain-saved n last setups i c g st m);
         follows =
             subst (Follows n last setups (takePlain m g .gateway .queue))
@@ -103,13 +104,13 @@ module _ (one : OneToOne) (n last : ℕ) (setups : ℕ → SetUp) (G : Graph) (s
   pub cancel-take : reading frame .frame .sense ≡ Cancel → kindNumber (m .kind) ≤ 2 → m .to ≡ i → Good (g .settings) true m → Kept (g .settings) (takeCancel m g .gateway) →
       TakeGoes (outcomeOf (takeCancel m g))
   cancel-take s few to-here good kept =
-      let readable = cancel-readable good few in
+      let are-events = cancel-event-frames good few in
       record {
         frames = takeCancel m g .frames;
         bytes = refl;
-        readable = readable;
+        are-events = are-events;
         sends = cancelBack n last setups i c g st m;
-        goes = cancel-goes n last setups G same w i inside c g st cs sees frame found tag s to-here readable;
+        goes = cancel-goes n last setups G same w i inside c g st cs sees frame found tag s to-here (all-map (λ f e. e .readable) are-events);
         stands = still-stands n last setups i c g st c (takeCancel m g .gateway) kept (cancel-saved n last setups i c g st m);
         follows =
             subst (Follows n last setups (takeCancel m g .gateway .queue))
@@ -126,7 +127,7 @@ module _ (one : OneToOne) (n last : ℕ) (setups : ℕ → SetUp) (G : Graph) (s
       record {
         frames = [];
         bytes = refl;
-        readable = nil;
+        are-events = nil;
         sends = [];
         goes =
             subst (λ d. GoesOn n last setups G same w i [] c (withOutstanding (withoutFirst (isSent b m) (g .outstanding)) g) d)

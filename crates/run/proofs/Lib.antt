@@ -14,6 +14,8 @@ pub mod EventsUnderWay
 pub mod AcceptedFrames
 pub mod EventWorlds
 pub mod OpeningQueues
+pub mod RoundsUnderWay
+pub mod FramesCut
 pub mod ReadableFrames
 pub mod WorkChains
 pub mod CommittedRecords
@@ -26,11 +28,9 @@ pub mod ArrivalBits
 pub mod Standing
 pub mod RoundCounters
 pub mod RoundChains
-pub mod RoundsUnderWay
 pub mod RoundCalls
 pub mod RoundWorlds
 pub mod LeastHours
-pub mod FramesCut
 pub mod AcceptedCalls
 pub mod HeldGateways
 pub mod RoundForms
@@ -39,10 +39,13 @@ pub mod RoundClaims
 pub mod RoundOpening
 pub mod SendableFrames
 pub mod StartOnBytes
+pub mod EventFrames
 pub mod BesideCalls
 pub mod BothWorlds
 pub mod OpeningRelation
+pub mod EventsKept
+pub mod WorkOnBytes
+pub mod CommitOnBytes
 pub mod RefusedCalls
 pub mod KeptRelation
 pub mod Theorem
-pub mod CommitCalls

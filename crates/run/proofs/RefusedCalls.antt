@@ -11,15 +11,7 @@ use Rattle.gateway.specs.Calls.{setUp, taken, started, committed}
 use Rattle.gateway.specs.declared.Opening.{Opening}
 use Rattle.run.specs.Lines.{change}
 use Rattle.run.specs.World.{World, Call, takes, starts, commits, setsUp, afterCall}
-
--- a family changed to what it is
-pub unchanged : {A : Type 0} (i : ℕ) (v : A) (f : ℕ → A) → v ≡ f i → change i v f ≡ f
-unfolding change
-unchanged i v f e = λ k j. at j (eqb i j) refl k
-  where
-    at : (j : ℕ) (t : Bool) → eqb i j ≡ t → cond (eqb i j) v (f j) ≡ f j
-    at j true p = rw p (e ∙ ap f (eqb-true i j p))
-    at j false p = rw p
+use Rattle.run.proofs.BesideCalls.{change-self}
 
 -- set up that is refused leaves the memory
 pub set-up-refused : (o : Opening) (list memory : List ℕ) → (setUp o list memory .answer .number ≡ 0 → ⊥) → setUp o list memory .memory ≡ memory
@@ -34,7 +26,7 @@ pub refused-set-up : (n : ℕ) (w : World) (i : ℕ) (o : Opening) (list : List 
 unfolding afterCall
 refused-set-up n w i o list h =
     ap (λ (f : ℕ → List ℕ). record { memories = f; underWay = w .underWay; records = w .records; ledgers = w .ledgers; rounds = w .rounds })
-    (unchanged i (setUp o list (w .memories i) .memory) (w .memories) (set-up-refused o list (w .memories i) h))
+    (ap (λ (m : List ℕ). change i m (w .memories)) (set-up-refused o list (w .memories i) h) ∙ change-self i (w .memories))
 
 -- a refused frame, start call or commit
 pub refused-frame : (n : ℕ) (w : World) (i : ℕ) (frame output : List ℕ) → eqb (taken (w .memories i) frame output .answer .number) 0 ≡ false → afterCall n w (takes i frame output) ≡ w
