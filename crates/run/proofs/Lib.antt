@@ -49,3 +49,4 @@ pub mod CommitOnBytes
 pub mod RefusedCalls
 pub mod KeptRelation
 pub mod Theorem
+pub mod Further
