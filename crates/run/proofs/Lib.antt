@@ -43,3 +43,4 @@ pub mod BothWorlds
 pub mod EventsKept
 pub mod WorkOnBytes
 pub mod CommitOnBytes
+pub mod EventTakingsOnBytes
