@@ -1,15 +1,16 @@
 -- An accepted event or acknowledgment that was under way: the theory's world goes on, and gateway, ledger and note follow.
 use mathlib.Core.Path.{_≡_, refl, sym, _∙_, ap, subst}
 use Prim.Native.Nat.{ℕ, _-_, _≤_, _<_}
+use native.Mathlib.Omega.{arith}
 use mathlib.Core.Bool.{Bool, true, false, cond}
 use mathlib.Core.List.{List, [], _∷_, _++_, map, append-nil, Memᴰ·append-right}
 use borrow.Author.Tests.{le-leb}
 use Rattle.routing.specs.Arcs.{_∈_}
 use Rattle.model.specs.Messages.{kindNumber}
 use Rattle.model.specs.declared.Message.{Message}
-use Rattle.frame.specs.Claims.{OneToOne}
+use Rattle.frame.specs.Claims.{OneToOne, Ranged}
 use Rattle.frame.specs.Reasons.{reading}
-use Rattle.frame.specs.Writing.{written}
+use Rattle.frame.specs.Writing.{wellFormed, written}
 use Rattle.frame.specs.declared.Frame.{Frame}
 use Rattle.frame.specs.declared.Sense.{Sense}
 use Rattle.frame.specs.declared.Sense.the-variants.{Plain, Cancel}
@@ -22,6 +23,8 @@ use Rattle.gateway.specs.Undoing.{processedOf}
 use Rattle.gateway.specs.Taking.{any, withoutFirst, upTo, behind, beforeLast, fromLast, isCancelOf, isPlain, isSent, takePlain, takeCancel}
 use Rattle.gateway.proofs.Maintaining.{Proper, Kept}
 use Rattle.gateway.proofs.Replies.{Good}
+use Rattle.gateway.proofs.Accepting as Accepting
+use Rattle.gateway.proofs.Accepting.{Passes, accepted-good}
 use Rattle.gateway.proofs.Searches.{processed-member, cut-again, around-last}
 use Rattle.timewarp.specs.Lists.{All, nil, cons}
 use Rattle.timewarp.proofs.ListLaws.{all-map}
@@ -32,9 +35,9 @@ use Rattle.run.specs.Ledger as Ledger
 use Rattle.run.specs.World.{Carried, carry, isFrame, takenBySense}
 use Rattle.run.proofs.EventCalls.{Stands, notedAll, plainBack, plain-saved, cancelBack, cancel-saved}
 use Rattle.run.proofs.EventsUnderWay.{IsEvent}
-use Rattle.run.proofs.AcceptedFrames.{outcomeOf, acknowledgmentSense}
+use Rattle.run.proofs.AcceptedFrames.{outcomeOf, acknowledgmentSense, Accepted, plain-taken, cancel-taken, acknowledgment-taken, start-taken, lvt-taken, update-taken}
 use Rattle.run.proofs.Ledgers.{Follows, entered-follows, struckOut-follows}
-use Rattle.run.proofs.ReadableFrames.{EventFrame, acknowledgment-frame, back-frames}
+use Rattle.run.proofs.ReadableFrames.{EventFrame, sensed-kind, acknowledgment-frame, back-frames}
 use Rattle.run.proofs.EventWorlds.{settingOf, Sees, GoesOn, plain-frames, cancel-frames, plain-goes, cancel-goes, acknowledgment-goes}
 use Rattle.run.proofs.TakeChains.{Noted, still-stands, plain-noted, cancel-noted}
 
@@ -141,3 +144,24 @@ module _ (one : OneToOne) (n last : ℕ) (setups : ℕ → SetUp) (G : Graph) (s
       unmoved : (b : Bool) → takenBySense m (acknowledgmentSense b) l ≡ l
       unmoved true = refl
       unmoved false = refl
+
+  -- an accepted frame that is none of a round, in any sense
+  module _ (form : wellFormed (reading frame .frame) ≡ true) (ranged : Ranged (reading frame .frame)) (passes : Passes (g .settings) (reading frame .frame)) (few : kindNumber (m .kind) < 4) where
+    in-sense : {sense : Sense} → reading frame .frame .sense ≡ sense → Accepting.Accepted (g .settings) (record { message = m; sense = sense })
+    in-sense e = subst (λ (s : Sense). Accepting.Accepted (g .settings) (record { message = m; sense = s })) e (record { form = form; ranged = ranged; passes = passes })
+
+    addressed : (b : Bool) → reading frame .frame .sense ≡ acknowledgmentSense b → m .from ≡ i
+    addressed true s = in-sense s .passes .here ∙ st .own
+    addressed false s = in-sense s .passes .here ∙ st .own
+
+    pub taken-goes : (room : ℕ) {o : Outcome} → Accepted room (reading frame .frame) g o → Kept (g .settings) (o .gateway) → TakeGoes o
+    taken-goes room (plain-taken s k small due enough) kept =
+        let t = accepted-good (g .settings) false m (omega arith) (in-sense s) in
+        plain-take s k small (t .here ∙ st .own) due (t .good) kept
+    taken-goes room (cancel-taken s due enough) kept =
+        let t = accepted-good (g .settings) true m (omega arith) (in-sense s) in
+        cancel-take s (sensed-kind m Cancel (omega arith) (in-sense s .form)) (t .here ∙ st .own) (t .good) kept
+    taken-goes room (acknowledgment-taken b s out) kept = acknowledgment-take b s (addressed b s) out kept
+    taken-goes room (start-taken s k number) kept = absurd (omega (arith, ap kindNumber k))
+    taken-goes room (lvt-taken s k due number) kept = absurd (omega (arith, ap kindNumber k))
+    taken-goes room (update-taken s k number) kept = absurd (omega (arith, ap kindNumber k))

@@ -46,6 +46,7 @@ pub mod OpeningRelation
 pub mod EventsKept
 pub mod WorkOnBytes
 pub mod CommitOnBytes
+pub mod EventTakingsOnBytes
 pub mod RefusedCalls
 pub mod KeptRelation
 pub mod Theorem

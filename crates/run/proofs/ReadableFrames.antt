@@ -2,19 +2,19 @@
 use mathlib.Core.Path.{_≡_, refl, sym, _∙_, ap, subst}
 use Prim.Native.Nat.{ℕ, zero, suc, _≤_, _<_, _^_}
 use native.Mathlib.Omega.{arith}
-use mathlib.Core.Bool.{Bool, true, false, cond, _&&_, _||_}
+use mathlib.Core.Bool.{Bool, true, false, cond, _&&_, _||_, false≢true}
 use mathlib.Core.List.{List, [], _∷_, _++_, map, map-append, List·Memᴰ·head as member-first, List·Memᴰ·tail as member-rest}
 use lib.Dec.{leb}
 use lib.ListN.{length, getD}
-use borrow.Author.Tests.{leb-true, le-leb}
+use borrow.Author.Tests.{leb-true, le-leb, ne-eqb}
 use Rattle.buffer.specs.Slice.{Bytes}
 use Rattle.routing.specs.Arcs.{_∈_}
 use Rattle.model.specs.Doing.{sent}
 use Rattle.model.specs.Messages.{kindNumber, originOf, quantityOf}
 use Rattle.model.specs.declared.Message.{Message}
 use Rattle.model.specs.declared.State.{State}
-use Rattle.frame.specs.Kinds.{hasLamp}
-use Rattle.frame.specs.Writing.{allBetween, lampFits, gatewaysAgree, hourFits, wellFormed, written}
+use Rattle.frame.specs.Kinds.{hasLamp, senseNumber}
+use Rattle.frame.specs.Writing.{allBetween, lampFits, gatewaysAgree, hourFits, senseAllowed, wellFormed, written}
 use Rattle.frame.specs.Reasons.{reading, readAs}
 use Rattle.frame.specs.Claims.{OneToOne, Ranged}
 use Rattle.frame.specs.declared.Frame.{Frame}
@@ -110,6 +110,17 @@ module _ (one : OneToOne) (s : Settings) (v : ValidSettings s) where
       frames-of [] nil = nil
       frames-of (x ∷ ms) (cons h a) =
           cons (event-frame one (frameIf cancel x) (h .valid .message .form) (stored-fits x (h .valid .message) (h .ranged)) (h .valid .kind)) (frames-of ms a)
+
+-- only a kind with a lamp has a sense
+pub sensed-kind : (m : Message) (s : Sense) → 1 ≤ senseNumber s → wellFormed (record { message = m; sense = s }) ≡ true → kindNumber (m .kind) ≤ 2
+unfolding wellFormed
+sensed-kind m s h e =
+    let allowed : senseAllowed (kindNumber (m .kind)) (senseNumber s) ≡ true = search (and-left, and-right) depth 9 in
+    by-case (leb (kindNumber (m .kind)) 2) refl (rw (ne-eqb (senseNumber s) 0 (λ z. omega arith)) at allowed)
+  where
+    by-case : (b : Bool) → leb (kindNumber (m .kind)) 2 ≡ b → (b || false) ≡ true → kindNumber (m .kind) ≤ 2
+    by-case true p k = leb-true (kindNumber (m .kind)) 2 p
+    by-case false p k = absurd (false≢true k)
 
 -- a well-formed frame of a message with a lamp is so in any sense
 pub any-sense : (m : Message) (s t : Sense) → kindNumber (m .kind) ≤ 2 → wellFormed (record { message = m; sense = s }) ≡ true → wellFormed (record { message = m; sense = t }) ≡ true
