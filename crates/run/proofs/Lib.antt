@@ -38,6 +38,7 @@ pub mod RoundNotes
 pub mod RoundClaims
 pub mod RoundOpening
 pub mod SendableFrames
+pub mod RoundEffects
 pub mod StartOnBytes
 pub mod EventFrames
 pub mod BesideCalls
