@@ -1,11 +1,9 @@
 -- An accepted commit on bytes keeps the relation of both worlds: its record goes to the end of the gateway's.
 use mathlib.Core.Path.{_≡_, refl, sym, _∙_, ap, subst}
-use Prim.Native.Nat.{ℕ, _+_, _-_, _≤_, _<_}
+use Prim.Native.Nat.{ℕ, _≤_, _<_}
 use native.Mathlib.Omega.{arith}
 use mathlib.Core.List.{List, [], _∷_, _++_}
-use lib.ListN.{length, take, drop}
-use lib.Seq.{take-append-seam}
-use Rattle.buffer.specs.Slice.{write}
+use lib.ListN.{length, take}
 use Rattle.memory.specs.Records.{Gateway}
 use Rattle.memory.specs.Codec.{decode, encode}
 use Rattle.memory.specs.Validity.{isProcessed}
@@ -26,16 +24,12 @@ use Rattle.run.proofs.EventCalls.{notedAll, commit-saved}
 use Rattle.run.proofs.Ledgers.{committed-follows}
 use Rattle.run.proofs.EventWorlds.{commit-goes}
 use Rattle.run.proofs.CommittedRecords.{CommitTaken, commit-taken, commit-record}
+use Rattle.run.proofs.FramesCut.{written-back}
 use Rattle.run.proofs.TakeChains.{still-stands}
 use Rattle.run.proofs.AcceptedCalls.{left, on-sound}
 use Rattle.run.proofs.HeldGateways.{written-held}
 use Rattle.run.proofs.BothWorlds.{forecastSetting, Both, Keeps, proper, sees}
 use Rattle.run.proofs.EventsKept.{Comes, keeps}
-
--- what was written is read back
-pub written-back : (xs output : List ℕ) → take (length xs) (write 0 xs output) ≡ xs
-unfolding write
-written-back xs output = take-append-seam xs (drop (0 + length xs) output)
 
 module _ (n : ℕ) (some : 1 ≤ n) (last : ℕ) (setups : ℕ → SetUp) {w : World} {t : Worlds.World (forecastSetting n some last setups)} (b : Both n some last setups w t) (i : ℕ) (h : i < n) (output : List ℕ) where
   abbrev g : Gateway

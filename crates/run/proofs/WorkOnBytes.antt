@@ -1,14 +1,12 @@
 -- Work on bytes keeps the relation of both worlds, whatever its budget and its output.
-use mathlib.Core.Path.{_≡_, refl, sym, _∙_, ap, subst}
-use Prim.Native.Nat.{ℕ, _-_, _≤_, _<_}
+use mathlib.Core.Path.{_≡_, refl, sym, subst}
+use Prim.Native.Nat.{ℕ, _≤_, _<_}
 use native.Mathlib.Omega.{arith}
-use mathlib.Core.Bool.{Bool, true, false, cond}
-use mathlib.Core.List.{List, [], _∷_, map}
+use mathlib.Core.List.{List, map}
 use lib.ListN.{length}
 use Rattle.buffer.specs.Slice.{write}
 use Rattle.frame.specs.Writing.{written}
 use Rattle.frame.proofs.Laws.{one-to-one}
-use Rattle.memory.specs.Records.{Gateway}
 use Rattle.memory.specs.Codec.{decode, encode}
 use Rattle.gateway.specs.Working.{Progress, worked}
 use Rattle.gateway.specs.Calls.{Left, workedOff}
@@ -22,11 +20,11 @@ use Rattle.run.specs.Ledger.{didSome}
 use Rattle.run.specs.World.{World, framesIn, carry, afterWorking}
 use Rattle.run.proofs.FigureGraph.{figureGraph}
 use Rattle.run.proofs.WorkChains.{WorkGoes, work-goes}
-use Rattle.run.proofs.FramesCut.{frames-in}
+use Rattle.run.proofs.FramesCut.{frames-of}
 use Rattle.run.proofs.HeldGateways.{Holds, written-held}
 use Rattle.run.proofs.EventFrames.{rounds-still, numbered-still}
 use Rattle.run.proofs.BesideCalls.{change-self}
-use Rattle.run.proofs.BothWorlds.{forecastSetting, gatewaysIn, Both, Keeps, proper, sees}
+use Rattle.run.proofs.BothWorlds.{forecastSetting, Both, Keeps, proper, sees}
 use Rattle.run.proofs.EventsKept.{Comes, keeps}
 
 module _ (n : ℕ) (some : 1 ≤ n) (last : ℕ) (setups : ℕ → SetUp) {w : World} {t : Worlds.World (forecastSetting n some last setups)} (b : Both n some last setups w t) (i : ℕ) (h : i < n) (budget : ℕ) (output : List ℕ) where
@@ -48,9 +46,7 @@ module _ (n : ℕ) (some : 1 ≤ n) (last : ℕ) (setups : ℕ → SetUp) {w : W
       (proper n some last setups b i h) (b .stands i h) (sees n some last setups b i h) (b .beside .ledgers i h)
 
   cut : framesIn (length (p .output)) (write 0 (p .output) output) ≡ map written (goes .frames)
-  cut =
-      subst (λ (o : List ℕ). framesIn (length o) (write 0 o output) ≡ map written (goes .frames)) (goes .bytes)
-      (frames-in (goes .frames) output (all-map (λ f e. e .whole) (goes .are-events)))
+  cut = frames-of (goes .frames) (goes .bytes) (all-map (λ f e. e .whole) (goes .are-events)) output
 
   holds : Holds (decode (w .memories i)) (encode (p .gateway) (w .memories i)) (p .gateway)
   holds = written-held (w .memories i) (b .bytes i h) (p .gateway) (work-keeps budget (length output) (proper n some last setups b i h) .gateway)
