@@ -38,7 +38,7 @@ pub mod RoundClaims
 pub mod RoundOpening
 pub mod SendableFrames
 pub mod RoundEffects
-pub mod StartOnBytes
+pub mod RoundsOnBytes
 pub mod BesideCalls
 pub mod BothWorlds
 pub mod CommitCalls
