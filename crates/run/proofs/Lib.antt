@@ -39,7 +39,7 @@ pub mod RoundClaims
 pub mod RoundOpening
 pub mod SendableFrames
 pub mod RoundEffects
-pub mod StartOnBytes
+pub mod RoundsOnBytes
 pub mod EventFrames
 pub mod BesideCalls
 pub mod BothWorlds
