@@ -3,15 +3,14 @@ use mathlib.Core.Path.{_≡_, refl, sym, _∙_, ap, subst}
 use Prim.Native.Nat.{ℕ, _-_, _≤_, _<_}
 use native.Mathlib.Omega.{arith}
 use mathlib.Core.Bool.{Bool, true, false}
-use mathlib.Core.List.{List, [], map, append-nil, Memᴰ·append-right}
+use mathlib.Core.List.{List, [], append-nil, Memᴰ·append-right}
 use borrow.Author.Tests.{le-leb}
 use Rattle.routing.specs.Arcs.{_∈_}
 use Rattle.model.specs.Messages.{kindNumber}
 use Rattle.model.specs.declared.Message.{Message}
-use Rattle.frame.specs.Claims.{OneToOne, Ranged}
+use Rattle.frame.specs.Claims.{Ranged}
 use Rattle.frame.specs.Reasons.{reading}
-use Rattle.frame.specs.Writing.{wellFormed, written}
-use Rattle.frame.specs.declared.Frame.{Frame}
+use Rattle.frame.specs.Writing.{wellFormed}
 use Rattle.frame.specs.declared.Sense.{Sense}
 use Rattle.frame.specs.declared.Sense.the-variants.{Plain, Cancel}
 use Rattle.memory.specs.Records.{Gateway}
@@ -32,29 +31,23 @@ use Rattle.timewarp.specs.Arcs.{Graph}
 use Rattle.timewarp.specs.Worlds.{World}
 use Rattle.run.specs.SingleQueue.{SetUp}
 use Rattle.run.specs.Ledger as Ledger
-use Rattle.run.specs.World.{Carried, carry, isFrame, takenBySense}
+use Rattle.run.specs.World.{Carried, isFrame, takenBySense}
 use Rattle.run.proofs.EventCalls.{Stands, notedAll, plainBack, plain-saved, cancelBack, cancel-saved}
 use Rattle.run.proofs.EventsUnderWay.{IsEvent}
 use Rattle.run.proofs.AcceptedFrames.{outcomeOf, acknowledgmentSense, Accepted, plain-taken, cancel-taken, acknowledgment-taken, start-taken, lvt-taken, update-taken}
 use Rattle.run.proofs.Ledgers.{Follows, entered-follows, struckOut-follows}
 use Rattle.run.proofs.ReadableFrames.{EventFrame, sensed-kind, acknowledgment-frame, back-frames}
 use Rattle.run.proofs.EventWorlds.{settingOf, Sees, GoesOn, plain-frames, cancel-frames, plain-goes, cancel-goes, acknowledgment-goes}
-use Rattle.run.proofs.TakeChains.{Noted, still-stands, plain-noted, cancel-noted}
+use Rattle.run.proofs.EventResults.{CallResult}
+use Rattle.run.proofs.TakeChains.{still-stands, plain-noted, cancel-noted}
 
-module _ (one : OneToOne) (n last : ℕ) (setups : ℕ → SetUp) (G : Graph) (same : G .last ≡ n - 1) (i : ℕ) (inside : i ≤ n - 1) (c : List Message) (w : World (settingOf n last setups G same)) (g : Gateway) (cs : List Carried) (l : Ledger.Ledger) (p : Proper g) (st : Stands n last setups i c g) (sees : Sees n last setups G same w i c g cs) (followed : Follows n last setups (g .queue) l) (frame : List ℕ) (found : any (isFrame frame) cs ≡ true) (tag : ℕ) where
+module _ (n last : ℕ) (setups : ℕ → SetUp) (G : Graph) (same : G .last ≡ n - 1) (i : ℕ) (inside : i ≤ n - 1) (c : List Message) (w : World (settingOf n last setups G same)) (g : Gateway) (cs : List Carried) (l : Ledger.Ledger) (p : Proper g) (st : Stands n last setups i c g) (sees : Sees n last setups G same w i c g cs) (followed : Follows n last setups (g .queue) l) (frame : List ℕ) (found : any (isFrame frame) cs ≡ true) (tag : ℕ) where
   abbrev m : Message
   m = reading frame .frame .message
 
   -- what an accepted frame comes to
-  pub record TakeGoes (o : Outcome) : Type 1 where
-    pub frames : List Frame
-    pub bytes : bytesOfFrames frames ≡ o .output
-    pub are-events : All EventFrame frames
-    pub sends : List Message
-    pub goes : GoesOn n last setups G same w i sends c (o .gateway) (carry tag (map written frames) (withoutFirst (isFrame frame) cs))
-    pub stands : Stands n last setups i c (o .gateway)
-    pub follows : Follows n last setups (o .gateway .queue) (takenBySense m (reading frame .frame .sense) l)
-    pub noted : Noted n last setups i c g st sends (o .gateway)
+  abbrev pub TakeGoes : Outcome → Type 1
+  TakeGoes o = CallResult n last setups G same i w c g tag (withoutFirst (isFrame frame) cs) (o .gateway) (o .output) (takenBySense m (reading frame .frame .sense) l)
 
   -- the messages that the queue holds are good
   held : (e : Entry) → e ∈ g .queue → Good (g .settings) (isWaiting e) (e .message)
@@ -65,26 +58,26 @@ module _ (one : OneToOne) (n last : ℕ) (setups : ℕ → SetUp) (G : Graph) (s
   plain-back-frames true q = rw q nil
   plain-back-frames false q =
       rw q
-      (back-frames one (g .settings) (valid-facts g (p .valid) .settings) (processedOf (behind m (g .queue)))
+      (back-frames (g .settings) (valid-facts g (p .valid) .settings) (processedOf (behind m (g .queue)))
       (λ e k. held e (subst (λ es. e ∈ es) (cut-again m (g .queue)) (Memᴰ·append-right (upTo m (g .queue)) (processed-member (behind m (g .queue)) e k)))))
 
   plain-event-frames : Good (g .settings) false m → kindNumber (m .kind) ≤ 2 → All EventFrame (takePlain m g .frames)
   plain-event-frames good few =
       subst (All EventFrame) (sym (plain-frames n last setups i c g st m))
-      (cons (acknowledgment-frame one (g .settings) (valid-facts g (p .valid) .settings) false m good few) (plain-back-frames (any (isCancelOf m) (g .queue)) refl))
+      (cons (acknowledgment-frame (g .settings) (valid-facts g (p .valid) .settings) false m good few) (plain-back-frames (any (isCancelOf m) (g .queue)) refl))
 
   cancel-back-frames : (t : Bool) → any (isPlain m) (g .queue) ≡ t → All EventFrame (framesFor true (cancelBack n last setups i c g st m))
   unfolding cancelBack
   cancel-back-frames false q = rw q nil
   cancel-back-frames true q =
       rw q
-      (back-frames one (g .settings) (valid-facts g (p .valid) .settings) (processedOf (fromLast (isPlain m) (g .queue)))
+      (back-frames (g .settings) (valid-facts g (p .valid) .settings) (processedOf (fromLast (isPlain m) (g .queue)))
       (λ e k. held e (subst (λ es. e ∈ es) (around-last (isPlain m) (g .queue) q) (Memᴰ·append-right (beforeLast (isPlain m) (g .queue)) (processed-member (fromLast (isPlain m) (g .queue)) e k)))))
 
   cancel-event-frames : Good (g .settings) true m → kindNumber (m .kind) ≤ 2 → All EventFrame (takeCancel m g .frames)
   cancel-event-frames good few =
       subst (All EventFrame) (sym (cancel-frames n last setups i c g st m))
-      (cons (acknowledgment-frame one (g .settings) (valid-facts g (p .valid) .settings) true m good few) (cancel-back-frames (any (isPlain m) (g .queue)) refl))
+      (cons (acknowledgment-frame (g .settings) (valid-facts g (p .valid) .settings) true m good few) (cancel-back-frames (any (isPlain m) (g .queue)) refl))
 
   pub plain-take : reading frame .frame .sense ≡ Plain → IsEvent m → kindNumber (m .kind) ≤ 2 → m .to ≡ i → g .agreed ≤ m .hour → Good (g .settings) false m → Kept (g .settings) (takePlain m g .gateway) →
       TakeGoes (outcomeOf (takePlain m g))
@@ -101,7 +94,8 @@ module _ (one : OneToOne) (n last : ℕ) (setups : ℕ → SetUp) (G : Graph) (s
             subst (Follows n last setups (takePlain m g .gateway .queue))
             (sym (ap (λ (t : Sense). takenBySense m t l) s ∙ rw (le-leb (kindNumber (m .kind)) 2 few)))
             (entered-follows n last setups m g l (st .valid .order) followed);
-        noted = plain-noted n last setups i c g st m;
+        round = plain-noted n last setups i c g st m .round;
+        agreed = plain-noted n last setups i c g st m .agreed;
       }
 
   pub cancel-take : reading frame .frame .sense ≡ Cancel → kindNumber (m .kind) ≤ 2 → m .to ≡ i → Good (g .settings) true m → Kept (g .settings) (takeCancel m g .gateway) →
@@ -119,7 +113,8 @@ module _ (one : OneToOne) (n last : ℕ) (setups : ℕ → SetUp) (G : Graph) (s
             subst (Follows n last setups (takeCancel m g .gateway .queue))
             (sym (ap (λ (t : Sense). takenBySense m t l) s))
             (struckOut-follows n last setups m g l (st .valid .order) followed);
-        noted = cancel-noted n last setups i c g st m;
+        round = cancel-noted n last setups i c g st m .round;
+        agreed = cancel-noted n last setups i c g st m .agreed;
       }
 
   pub acknowledgment-take : (b : Bool) → reading frame .frame .sense ≡ acknowledgmentSense b → m .from ≡ i → any (isSent b m) (g .outstanding) ≡ true →
@@ -138,7 +133,8 @@ module _ (one : OneToOne) (n last : ℕ) (setups : ℕ → SetUp) (G : Graph) (s
             (acknowledgment-goes n last setups G same w i inside c g st cs sees frame found tag b s from-here out);
         stands = still-stands n last setups i c g st c (withOutstanding (withoutFirst (isSent b m) (g .outstanding)) g) kept (st .saved);
         follows = subst (Follows n last setups (g .queue)) (sym (ap (λ (t : Sense). takenBySense m t l) s ∙ unmoved b)) followed;
-        noted = record { round = refl; agreed = refl };
+        round = refl;
+        agreed = refl;
       }
     where
       unmoved : (b : Bool) → takenBySense m (acknowledgmentSense b) l ≡ l

@@ -3,7 +3,7 @@ use mathlib.Core.Path.{_≡_, refl, sym, _∙_, ap, subst}
 use Prim.Native.Nat.{ℕ, _≤_, _<_}
 use native.Mathlib.Omega.{arith}
 use mathlib.Core.Bool.{true}
-use mathlib.Core.List.{List, map}
+use mathlib.Core.List.{List}
 use lib.ListN.{length}
 use borrow.Author.Tests.{eq-eqb, ne-eqb}
 use Rattle.buffer.specs.Slice.{Bytes, write}
@@ -25,22 +25,18 @@ use Rattle.gateway.proofs.Keeps.{bytes-keep}
 use Rattle.gateway.proofs.Accepting.{form-good, not-refused}
 use Rattle.timewarp.specs.Lists.{All}
 use Rattle.timewarp.specs.Worlds as Worlds
-use Rattle.timewarp.proofs.ListLaws.{all-map}
 use Rattle.run.specs.Lines.{change}
 use Rattle.run.specs.SingleQueue.{SetUp}
 use Rattle.run.specs.World.{World, Carried, framesIn, carry, isFrame, kindIn, takenBySense, tookMore, roundFrames, afterTaking}
 use Rattle.run.proofs.FigureGraph.{figureGraph}
 use Rattle.run.proofs.AcceptedFrames.{Accepted, BytesAccepted, bytes-accepted}
 use Rattle.run.proofs.EventTakings.{TakeGoes, taken-goes}
-use Rattle.run.proofs.ReadableFrames.{EventFrame, sensed-kind}
-use Rattle.run.proofs.FramesCut.{frames-of}
-use Rattle.run.proofs.RoundsUnderWay.{carried-rest}
+use Rattle.run.proofs.ReadableFrames.{sensed-kind}
+use Rattle.run.proofs.RoundsUnderWay.{roundsIn, Numbered, carried-rest}
 use Rattle.run.proofs.AcceptedCalls.{on-sound}
-use Rattle.run.proofs.HeldGateways.{written-held}
-use Rattle.run.proofs.EventFrames.{rounds-still, rounds-left, none-counted, took-none, numbered-still}
-use Rattle.run.proofs.BesideCalls.{worldAfter, change-self}
+use Rattle.run.proofs.EventFrames.{rounds-left, took-none}
 use Rattle.run.proofs.BothWorlds.{forecastSetting, Both, Keeps, proper, sees}
-use Rattle.run.proofs.EventsKept.{Comes, keeps}
+use Rattle.run.proofs.EventsKept.{sendingAfter, result-counts, result-keeps}
 
 -- a frame that is none of a round: plain of a kind below 4, or with a sense
 kind-few : (f : Frame) → wellFormed f ≡ true → (f .sense ≡ Plain → kindNumber (f .message .kind) < 4) → kindNumber (f .message .kind) < 4
@@ -53,24 +49,22 @@ kind-few f form plain = by-sense (f .sense) refl
     by-sense CancelAcknowledgment e = omega (arith, sensed-kind (f .message) (f .sense) (rw e (omega arith)) form)
 
 -- the world after taking such a frame: the rounds stay as they were
-taken-world : (n i : ℕ) (frame memory : List ℕ) {fs : List Frame} → All EventFrame fs → (w : World) → kindIn frame < 4 →
-    worldAfter w i memory (carry (w .rounds .opened) (map written fs) (withoutFirst (isFrame frame) (w .underWay))) (w .records i)
-    (takenBySense (reading frame .frame .message) (reading frame .frame .sense) (w .ledgers i)) (w .rounds)
-    ≡ afterTaking n i frame memory (map written fs) w
+taken-world : (n i : ℕ) (frame memory : List ℕ) (frames : List (List ℕ)) (w : World) → kindIn frame < 4 → roundFrames (w .rounds .open?) frames ≡ 0 →
+    sendingAfter w i memory (w .rounds .opened) frames (withoutFirst (isFrame frame) (w .underWay)) (takenBySense (reading frame .frame .message) (reading frame .frame .sense) (w .ledgers i))
+    ≡ afterTaking n i frame memory frames w
 unfolding afterTaking
-taken-world n i frame memory {fs} a w few =
+taken-world n i frame memory frames w few none =
     rw (ne-eqb (kindIn frame) 6 (λ e. omega arith), ne-eqb (kindIn frame) 5 (λ e. omega arith))
     (λ k. record {
       memories = change i memory (w .memories);
-      underWay = carry (w .rounds .opened) (map written fs) (withoutFirst (isFrame frame) (w .underWay));
-      records = change-self i (w .records) k;
+      underWay = carry (w .rounds .opened) frames (withoutFirst (isFrame frame) (w .underWay));
+      records = w .records;
       ledgers = change i (takenBySense (reading frame .frame .message) (reading frame .frame .sense) (w .ledgers i)) (w .ledgers);
       rounds = unchanged k;
     })
   where
-    unchanged : w .rounds ≡ tookMore (w .rounds .opened) (roundFrames (w .rounds .open?) (map written fs)) (w .rounds)
-    unchanged =
-        sym (ap (λ (m : ℕ). tookMore (w .rounds .opened) m (w .rounds)) (none-counted (w .rounds .open?) a) ∙ took-none (w .rounds .opened) (w .rounds))
+    unchanged : w .rounds ≡ tookMore (w .rounds .opened) (roundFrames (w .rounds .open?) frames) (w .rounds)
+    unchanged = sym (ap (λ (m : ℕ). tookMore (w .rounds .opened) m (w .rounds)) none ∙ took-none (w .rounds .opened) (w .rounds))
 
 module _ (n : ℕ) (some : 1 ≤ n) (last : ℕ) (setups : ℕ → SetUp) {w : World} {t : Worlds.World (forecastSetting n some last setups)} (b : Both n some last setups w t) (i : ℕ) (h : i < n) (frame : List ℕ) (bytes : Bytes frame) (output : List ℕ) where
   abbrev g : Gateway
@@ -82,6 +76,9 @@ module _ (n : ℕ) (some : 1 ≤ n) (last : ℕ) (setups : ℕ → SetUp) {w : W
   abbrev tag : ℕ
   tag = w .rounds .opened
 
+  abbrev rest : List Carried
+  rest = withoutFirst (isFrame frame) (w .underWay)
+
   kept : Kept (g .settings) (o .gateway)
   kept = bytes-keep (proper n some last setups b i h) frame bytes (length output) .gateway
 
@@ -92,10 +89,10 @@ module _ (n : ℕ) (some : 1 ≤ n) (last : ℕ) (setups : ℕ → SetUp) {w : W
     few : kindIn frame < 4
     few = kind-few (reading frame .frame) formed plain
 
-    goes : TakeGoes one-to-one n last setups (figureGraph n some) refl i (omega arith) (b .beside .done i) t g (w .underWay) (w .ledgers i)
+    goes : TakeGoes n last setups (figureGraph n some) refl i (omega arith) (b .beside .done i) t g (w .underWay) (w .ledgers i)
         (proper n some last setups b i h) (b .stands i h) (sees n some last setups b i h) (b .beside .ledgers i h) frame found tag o
     goes =
-        taken-goes one-to-one n last setups (figureGraph n some) refl i (omega arith) (b .beside .done i) t g (w .underWay) (w .ledgers i)
+        taken-goes n last setups (figureGraph n some) refl i (omega arith) (b .beside .done i) t g (w .underWay) (w .ledgers i)
         (proper n some last setups b i h) (b .stands i h) (sees n some last setups b i h) (b .beside .ledgers i h) frame found tag
         formed
         (one-to-one .readRanged frame bytes (form-good (reading frame .form) (eq-eqb (formNumber (reading frame .form)) 0 (a .good))))
@@ -105,35 +102,18 @@ module _ (n : ℕ) (some : 1 ≤ n) (last : ℕ) (setups : ℕ → SetUp) {w : W
         (subst (Accepted (length output) (reading frame .frame) g) (sym (a .comes-to)) (a .taken))
         kept
 
-    cut : framesIn (length (o .output)) (write 0 (o .output) output) ≡ map written (goes .frames)
-    cut = frames-of (goes .frames) (goes .bytes) (all-map (λ f e. e .whole) (goes .are-events)) output
+    still : roundsIn rest ≡ roundsIn (w .underWay)
+    still = rounds-left frame (w .underWay) few
 
-    abbrev underWay : List Carried
-    underWay = carry tag (map written (goes .frames)) (withoutFirst (isFrame frame) (w .underWay))
+    numbered : All Numbered rest
+    numbered = carried-rest (isFrame frame) (b .numbered)
 
-    comes : Comes n some last setups b i h (o .gateway) (b .beside .done i) underWay (takenBySense (reading frame .frame .message) (reading frame .frame .sense) (w .ledgers i))
-    comes =
-        record {
-          sends = goes .sends;
-          goes = goes .goes;
-          stands = goes .stands;
-          follows = goes .follows;
-          round = goes .noted .round;
-          agreed = goes .noted .agreed;
-          still = rounds-still tag (goes .are-events) (withoutFirst (isFrame frame) (w .underWay)) ∙ rounds-left frame (w .underWay) few;
-          numbered = numbered-still tag (goes .are-events) (carried-rest (isFrame frame) (b .numbered));
-        }
-
-    take-kept : Keeps n some last setups t (afterTaking n i frame (encode (o .gateway) (w .memories i)) (map written (goes .frames)) w)
+    take-kept : Keeps n some last setups t (afterTaking n i frame (encode (o .gateway) (w .memories i)) (framesIn (length (o .output)) (write 0 (o .output) output)) w)
     take-kept =
-        subst (Keeps n some last setups t) (taken-world n i frame (encode (o .gateway) (w .memories i)) (goes .are-events) w few)
-        (keeps n some last setups b i h (encode (o .gateway) (w .memories i)) (o .gateway) (written-held (w .memories i) (b .bytes i h) (o .gateway) kept)
-        (b .beside .done i)
-        underWay
-        (takenBySense (reading frame .frame .message) (reading frame .frame .sense) (w .ledgers i))
-        comes
-        (w .records i)
-        (b .beside .records i h))
+        subst (Keeps n some last setups t)
+        (taken-world n i frame (encode (o .gateway) (w .memories i)) (framesIn (length (o .output)) (write 0 (o .output) output)) w few
+        (result-counts n some last setups b i h tag rest still numbered goes kept output (w .rounds .open?)))
+        (result-keeps n some last setups b i h tag rest still numbered goes kept output)
 
   pub event-taken-kept : taken (w .memories i) frame output .answer .number ≡ 0 → any (isFrame frame) (w .underWay) ≡ true →
       (reading frame .frame .sense ≡ Plain → kindIn frame < 4) →
@@ -144,4 +124,4 @@ module _ (n : ℕ) (some : 1 ≤ n) (last : ℕ) (setups : ℕ → SetUp) {w : W
       let (is-sound, number, leaves) = on-sound (takeBytes frame) (w .memories i) output z in
       let a = bytes-accepted frame (length output) g number in
       subst (λ (l : Left Answer). Keeps n some last setups t (afterTaking n i frame (l .memory) (framesIn (l .answer .written) (l .output)) w)) (sym leaves)
-      (subst (λ (fs : List (List ℕ)). Keeps n some last setups t (afterTaking n i frame (encode (o .gateway) (w .memories i)) fs w)) (sym (cut a found plain)) (take-kept a found plain))
+      (take-kept a found plain)

@@ -3,23 +3,28 @@ use mathlib.Core.Path.{_≡_, refl, sym, _∙_, ap, subst}
 use Prim.Native.Nat.{ℕ, _≤_, _<_}
 use native.Mathlib.Omega.{arith}
 use mathlib.Core.Bool.{Bool, true, false, cond}
-use mathlib.Core.List.{List}
+use mathlib.Core.List.{List, map}
+use lib.ListN.{length}
+use Rattle.buffer.specs.Slice.{write}
+use Rattle.frame.specs.Writing.{written}
 use lib.Dec.{eqb}
 use borrow.Author.Tests.{eqb-true}
 use Rattle.model.specs.declared.Message.{Message}
 use Rattle.memory.specs.Records.{Gateway}
-use Rattle.memory.specs.Codec.{decode}
+use Rattle.memory.specs.Codec.{decode, encode}
 use Rattle.gateway.specs.Effects.{withRound}
 use Rattle.gateway.specs.Claims.{SoundBytes}
+use Rattle.gateway.proofs.Maintaining.{Kept}
 use Rattle.timewarp.specs.Lists.{All}
 use Rattle.timewarp.specs.Families as Families
 use Rattle.timewarp.specs.RoundSteps as RoundSteps
 use Rattle.timewarp.specs.RoundSteps.{RoundFrame}
 use Rattle.timewarp.specs.Worlds as Worlds
+use Rattle.timewarp.proofs.ListLaws.{all-map}
 use Rattle.run.specs.Lines.{change}
 use Rattle.run.specs.SingleQueue.{SetUp}
 use Rattle.run.specs.Ledger as Ledger
-use Rattle.run.specs.World.{World, Carried}
+use Rattle.run.specs.World.{World, Carried, carry, framesIn, roundFrames}
 use Rattle.run.proofs.FigureGraph.{figureGraph}
 use Rattle.run.proofs.SingleQueues.{recordOf}
 use Rattle.run.proofs.EventCalls.{Stands, notedAll}
@@ -28,9 +33,26 @@ use Rattle.run.proofs.EventWorlds.{GoesOn}
 use Rattle.run.proofs.RoundsUnderWay.{Numbered, roundsIn}
 use Rattle.run.proofs.RoundWorlds.{Alike, alike-again}
 use Rattle.run.proofs.RoundNotes.{alike-sent}
-use Rattle.run.proofs.HeldGateways.{Holds}
-use Rattle.run.proofs.BesideCalls.{worldAfter, beside-after, done-after}
+use Rattle.run.proofs.FramesCut.{frames-of}
+use Rattle.run.proofs.EventResults.{CallResult}
+use Rattle.run.proofs.EventFrames.{rounds-still, none-counted, numbered-still}
+use Rattle.run.proofs.HeldGateways.{Holds, written-held}
+use Rattle.run.proofs.BesideCalls.{change-self, worldAfter, beside-after, done-after}
 use Rattle.run.proofs.BothWorlds.{model, forecastSetting, gatewaysIn, Both, Keeps}
+
+-- the run's world after a call on events that writes frames
+abbrev pub sendingAfter : World → ℕ → List ℕ → ℕ → List (List ℕ) → List Carried → Ledger.Ledger → World
+sendingAfter w i memory tag frames rest l = record {
+  memories = change i memory (w .memories);
+  underWay = carry tag frames rest;
+  records = w .records;
+  ledgers = change i l (w .ledgers);
+  rounds = w .rounds;
+}
+
+-- with other records
+abbrev withRecords : (ℕ → List ℕ) → World → World
+withRecords r w = record { memories = w .memories; underWay = w .underWay; records = r; ledgers = w .ledgers; rounds = w .rounds }
 
 module _ (n : ℕ) (some : 1 ≤ n) (last : ℕ) (setups : ℕ → SetUp) {w : World} {t : Worlds.World (forecastSetting n some last setups)} (b : Both n some last setups w t) (i : ℕ) (h : i < n) where
   -- What a call on events at gateway i comes to: the gateway next, which has committed c, the frames cs under way, and the ledger l.
@@ -116,3 +138,34 @@ module _ (n : ℕ) (some : 1 ≤ n) (last : ℕ) (setups : ℕ → SetUp) {w : W
                   numbered = comes .numbered;
                 };
           }
+
+  -- a call that writes frames: the rest of what is under way has the same frames of rounds
+  module _ (tag : ℕ) (rest : List Carried) (still : roundsIn rest ≡ roundsIn (w .underWay)) (numbered : All Numbered rest) {next : Gateway} {output : List ℕ} {l : Ledger.Ledger}
+      (r : CallResult n last setups (figureGraph n some) refl i t (b .beside .done i) (decode (w .memories i)) tag rest next output l)
+      (kept : Kept (decode (w .memories i) .settings) next) (lent : List ℕ) where
+    comes-of : Comes next (b .beside .done i) (carry tag (map written (r .frames)) rest) l
+    comes-of =
+        record {
+          sends = r .sends;
+          goes = r .goes;
+          stands = r .stands;
+          follows = r .follows;
+          round = r .round;
+          agreed = r .agreed;
+          still = rounds-still tag (r .are-events) rest ∙ still;
+          numbered = numbered-still tag (r .are-events) numbered;
+        }
+
+    cut : framesIn (length output) (write 0 output lent) ≡ map written (r .frames)
+    cut = frames-of (r .frames) (r .bytes) (all-map (λ f e. e .whole) (r .are-events)) lent
+
+    -- what it writes counts for no round
+    pub result-counts : (isOpen : Bool) → roundFrames isOpen (framesIn (length output) (write 0 output lent)) ≡ 0
+    result-counts isOpen = ap (roundFrames isOpen) cut ∙ none-counted isOpen (r .are-events)
+
+    pub result-keeps : Keeps n some last setups t (sendingAfter w i (encode next (w .memories i)) tag (framesIn (length output) (write 0 output lent)) rest l)
+    result-keeps =
+        subst (λ (fs : List (List ℕ)). Keeps n some last setups t (sendingAfter w i (encode next (w .memories i)) tag fs rest l)) (sym cut)
+        (subst (λ (x : ℕ → List ℕ). Keeps n some last setups t (withRecords x (sendingAfter w i (encode next (w .memories i)) tag (map written (r .frames)) rest l))) (change-self i (w .records))
+        (keeps (encode next (w .memories i)) next (written-held (w .memories i) (b .bytes i h) next kept) (b .beside .done i) (carry tag (map written (r .frames)) rest) l comes-of
+        (w .records i) (b .beside .records i h)))

@@ -17,6 +17,7 @@ pub mod OpeningQueues
 pub mod RoundsUnderWay
 pub mod FramesCut
 pub mod ReadableFrames
+pub mod EventResults
 pub mod WorkChains
 pub mod CommittedRecords
 pub mod TakeChains

@@ -14,10 +14,10 @@ use Rattle.model.specs.declared.Message.{Message}
 use Rattle.model.specs.declared.State.{State}
 use Rattle.frame.specs.Kinds.{hasLamp, senseNumber}
 use Rattle.frame.specs.Writing.{allBetween, lampFits, gatewaysAgree, hourFits, senseAllowed, wellFormed}
-use Rattle.frame.specs.Claims.{OneToOne}
 use Rattle.frame.specs.declared.Frame.{Frame}
 use Rattle.frame.specs.declared.Reading.{Reading}
 use Rattle.frame.proofs.Output.{whole-size}
+use Rattle.frame.proofs.Laws.{one-to-one}
 use Rattle.frame.specs.declared.Sense.{Sense}
 use Rattle.memory.specs.Records.{siteOf}
 use Rattle.memory.specs.Ranges.{RangedMessage}
@@ -63,10 +63,10 @@ pub record Fitting (m : Message) : Type 0 where
   pub ranged : RangedMessage m
 
 -- a well-formed frame whose numbers fit is read as it was written
-pub readable : OneToOne → (f : Frame) → wellFormed f ≡ true → Fitting (f .message) → Readable f
-readable one f e r =
+pub readable : (f : Frame) → wellFormed f ≡ true → Fitting (f .message) → Readable f
+readable f e r =
     ap (λ (x : Reading). x .frame)
-    (one .writtenRead f
+    (one-to-one .writtenRead f
     (record {
       hour = r .hour;
       from = r .from;
@@ -84,10 +84,10 @@ pub record EventFrame (f : Frame) : Type 0 where
   pub whole : Whole f
   pub kind : kindNumber (f .message .kind) ≤ 2
 
-pub event-frame : OneToOne → (f : Frame) → wellFormed f ≡ true → Fitting (f .message) → kindNumber (f .message .kind) ≤ 2 → EventFrame f
-event-frame one f e r k = record { readable = readable one f e r; whole = sym (whole-size f (r .ranged .lamp)); kind = k }
+pub event-frame : (f : Frame) → wellFormed f ≡ true → Fitting (f .message) → kindNumber (f .message .kind) ≤ 2 → EventFrame f
+event-frame f e r k = record { readable = readable f e r; whole = sym (whole-size f (r .ranged .lamp)); kind = k }
 
-module _ (one : OneToOne) (s : Settings) (v : ValidSettings s) where
+module _ (s : Settings) (v : ValidSettings s) where
   pub stored-fits : {cancel : Bool} (m : Message) → Storable s cancel m → RangedMessage m → Fitting m
   stored-fits m t r =
       record {
@@ -106,7 +106,7 @@ module _ (one : OneToOne) (s : Settings) (v : ValidSettings s) where
       frames-of : (ms : List Message) → All (λ x. GoodSent s (record { message = x; cancel = cancel })) ms → All EventFrame (framesFor cancel ms)
       frames-of [] nil = nil
       frames-of (x ∷ ms) (cons h a) =
-          cons (event-frame one (frameIf cancel x) (h .valid .message .form) (stored-fits x (h .valid .message) (h .ranged)) (h .valid .kind)) (frames-of ms a)
+          cons (event-frame (frameIf cancel x) (h .valid .message .form) (stored-fits x (h .valid .message) (h .ranged)) (h .valid .kind)) (frames-of ms a)
 
 -- only a kind with a lamp has a sense
 pub sensed-kind : (m : Message) (s : Sense) → 1 ≤ senseNumber s → wellFormed (record { message = m; sense = s }) ≡ true → kindNumber (m .kind) ≤ 2
@@ -128,11 +128,11 @@ any-sense m s t h e =
     let agrees : gatewaysAgree (m .from) (m .to) (m .kind) ≡ true = search (and-left, and-right) depth 9 in
     rw (lamps, hours, agrees, le-leb (kindNumber (m .kind)) 2 h)
 
-module _ (one : OneToOne) (s : Settings) (v : ValidSettings s) where
+module _ (s : Settings) (v : ValidSettings s) where
   -- the acknowledgment of a message that was taken
   pub acknowledgment-frame : (b : Bool) (m : Message) → Good s b m → kindNumber (m .kind) ≤ 2 → EventFrame (acknowledgment b m)
   acknowledgment-frame b m good h =
-      event-frame one (acknowledgment b m) (any-sense m (senseIf b) (acknowledgment b m .sense) h (good .storable .form)) (stored-fits one s v m (good .storable) (good .ranged)) h
+      event-frame (acknowledgment b m) (any-sense m (senseIf b) (acknowledgment b m .sense) h (good .storable .form)) (stored-fits s v m (good .storable) (good .ranged)) h
 
   -- the cancels of what some events had sent
   pub back-frames : (es : List Entry) → ((e : Entry) → e ∈ es → Good s (isWaiting e) (e .message)) → All EventFrame (framesFor true (sentBack (siteOf s) es))
@@ -140,4 +140,4 @@ module _ (one : OneToOne) (s : Settings) (v : ValidSettings s) where
   back-frames [] h = nil
   back-frames (e ∷ es) h =
       subst (All EventFrame) (sym (map-append (frameIf true) (sentBack (siteOf s) es) (sent (siteOf s) (e .before) (e .message))))
-      (all-append (back-frames es (λ x k. h x (member-rest k))) (sent-frames one s v (e .message) (h e (member-first refl)) true (e .before)))
+      (all-append (back-frames es (λ x k. h x (member-rest k))) (sent-frames s v (e .message) (h e (member-first refl)) true (e .before)))

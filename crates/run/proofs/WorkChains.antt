@@ -7,7 +7,6 @@ use lib.ListN.{length}
 use Rattle.routing.specs.Arcs.{_∈_}
 use Rattle.model.specs.Doing.{sent}
 use Rattle.model.specs.declared.Message.{Message}
-use Rattle.frame.specs.Claims.{OneToOne}
 use Rattle.frame.specs.Writing.{written}
 use Rattle.frame.specs.declared.Frame.{Frame}
 use Rattle.memory.specs.Records.{Gateway, siteOf}
@@ -34,6 +33,7 @@ use Rattle.run.proofs.EventCalls.{Stands, notedAll, did, done-saved}
 use Rattle.run.proofs.Ledgers.{Follows, did-follows}
 use Rattle.run.proofs.ReadableFrames.{EventFrame, sent-frames}
 use Rattle.run.proofs.EventWorlds.{settingOf, Sees, GoesOn, networkIn, done-goes}
+use Rattle.run.proofs.EventResults.{CallResult}
 
 -- frames put under way in two goes
 pub carry-append : (tag : ℕ) (fs hs : List Frame) (cs : List Carried) → carry tag (map written hs) (carry tag (map written fs) cs) ≡ carry tag (map written (fs ++ hs)) cs
@@ -51,18 +51,10 @@ unfolding notedAll
 noted-append [] ks r = refl
 noted-append (m ∷ ms) ks r = noted-append ms ks (noted (m .hour) r)
 
-module _ (one : OneToOne) (n last : ℕ) (setups : ℕ → SetUp) (G : Graph) (same : G .last ≡ n - 1) (i : ℕ) (inside : i ≤ n - 1) (c : List Message) (tag : ℕ) where
+module _ (n last : ℕ) (setups : ℕ → SetUp) (G : Graph) (same : G .last ≡ n - 1) (i : ℕ) (inside : i ≤ n - 1) (c : List Message) (tag : ℕ) where
   -- what work comes to
-  pub record WorkGoes (w : World (settingOf n last setups G same)) (g : Gateway) (cs : List Carried) (l : Ledger.Ledger) (p : Progress) : Type 1 where
-    pub frames : List Frame
-    pub bytes : bytesOfFrames frames ≡ p .output
-    pub are-events : All EventFrame frames
-    pub sends : List Message
-    pub goes : GoesOn n last setups G same w i sends c (p .gateway) (carry tag (map written frames) cs)
-    pub stands : Stands n last setups i c (p .gateway)
-    pub follows : Follows n last setups (p .gateway .queue) (didSome (p .count) l)
-    pub round : p .gateway .round ≡ notedAll sends (g .round)
-    pub agreed : p .gateway .agreed ≡ g .agreed
+  abbrev pub WorkGoes : World (settingOf n last setups G same) → Gateway → List Carried → Ledger.Ledger → Progress → Type 1
+  WorkGoes w g cs l p = CallResult n last setups G same i w c g tag cs (p .gateway) (p .output) (didSome (p .count) l)
 
   module _ (w : World (settingOf n last setups G same)) (g : Gateway) (cs : List Carried) (l : Ledger.Ledger) (st : Stands n last setups i c g) (sees : Sees n last setups G same w i c g cs) (follows : Follows n last setups (g .queue) l) where
     -- no event is done
@@ -112,7 +104,7 @@ module _ (one : OneToOne) (n last : ℕ) (setups : ℕ → SetUp) (G : Graph) (s
       let v = valid-facts g (p .valid) in
       let r = held-good g p m ms k in
       let good : Good (g .settings) (isWaiting (r .0)) (r .0 .message) = record { storable = v .entries (r .0) (r .1) .message; ranged = p .ranged .queue (r .0) (r .1) .message } in
-      sent-frames one (g .settings) (v .settings) m (subst (Good (g .settings) (isWaiting (r .0))) (sym (r .2)) good) false (g .state)
+      sent-frames (g .settings) (v .settings) m (subst (Good (g .settings) (isWaiting (r .0))) (sym (r .2)) good) false (g .state)
 
   -- doing an event is work of one event
   done-once : (g : Gateway) (m : Message) (ms : List Message) → pendingOf (g .queue) ≡ m ∷ ms → (room : ℕ) → fits room (done m g) ≡ true → worked 1 room g .gateway ≡ done m g .gateway
