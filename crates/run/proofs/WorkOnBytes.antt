@@ -5,7 +5,6 @@ use native.Mathlib.Omega.{arith}
 use mathlib.Core.List.{List}
 use lib.ListN.{length}
 use Rattle.buffer.specs.Slice.{write}
-use Rattle.frame.specs.Writing.{written}
 use Rattle.memory.specs.Codec.{decode, encode}
 use Rattle.gateway.specs.Working.{Progress, worked}
 use Rattle.gateway.specs.Calls.{Left, workedOff}
