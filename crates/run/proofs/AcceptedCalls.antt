@@ -47,6 +47,15 @@ on-sound call memory output = go (sound memory) (eqb (call (length output) (deco
     go true false e h = absurd (true≢false (sym (eq-eqb (r .number) 0 h) ∙ e))
     go false d e h = absurd (omega arith)
 
+-- the number that a call answers on sound memory
+pub call-number : (call : ℕ → Gateway → Outcome) (memory output : List ℕ) → sound memory ≡ true → onSound call memory output .answer .number ≡ call (length output) (decode memory) .number
+unfolding onSound leaving
+call-number call memory output s = rw s (by-case (eqb (call (length output) (decode memory) .number) 0) refl)
+  where
+    by-case : (t : Bool) → eqb (call (length output) (decode memory) .number) 0 ≡ t → leaving (call (length output) (decode memory)) memory output .answer .number ≡ call (length output) (decode memory) .number
+    by-case true p = rw p (sym (eqb-true (call (length output) (decode memory) .number) 0 p))
+    by-case false p = rw p
+
 -- the start call
 pub start-accepted : (room : ℕ) (g : Gateway) → start room g .number ≡ 0
     → (g .settings .own ≡ 0) × (isIdle (g .round .phase) ≡ true) × (start room g ≡ outcomeOf (begun g))

@@ -48,6 +48,7 @@ pub mod WorkOnBytes
 pub mod CommitOnBytes
 pub mod EventTakingsOnBytes
 pub mod RefusedCalls
+pub mod FramesInTurn
 pub mod KeptRelation
 pub mod Theorem
 pub mod Further
