@@ -217,3 +217,61 @@ module _ (n : ℕ) (some : 1 ≤ n) (last : ℕ) (setups : ℕ → SetUp) {w : W
             let own = b .stands i inside .own in
             rw (le-leb 1 (g .settings .own) (omega arith), eq-eqb k ((g .settings .own - 1) / 2) (omega arith)) (settled-room room g _)
         by-child (no-child h) = absurd (omega arith)
+
+    to-here : f .sense ≡ Plain → m .to ≡ i
+    to-here s = rw s at here
+
+    -- by its kind and its sense
+    by-kind : f .sense ≡ Plain → (k : Kind) → m .kind ≡ k → eqb (kindNumber k) 3 ≡ false → OnlyRoom (takeByKind room m g k .number)
+    by-kind s (Failure origin) e p = plain-room (rw (s, e) refl)
+    by-kind s (Request origin) e p = plain-room (rw (s, e) refl)
+    by-kind s (Delivery origin) e p = plain-room (rw (s, e) refl)
+    by-kind s (Restock quantity) e p = absurd (true≢false p)
+    by-kind s Start e p =
+        start-room (only (start (m .from) i (c .tag - 1)) (subst (λ (x : ℕ). All (InTurn (figureGraph n some) (t .rounds)) (start (m .from) x (c .tag - 1) ∷ [])) (to-here s) (rw e at turns)))
+    by-kind s Lvt e p =
+        lvt-room (only (lvt (m .from) i (c .tag - 1) (m .hour)) (subst (λ (x : ℕ). All (InTurn (figureGraph n some) (t .rounds)) (lvt (m .from) x (c .tag - 1) (m .hour) ∷ [])) (to-here s) (rw e at turns)))
+    by-kind s Update e p =
+        update-room (only (update (m .from) i (c .tag - 1) (m .hour)) (subst (λ (x : ℕ). All (InTurn (figureGraph n some) (t .rounds)) (update (m .from) x (c .tag - 1) (m .hour) ∷ [])) (to-here s) (rw e at turns)))
+
+    by-sense : (s : Sense) → f .sense ≡ s → eqb (kindNumber (m .kind)) 3 ≡ false → OnlyRoom (takeBySense room m g s .number)
+    unfolding message
+    by-sense Plain s p = by-kind s (m .kind) refl p
+    by-sense Cancel s p = in-time (m .hour) g (settled room g (takeCancel m g)) (event-in-time (cancel m) (rw s refl)) (settled-room room g (takeCancel m g))
+    by-sense Acknowledgment s p = acknowledgment-room false (rw s refl) (rw s at here)
+    by-sense CancelAcknowledgment s p = acknowledgment-room true (rw s refl) (rw s at here)
+
+    -- taking its bytes
+    bytes-room : Passing n last (c .frame) → OnlyRoom (takeBytes (c .frame) room g .number)
+    unfolding takeBytes takeFrame refusal
+    bytes-room p =
+        let st = b .stands i inside in
+        let own : eqb (addressee (f .sense) m) (g .settings .own) ≡ true = eq-eqb (addressee (f .sense) m) (g .settings .own) (here ∙ sym (st .own)) in
+        let numbers : numbersBelow (g .settings .n) m ≡ true = rw (st .count) (p .numbers) in
+        let hours : hourAllowed (g .settings .last) m ≡ true = rw (st .until) (p .hour) in
+        rw (p .form, p .kind, own, numbers, hours) (by-sense (f .sense) refl (p .kind))
+
+  -- the gateway that it is addressed to
+  receiver-inside : Passing n last (c .frame) → addressee (f .sense) m < n
+  receiver-inside p = by-sense (f .sense)
+    where
+      from-below : m .from < n
+      from-below = ltb-true (m .from) n (let k = p .numbers in search (and-left, and-right) depth 9)
+
+      to-below : m .to < n
+      to-below = ltb-true (m .to) n (let k = p .numbers in search (and-left, and-right) depth 9)
+
+      by-sense : (s : Sense) → addressee s m < n
+      by-sense Plain = to-below
+      by-sense Cancel = to-below
+      by-sense Acknowledgment = from-below
+      by-sense CancelAcknowledgment = from-below
+
+  -- it is taken there, or there is not room for it
+  pub taken-or-room : Passing n last (c .frame) → (output : List ℕ)
+      → (addressee (f .sense) m < n) × OnlyRoom (taken (w .memories (addressee (f .sense) m)) (c .frame) output .answer .number)
+  unfolding taken
+  taken-or-room p output =
+      let i = addressee (f .sense) m in
+      let inside = receiver-inside p in
+      (inside, rw (call-number (takeBytes (c .frame)) (w .memories i) output (b .bytes i inside .is-sound)) (bytes-room i inside refl (length output) p))
