@@ -7,7 +7,6 @@ use mathlib.Core.List.{List}
 use Rattle.memory.specs.Records.{Gateway}
 use Rattle.memory.specs.Codec.{decode}
 use Rattle.memory.specs.Claims.{ReadingLaws}
-use Rattle.memory.proofs.SoundMemory.{codec-laws}
 use Rattle.gateway.specs.Claims.{SoundBytes}
 use Rattle.gateway.proofs.Maintaining.{Proper}
 use Rattle.timewarp.specs.Lists.{All}
@@ -16,19 +15,16 @@ use Rattle.timewarp.specs.Arcs.{Graph}
 use Rattle.timewarp.specs.Worlds as Worlds
 use Rattle.timewarp.proofs.Joined.{Good, good}
 use Rattle.run.specs.SingleQueue.{SetUp}
-use Rattle.run.specs.World.{World, Carried, kindIn}
+use Rattle.run.specs.World.{World}
 use Rattle.run.proofs.FigureGraph.{figureGraph}
 use Rattle.run.proofs.ForecastModel.{forecastModel}
 use Rattle.run.proofs.EventCalls.{Stands}
 use Rattle.run.proofs.EventWorlds.{settingOf, Sees}
 use Rattle.run.proofs.RoundChains.{setting}
-use Rattle.run.proofs.RoundsUnderWay.{roundsIn}
+use Rattle.run.proofs.RoundsUnderWay.{roundsIn, Numbered}
 use Rattle.run.proofs.RoundWorlds.{Alike}
+use Rattle.run.proofs.HeldGateways as HeldGateways
 use Rattle.run.proofs.ClaimParts.{Beside}
-
--- a frame of a round under way has the number of its round, which is counted from 1
-abbrev pub Numbered : Carried → Type 0
-Numbered c = 4 ≤ kindIn (c .frame) → 1 ≤ c .tag
 
 module _ (n : ℕ) (some : 1 ≤ n) (last : ℕ) (setups : ℕ → SetUp) where
   abbrev pub model : Model
@@ -54,7 +50,7 @@ module _ (n : ℕ) (some : 1 ≤ n) (last : ℕ) (setups : ℕ → SetUp) where
     pub stands : (i : ℕ) → i < n → Stands n last setups i (beside .done i) (gatewaysIn w i)
     -- its memory
     pub bytes : (i : ℕ) → i < n → SoundBytes (w .memories i)
-    -- the rounds, the frames of rounds under way and the counters
+    -- the rounds, the frames of rounds under way, which have the number of their round, and the counters
     pub rounds : Alike n some model refl (gatewaysIn w) (roundsIn (w .underWay)) (w .rounds) (t .rounds)
     pub numbered : All Numbered (w .underWay)
 
@@ -72,10 +68,10 @@ module _ (n : ℕ) (some : 1 ≤ n) (last : ℕ) (setups : ℕ → SetUp) where
     module _ (i : ℕ) (h : i < n) where
       -- what the memory of gateway i holds
       pub held : ReadingLaws (w .memories i)
-      held = codec-laws .reading (w .memories i) (b .bytes i h .bytes) (b .bytes i h .is-sound)
+      held = HeldGateways.held (w .memories i) (b .bytes i h)
 
       pub proper : Proper (gatewaysIn w i)
-      proper = record { valid = held .valid-held; ranged = held .ranged }
+      proper = HeldGateways.held-proper (w .memories i) (b .bytes i h)
 
       -- the theory's world sees it
       pub sees : Sees n last setups (figureGraph n some) refl t i (b .beside .done i) (gatewaysIn w i) (w .underWay)

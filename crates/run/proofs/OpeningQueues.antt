@@ -40,7 +40,8 @@ use Rattle.run.proofs.QueueViews.{doneAfter, waitingOf, viewOf, pending
 use Rattle.run.proofs.QueueChanges.{each-all, none-done, saved-none}
 use Rattle.run.proofs.SavedStates.{Saved, stateAt}
 use Rattle.run.proofs.SingleQueues.{Alike, Agree, Inside, recordOf}
-use Rattle.run.proofs.Ledgers.{itemsOf, Follows, entry-follows, all-each}
+use Rattle.run.proofs.LedgerItems.{itemsOf}
+use Rattle.run.proofs.Ledgers.{Follows, entry-follows, all-each}
 
 -- every entry is pending
 abbrev pub AllPending : List Entry → Type 0

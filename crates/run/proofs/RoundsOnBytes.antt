@@ -62,14 +62,14 @@ module _ (n : ℕ) (some : 1 ≤ n) (M : Model) (equal : n - 1 ≡ M .last) (w :
   abbrev gs : ℕ → Gateway
   gs j = decode (v .memories j)
 
-  -- What a call of a round at gateway i comes to, r being its outcome and u the world after it.
-  pub record Goes (r : Outcome) (u : World.World) : Type 0 where
+  -- What a call of a round at gateway i comes to, r being its outcome, cs what is under way after it and c the counters.
+  pub record Goes (r : Outcome) (cs : List Carried) (c : World.Rounds) : Type 0 where
     pub effect : Effect
     pub comes-to : r ≡ outcomeOf effect
     pub only : OnlyRound (gs i) (effect .gateway)
-    pub led : Led n some M equal w gs i effect (roundsIn (u .underWay)) (u .rounds)
-    pub network : networkIn (u .underWay) ≡ networkIn (v .underWay)
-    pub numbered : All Numbered (v .underWay) → All Numbered (u .underWay)
+    pub led : Led n some M equal w gs i effect (roundsIn cs) c
+    pub network : networkIn cs ≡ networkIn (v .underWay)
+    pub numbered : All Numbered (v .underWay) → All Numbered cs
 
   led-again : {e : Effect} {fs fs′ : List RoundFrame} {c c′ : World.Rounds} → fs ≡ fs′ → c ≡ c′ → Led n some M equal w gs i e fs c → Led n some M equal w gs i e fs′ c′
   led-again {e} {fs} {fs′} {c} {c′} p q l = subst (λ x. Led n some M equal w gs i e x c′) p (subst (Led n some M equal w gs i e fs) q l)
@@ -85,7 +85,8 @@ module _ (n : ℕ) (some : 1 ≤ n) (M : Model) (equal : n - 1 ≡ M .last) (w :
           cond (eqb n 1) (World.closes took) took
 
       pub started-goes : let l = started (v .memories i) output in
-          Goes (start (length output) (gs i)) (afterStarting n i (l .memory) (framesIn (l .answer .written) (l .output)) v)
+          let u = afterStarting n i (l .memory) (framesIn (l .answer .written) (l .output)) v in
+          Goes (start (length output) (gs i)) (u .underWay) (u .rounds)
       unfolding started afterStarting
       started-goes =
           let e = begun (gs i) in
@@ -175,7 +176,7 @@ module _ (n : ℕ) (some : 1 ≤ n) (M : Model) (equal : n - 1 ≡ M .last) (w :
         opened : v .rounds .opened ≡ suc (w .rounds .tag)
         opened = open-number (figureGraph n some) (v .rounds) (w .rounds) (alike .counted) is-open
 
-        open-goes : Led n some M equal w gs i e (roundsIn rest ++ roundsOf (w .rounds .tag) (e .frames)) (openCounters (length (e .frames))) → Goes outcome after
+        open-goes : Led n some M equal w gs i e (roundsIn rest ++ roundsOf (w .rounds .tag) (e .frames)) (openCounters (length (e .frames))) → Goes outcome (after .underWay) (after .rounds)
         open-goes led =
             record {
               effect = e;
@@ -196,7 +197,7 @@ module _ (n : ℕ) (some : 1 ≤ n) (M : Model) (equal : n - 1 ≡ M .last) (w :
       t = tagOf frame (v .underWay) - 1
 
       -- taking a Start
-      pub start-goes : m .kind ≡ Start → Goes outcome after
+      pub start-goes : m .kind ≡ Start → Goes outcome (after .underWay) (after .rounds)
       start-goes is =
           let heard = from (gs i .settings .n) (gs i .settings .own) in
           let e = oneStart heard (gs i .round .arrived + bitOf (m .from) heard) (gs i) in
@@ -211,7 +212,7 @@ module _ (n : ℕ) (some : 1 ≤ n) (M : Model) (equal : n - 1 ≡ M .last) (w :
           (rw is (start-taken-led n some M equal w k gs i inside a alike (m .from) t (roundsIn rest) x))
 
       -- taking an Lvt
-      pub lvt-goes : m .kind ≡ Lvt → gs i .round .note < 4294967296 → Goes outcome after
+      pub lvt-goes : m .kind ≡ Lvt → gs i .round .note < 4294967296 → Goes outcome (after .underWay) (after .rounds)
       lvt-goes is small =
           let told = to (gs i .settings .n) (gs i .settings .own) in
           let value = min (valueIn (gs i .round .phase) (gs i)) (m .hour) in
@@ -237,7 +238,7 @@ module _ (n : ℕ) (some : 1 ≤ n) (M : Model) (equal : n - 1 ≡ M .last) (w :
         update-counted = rw (is, cut e same s, frames-counted (v .rounds .open?) (s .readable) (s .counting)) refl
 
       -- taking an Update
-      pub update-goes : m .kind ≡ Update → m .hour < 4294967296 → All Numbered (v .underWay) → Goes outcome after
+      pub update-goes : m .kind ≡ Update → m .hour < 4294967296 → All Numbered (v .underWay) → Goes outcome (after .underWay) (after .rounds)
       update-goes is small numbered =
           let e : Effect = record { gateway = withAgreed (max (gs i .agreed) (m .hour)) (gs i); frames = frames Update (m .hour) (gs i .settings .own) (children (gs i .settings)) } in
           let x = round-taken frame (v .underWay) found (RoundSteps.update (m .from) i t (m .hour)) (ap (byKind t m) is ∙ ap (λ (j : ℕ). RoundSteps.update (m .from) j t (m .hour) ∷ []) addressed) in

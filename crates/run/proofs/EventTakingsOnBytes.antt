@@ -1,0 +1,152 @@
+-- Taking a plain message, a cancel or an acknowledgment on bytes keeps the relation of both worlds, where the frame was under way and is accepted.
+use mathlib.Core.Path.{_≡_, refl, sym, _∙_, ap, subst}
+use Prim.Native.Nat.{ℕ, suc, _+_, _-_, _≤_, _<_}
+use native.Mathlib.Omega.{arith}
+use mathlib.Core.Bool.{Bool, true, false, cond, _&&_}
+use mathlib.Core.List.{List, [], _∷_, map}
+use lib.Dec.{eqb}
+use lib.ListN.{length}
+use borrow.Author.Tests.{eq-eqb, ne-eqb}
+use Rattle.buffer.specs.Slice.{Bytes, write}
+use Rattle.model.specs.Messages.{kindNumber}
+use Rattle.model.specs.declared.Message.{Message}
+use Rattle.frame.specs.Reasons.{reading, formNumber}
+use Rattle.frame.specs.Writing.{wellFormed, written}
+use Rattle.frame.specs.declared.Frame.{Frame}
+use Rattle.frame.specs.declared.Form.the-variants.{Good}
+use Rattle.frame.specs.declared.Sense.{Sense}
+use Rattle.frame.specs.declared.Sense.the-variants.{Plain, Cancel, Acknowledgment, CancelAcknowledgment}
+use Rattle.frame.proofs.Laws.{one-to-one}
+use Rattle.memory.specs.Records.{Gateway}
+use Rattle.memory.specs.Codec.{decode, encode}
+use Rattle.gateway.specs.Effects.{Outcome}
+use Rattle.gateway.specs.Taking.{any, withoutFirst}
+use Rattle.gateway.specs.Calls.{Left, takeFrame, takeBytes, taken}
+use Rattle.gateway.specs.declared.Answer.{Answer}
+use Rattle.gateway.proofs.Maintaining.{Kept}
+use Rattle.gateway.proofs.Keeps.{bytes-keep}
+use Rattle.gateway.proofs.Accepting.{form-good, not-refused}
+use Rattle.timewarp.specs.Lists.{All}
+use Rattle.timewarp.specs.Worlds as Worlds
+use Rattle.timewarp.proofs.ListLaws.{all-map}
+use Rattle.run.specs.Lines.{change}
+use Rattle.run.specs.SingleQueue.{SetUp}
+use Rattle.run.specs.World.{World, Carried, Rounds, framesIn, carry, isFrame, kindIn, takenBySense, tookMore, roundFrames, afterTaking}
+use Rattle.run.proofs.FigureGraph.{figureGraph}
+use Rattle.run.proofs.AcceptedFrames.{Accepted, BytesAccepted, bytes-accepted}
+use Rattle.run.proofs.EventTakings.{TakeGoes, taken-goes}
+use Rattle.run.proofs.ReadableFrames.{EventFrame, sensed-kind}
+use Rattle.run.proofs.FramesCut.{frames-in}
+use Rattle.run.proofs.RoundsUnderWay.{carried-rest}
+use Rattle.run.proofs.AcceptedCalls.{left, on-sound}
+use Rattle.run.proofs.HeldGateways.{Holds, written-held}
+use Rattle.run.proofs.EventFrames.{rounds-still, rounds-left, none-counted, took-none, numbered-still}
+use Rattle.run.proofs.BesideCalls.{worldAfter, change-self}
+use Rattle.run.proofs.BothWorlds.{forecastSetting, Both, Keeps, proper, sees}
+use Rattle.run.proofs.EventsKept.{Comes, keeps}
+
+-- a frame that is none of a round: plain of a kind below 4, or with a sense
+kind-few : (f : Frame) → wellFormed f ≡ true → (f .sense ≡ Plain → kindNumber (f .message .kind) < 4) → kindNumber (f .message .kind) < 4
+kind-few f form plain = by-sense (f .sense) refl
+  where
+    by-sense : (s : Sense) → f .sense ≡ s → kindNumber (f .message .kind) < 4
+    by-sense Plain e = plain e
+    by-sense Cancel e = omega (arith, sensed-kind (f .message) (f .sense) (rw e (omega arith)) form)
+    by-sense Acknowledgment e = omega (arith, sensed-kind (f .message) (f .sense) (rw e (omega arith)) form)
+    by-sense CancelAcknowledgment e = omega (arith, sensed-kind (f .message) (f .sense) (rw e (omega arith)) form)
+
+-- the world after taking such a frame: the rounds stay as they were
+taken-world : (n i : ℕ) (frame memory : List ℕ) {fs : List Frame} → All EventFrame fs → (w : World) → kindIn frame < 4 →
+    worldAfter w i memory (carry (w .rounds .opened) (map written fs) (withoutFirst (isFrame frame) (w .underWay))) (w .records i)
+    (takenBySense (reading frame .frame .message) (reading frame .frame .sense) (w .ledgers i)) (w .rounds)
+    ≡ afterTaking n i frame memory (map written fs) w
+unfolding afterTaking
+taken-world n i frame memory {fs} a w few =
+    rw (ne-eqb (kindIn frame) 6 (λ e. omega arith), ne-eqb (kindIn frame) 5 (λ e. omega arith))
+    (λ k. record {
+      memories = change i memory (w .memories);
+      underWay = carry (w .rounds .opened) (map written fs) (withoutFirst (isFrame frame) (w .underWay));
+      records = change-self i (w .records) k;
+      ledgers = change i (takenBySense (reading frame .frame .message) (reading frame .frame .sense) (w .ledgers i)) (w .ledgers);
+      rounds = unchanged k;
+    })
+  where
+    unchanged : w .rounds ≡ tookMore (w .rounds .opened) (roundFrames (w .rounds .open?) (map written fs)) (w .rounds)
+    unchanged =
+        sym (ap (λ (m : ℕ). tookMore (w .rounds .opened) m (w .rounds)) (none-counted (w .rounds .open?) a) ∙ took-none (w .rounds .opened) (w .rounds))
+
+module _ (n : ℕ) (some : 1 ≤ n) (last : ℕ) (setups : ℕ → SetUp) {w : World} {t : Worlds.World (forecastSetting n some last setups)} (b : Both n some last setups w t) (i : ℕ) (h : i < n) (frame : List ℕ) (bytes : Bytes frame) (output : List ℕ) where
+  abbrev g : Gateway
+  g = decode (w .memories i)
+
+  abbrev o : Outcome
+  o = takeBytes frame (length output) g
+
+  abbrev tag : ℕ
+  tag = w .rounds .opened
+
+  kept : Kept (g .settings) (o .gateway)
+  kept = bytes-keep (proper n some last setups b i h) frame bytes (length output) .gateway
+
+  module _ (a : BytesAccepted frame (length output) g) (found : any (isFrame frame) (w .underWay) ≡ true) (plain : reading frame .frame .sense ≡ Plain → kindIn frame < 4) where
+    formed : wellFormed (reading frame .frame) ≡ true
+    formed = one-to-one .readWellFormed frame bytes (form-good (reading frame .form) (eq-eqb (formNumber (reading frame .form)) 0 (a .good)))
+
+    few : kindIn frame < 4
+    few = kind-few (reading frame .frame) formed plain
+
+    goes : TakeGoes one-to-one n last setups (figureGraph n some) refl i (omega arith) (b .beside .done i) t g (w .underWay) (w .ledgers i)
+        (proper n some last setups b i h) (b .stands i h) (sees n some last setups b i h) (b .beside .ledgers i h) frame found tag o
+    goes =
+        taken-goes one-to-one n last setups (figureGraph n some) refl i (omega arith) (b .beside .done i) t g (w .underWay) (w .ledgers i)
+        (proper n some last setups b i h) (b .stands i h) (sees n some last setups b i h) (b .beside .ledgers i h) frame found tag
+        formed
+        (one-to-one .readRanged frame bytes (form-good (reading frame .form) (eq-eqb (formNumber (reading frame .form)) 0 (a .good))))
+        (not-refused (g .settings) (reading frame .frame) (a .passes))
+        few
+        (length output)
+        (subst (Accepted (length output) (reading frame .frame) g) (sym (a .comes-to)) (a .taken))
+        kept
+
+    cut : framesIn (length (o .output)) (write 0 (o .output) output) ≡ map written (goes .frames)
+    cut =
+        subst (λ (x : List ℕ). framesIn (length x) (write 0 x output) ≡ map written (goes .frames)) (goes .bytes)
+        (frames-in (goes .frames) output (all-map (λ f e. e .whole) (goes .are-events)))
+
+    abbrev underWay : List Carried
+    underWay = carry tag (map written (goes .frames)) (withoutFirst (isFrame frame) (w .underWay))
+
+    comes : Comes n some last setups b i h (o .gateway) (b .beside .done i) underWay (takenBySense (reading frame .frame .message) (reading frame .frame .sense) (w .ledgers i))
+    comes =
+        record {
+          sends = goes .sends;
+          goes = goes .goes;
+          stands = goes .stands;
+          follows = goes .follows;
+          round = goes .noted .round;
+          agreed = goes .noted .agreed;
+          still = rounds-still tag (goes .are-events) (withoutFirst (isFrame frame) (w .underWay)) ∙ rounds-left frame (w .underWay) few;
+          numbered = numbered-still tag (goes .are-events) (carried-rest (isFrame frame) (b .numbered));
+        }
+
+    take-kept : Keeps n some last setups t (afterTaking n i frame (encode (o .gateway) (w .memories i)) (map written (goes .frames)) w)
+    take-kept =
+        subst (Keeps n some last setups t) (taken-world n i frame (encode (o .gateway) (w .memories i)) (goes .are-events) w few)
+        (keeps n some last setups b i h (encode (o .gateway) (w .memories i)) (o .gateway) (written-held (w .memories i) (b .bytes i h) (o .gateway) kept)
+        (b .beside .done i)
+        underWay
+        (takenBySense (reading frame .frame .message) (reading frame .frame .sense) (w .ledgers i))
+        comes
+        (w .records i)
+        (b .beside .records i h))
+
+  pub event-taken-kept : taken (w .memories i) frame output .answer .number ≡ 0 → any (isFrame frame) (w .underWay) ≡ true →
+      (reading frame .frame .sense ≡ Plain → kindIn frame < 4) →
+      let l = taken (w .memories i) frame output in
+      Keeps n some last setups t (afterTaking n i frame (l .memory) (framesIn (l .answer .written) (l .output)) w)
+  unfolding taken
+  event-taken-kept z found plain =
+      let (is-sound, number, leaves) = on-sound (takeBytes frame) (w .memories i) output z in
+      let a = bytes-accepted frame (length output) g number in
+      subst (λ (l : Left Answer). Keeps n some last setups t (afterTaking n i frame (l .memory) (framesIn (l .answer .written) (l .output)) w)) (sym leaves)
+      (subst (λ (fs : List (List ℕ)). Keeps n some last setups t (afterTaking n i frame (encode (o .gateway) (w .memories i)) fs w)) (sym (cut a found plain)) (take-kept a found plain))

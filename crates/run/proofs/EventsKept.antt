@@ -1,0 +1,120 @@
+-- A call on events at one gateway keeps the relation of both worlds: what is asked of the call, and the world that it leads to.
+use mathlib.Core.Path.{_≡_, refl, sym, _∙_, ap, subst}
+use Prim.Native.Nat.{ℕ, _-_, _≤_, _<_}
+use native.Mathlib.Omega.{arith}
+use mathlib.Core.Bool.{Bool, true, false, cond}
+use mathlib.Core.List.{List, [], _∷_}
+use lib.Dec.{eqb}
+use borrow.Author.Tests.{eqb-true}
+use Rattle.model.specs.declared.Message.{Message}
+use Rattle.memory.specs.Records.{Gateway}
+use Rattle.memory.specs.Codec.{decode}
+use Rattle.memory.specs.declared.Round.{Round}
+use Rattle.gateway.specs.Effects.{withRound}
+use Rattle.gateway.specs.Claims.{SoundBytes}
+use Rattle.timewarp.specs.Lists.{All}
+use Rattle.timewarp.specs.Families as Families
+use Rattle.timewarp.specs.RoundSteps as RoundSteps
+use Rattle.timewarp.specs.RoundSteps.{RoundFrame}
+use Rattle.timewarp.specs.Worlds as Worlds
+use Rattle.timewarp.specs.Worlds.{lowerAll}
+use Rattle.run.specs.Lines.{change}
+use Rattle.run.specs.SingleQueue.{SetUp}
+use Rattle.run.specs.Ledger as Ledger
+use Rattle.run.specs.World.{World, Carried}
+use Rattle.run.proofs.FigureGraph.{figureGraph}
+use Rattle.run.proofs.SingleQueues.{recordOf}
+use Rattle.run.proofs.EventCalls.{Stands, notedAll}
+use Rattle.run.proofs.Ledgers.{Follows}
+use Rattle.run.proofs.EventWorlds.{GoesOn}
+use Rattle.run.proofs.RoundsUnderWay.{Numbered, roundsIn}
+use Rattle.run.proofs.RoundWorlds.{Alike, alike-again}
+use Rattle.run.proofs.RoundNotes.{alike-sent}
+use Rattle.run.proofs.HeldGateways.{Holds}
+use Rattle.run.proofs.BesideCalls.{worldAfter, beside-after, done-after}
+use Rattle.run.proofs.BothWorlds.{model, forecastSetting, gatewaysIn, Both, Keeps}
+
+module _ (n : ℕ) (some : 1 ≤ n) (last : ℕ) (setups : ℕ → SetUp) {w : World} {t : Worlds.World (forecastSetting n some last setups)} (b : Both n some last setups w t) (i : ℕ) (h : i < n) where
+  -- What a call on events at gateway i comes to: the gateway next, which has committed c, the frames cs under way, and the ledger l.
+  pub record Comes (next : Gateway) (c : List Message) (cs : List Carried) (l : Ledger.Ledger) : Type 1 where
+    -- the messages and cancels that it sends, which lower the note, and nothing else of the rounds changes
+    pub sends : List Message
+    pub goes : GoesOn n last setups (figureGraph n some) refl t i sends c next cs
+    pub stands : Stands n last setups i c next
+    pub follows : Follows n last setups (next .queue) l
+    pub round : next .round ≡ notedAll sends (gatewaysIn n some last setups w i .round)
+    pub agreed : next .agreed ≡ gatewaysIn n some last setups w i .agreed
+    pub still : roundsIn cs ≡ roundsIn (w .underWay)
+    pub numbered : All Numbered cs
+
+  module _ (memory : List ℕ) (next : Gateway) (holds : Holds (decode (w .memories i)) memory next) (c : List Message) (cs : List Carried) (l : Ledger.Ledger) (comes : Comes next c cs l) where
+    -- the gateways after it
+    abbrev after : ℕ → Gateway
+    after j = decode (change i memory (w .memories) j)
+
+    goes-on : GoesOn n last setups (figureGraph n some) refl t i (comes .sends) c (decode memory) cs
+    goes-on = subst (λ (x : Gateway). GoesOn n last setups (figureGraph n some) refl t i (comes .sends) c x cs) (sym (holds .holds)) (comes .goes)
+
+    stands-at : (j : ℕ) → j < n → (x : Bool) → eqb i j ≡ x → Stands n last setups j (cond x c (b .beside .done j)) (decode (cond x memory (w .memories j)))
+    stands-at j k true e =
+        subst (λ (m : ℕ). Stands n last setups m c (decode memory)) (eqb-true i j e)
+        (subst (λ (x : Gateway). Stands n last setups i c x) (sym (holds .holds)) (comes .stands))
+    stands-at j k false e = b .stands j k
+
+    bytes-at : (j : ℕ) → j < n → (x : Bool) → SoundBytes (cond x memory (w .memories j))
+    bytes-at j k true = holds .still
+    bytes-at j k false = b .bytes j k
+
+    -- the gateway as it was, with the note lowered
+    abbrev noted : Gateway
+    noted = withRound (notedAll (comes .sends) (decode (w .memories i) .round)) (decode (w .memories i))
+
+    round-at : (j : ℕ) → Families.change i noted (gatewaysIn n some last setups w) j .round ≡ after j .round
+    unfolding Families.change change
+    round-at j = by-case (eqb i j)
+      where
+        by-case : (x : Bool) → cond x noted (decode (w .memories j)) .round ≡ decode (cond x memory (w .memories j)) .round
+        by-case true = sym (ap (λ (x : Gateway). x .round) (holds .holds) ∙ comes .round)
+        by-case false = refl
+
+    agreed-at : (j : ℕ) → Families.change i noted (gatewaysIn n some last setups w) j .agreed ≡ after j .agreed
+    unfolding Families.change change
+    agreed-at j = by-case (eqb i j)
+      where
+        by-case : (x : Bool) → cond x noted (decode (w .memories j)) .agreed ≡ decode (cond x memory (w .memories j)) .agreed
+        by-case true = sym (ap (λ (x : Gateway). x .agreed) (holds .holds) ∙ comes .agreed)
+        by-case false = refl
+
+    alike-after : Alike n some (model n some last setups) refl after (roundsIn cs) (w .rounds) (goes-on .world .rounds)
+    alike-after =
+        subst (λ (fs : List RoundFrame). Alike n some (model n some last setups) refl after fs (w .rounds) (goes-on .world .rounds)) (sym (comes .still))
+        (subst (λ (r : RoundSteps.Rounds). Alike n some (model n some last setups) refl after (roundsIn (w .underWay)) (w .rounds) r) (sym (goes-on .rounds))
+        (alike-again n some (model n some last setups) refl after round-at agreed-at
+        (alike-sent n some last setups i (omega arith) (comes .sends) (gatewaysIn n some last setups w) (b .rounds))))
+
+    -- the world after the call, with bytes as the record that gateway i has committed
+    module _ (bytes : List ℕ) (written : bytes ≡ recordOf n last setups i c) where
+      abbrev time : decode memory .agreed ≡ decode (w .memories i) .agreed
+      time = ap (λ (x : Gateway). x .agreed) (holds .holds) ∙ comes .agreed
+
+      abbrev follows : Follows n last setups (decode memory .queue) l
+      follows = subst (λ (x : Gateway). Follows n last setups (x .queue) l) (sym (holds .holds)) (comes .follows)
+
+      pub keeps : Keeps n some last setups t (worldAfter w i memory cs bytes l (w .rounds))
+      unfolding change
+      keeps =
+          record {
+            world = goes-on .world;
+            steps = goes-on .steps;
+            both =
+                record {
+                  beside = beside-after n last setups (figureGraph n some) refl w t (b .beside) i h memory c cs bytes l (w .rounds) (holds .still .is-sound) goes-on time written follows;
+                  stands = λ j k.
+                      subst (λ (d : ℕ → List Message). Stands n last setups j (d j) (after j))
+                      (sym (done-after n last setups (figureGraph n some) refl w t (b .beside) i h memory c cs bytes l (w .rounds) (holds .still .is-sound) goes-on time written follows))
+                      (stands-at j k (eqb i j) refl);
+                  bytes = λ j k. bytes-at j k (eqb i j);
+                  rounds = alike-after;
+                  numbered = comes .numbered;
+                };
+          }
