@@ -38,10 +38,12 @@ pub mod RoundNotes
 pub mod RoundClaims
 pub mod RoundOpening
 pub mod SendableFrames
-pub mod StartOnBytes
+pub mod RoundEffects
+pub mod RoundsOnBytes
 pub mod EventFrames
 pub mod BesideCalls
 pub mod BothWorlds
+pub mod RoundsKept
 pub mod OpeningRelation
 pub mod EventsKept
 pub mod WorkOnBytes

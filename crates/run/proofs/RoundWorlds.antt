@@ -24,6 +24,11 @@ use Rattle.timewarp.specs.RoundSteps.{RoundFrame, start, lvt, update}
 use Rattle.timewarp.specs.Worlds
 use Rattle.timewarp.specs.Worlds.{Steps, none}
 use Rattle.timewarp.proofs.FamilyLaws.{Changed, at, off, change?}
+use Rattle.timewarp.proofs.ListLaws.{all-taken, tally-insert}
+use Rattle.timewarp.proofs.RoundFrames.{startOn, both-is}
+use Rattle.timewarp.proofs.RoundArcs.{StateOf}
+use Rattle.timewarp.proofs.RoundArcs
+use Rattle.timewarp.proofs.RoundCarried.{of-start, of-lvt}
 use Rattle.timewarp.proofs.Joined.{Good}
 use Rattle.run.specs.World
 use Rattle.run.specs.World.{Carried, carry, roundFrames, kindIn}
@@ -68,7 +73,7 @@ module _ (n : ℕ) (some : 1 ≤ n) (M : Model) (equal : n - 1 ≡ M .last) wher
     Now = RoundChains.Now n some M equal w k (λ j. gs j .round) (λ j. gs j .agreed) i inside (gs i .round) (gs i .agreed)
 
     -- at the beginning of the call
-    entering : {underWay : List RoundFrame} {c : World.Rounds} → Alike gs underWay c (w .rounds) → Now c (w .rounds)
+    pub entering : {underWay : List RoundFrame} {c : World.Rounds} → Alike gs underWay c (w .rounds) → Now c (w .rounds)
     entering a =
         record {
           steps = none;
@@ -77,6 +82,29 @@ module _ (n : ℕ) (some : 1 ≤ n) (M : Model) (equal : n - 1 ≡ M .last) wher
           counted = a .counted;
           unfinished = a .unfinished;
         }
+
+    -- the round is open while a Start or an Lvt of it is under way
+    module _ {underWay : List RoundFrame} {c : World.Rounds} (h : Alike gs underWay c (w .rounds)) (rest : List RoundFrame) where
+      open-by : (j : ℕ) → j ≤ n - 1 → 1 ≤ w .rounds .status j → c .open? ≡ true
+      open-by = RoundChains.open-by n some M equal w k (λ j. gs j .round) (λ j. gs j .agreed) i inside (entering h)
+
+      pub open-by-start : (j t : ℕ) → Insert (start j i t) rest underWay → c .open? ≡ true
+      unfolding startOn
+      open-by-start j t x =
+          let y = subst (Insert (start j i t) rest) (h .frames) x in
+          let a = of-start (all-taken y (k .rounds-sound .carried)) .0 in
+          open-by j (omega (arith, figureGraph n some .upward j i a)) (begins y (k .rounds-sound .arcs j i a))
+        where
+          begins : Insert (start j i t) rest (w .rounds .frames) → StateOf (figureGraph n some) (w .rounds .status) (w .rounds .mark) (w .rounds .arrived) (w .rounds .frames) j i → 1 ≤ w .rounds .status j
+          begins y (RoundArcs.fresh p) = omega (arith, tally-insert (startOn j i) y, both-is j i j i refl refl)
+          begins y (RoundArcs.begun p) = omega arith
+          begins y (RoundArcs.back p) = omega arith
+
+      pub open-by-lvt : (j t v : ℕ) → Insert (lvt j i t v) rest underWay → c .open? ≡ true
+      open-by-lvt j t v x =
+          let y = subst (Insert (lvt j i t v) rest) (h .frames) x in
+          let (a, s, e, d) = of-lvt (all-taken y (k .rounds-sound .carried)) in
+          open-by j (omega (arith, figureGraph n some .upward i j a)) (omega arith)
 
     -- and at its end
     leaving : {e : Effect} {c : World.Rounds} {underWay : List RoundFrame} {t : ℕ}
