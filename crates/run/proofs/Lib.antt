@@ -49,6 +49,7 @@ pub mod EventsKept
 pub mod WorkOnBytes
 pub mod CommitOnBytes
 pub mod EventTakingsOnBytes
+pub mod TakingsKept
 pub mod RefusedCalls
 pub mod FramesInTurn
 pub mod KeptRelation
