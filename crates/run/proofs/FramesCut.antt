@@ -1,5 +1,5 @@
 -- What a call wrote, cut into frames again.
-use mathlib.Core.Path.{_≡_, refl, sym, _∙_, ap}
+use mathlib.Core.Path.{_≡_, refl, _∙_, ap}
 use mathlib.Core.List.{List, [], _∷_, _++_, map}
 use Prim.Native.Nat.{ℕ, zero, suc, _+_, _≤_}
 use native.Mathlib.Omega.{arith}
@@ -12,7 +12,7 @@ use Rattle.frame.specs.Writing.{written}
 use Rattle.frame.specs.declared.Frame.{Frame}
 use Rattle.gateway.specs.Effects.{bytesOfFrames}
 use Rattle.gateway.specs.SettingUp.{cutFrames}
-use Rattle.timewarp.specs.Lists.{All, nil, cons}
+use Rattle.timewarp.specs.Lists.{All, cons}
 use Rattle.run.specs.World.{framesIn}
 
 -- a frame is as long as the table says of its map

@@ -3,8 +3,8 @@ use mathlib.Core.Path.{_≡_, refl, sym, _∙_, ap, subst}
 use Prim.Native.Nat.{ℕ, _-_, _≤_, _<_}
 use native.Mathlib.Omega.{arith}
 use mathlib.Core.Bool.{Bool, true, false, cond}
-use mathlib.Core.List.{List, [], _∷_, map}
-use lib.Dec.{eqb, leb}
+use mathlib.Core.List.{List}
+use lib.Dec.{eqb}
 use lib.ListN.{length}
 use borrow.Author.Tests.{eqb-true, lt-leb}
 use Rattle.buffer.specs.Slice.{Bytes}
@@ -13,12 +13,10 @@ use Rattle.model.specs.declared.Message.{Message}
 use Rattle.model.specs.declared.Kind.{Kind}
 use Rattle.model.specs.declared.Kind.the-variants.{Failure, Request, Delivery, Restock, Start, Lvt, Update}
 use Rattle.frame.specs.Reasons.{reading}
-use Rattle.frame.specs.declared.Sense.{Sense}
 use Rattle.frame.specs.declared.Sense.the-variants.{Plain}
 use Rattle.frame.proofs.Laws.{one-to-one}
 use Rattle.memory.specs.Records.{Gateway}
 use Rattle.memory.specs.Codec.{decode}
-use Rattle.memory.specs.Soundness.{sound}
 use Rattle.memory.specs.declared.Settings.{Settings}
 use Rattle.memory.proofs.Validated.{ValidSettings, valid-facts}
 use Rattle.gateway.specs.Effects.{Outcome, withAgreed, withRound}
@@ -28,17 +26,13 @@ use Rattle.gateway.specs.Calls.{started, taken, takeBytes}
 use Rattle.gateway.specs.Claims.{SoundBytes}
 use Rattle.gateway.proofs.Accepting.{form-good}
 use Rattle.gateway.proofs.Keeps.{start-keeps, bytes-keep}
-use Rattle.timewarp.specs.Lists.{All}
 use Rattle.timewarp.specs.Models.{hour}
 use Rattle.timewarp.specs.Families as Families
-use Rattle.timewarp.specs.Gateways.{Gateway as View}
 use Rattle.timewarp.specs.Worlds as Worlds
 use Rattle.timewarp.proofs.CallChains.{steps-join}
 use Rattle.run.specs.Lines.{change}
 use Rattle.run.specs.SingleQueue.{SetUp}
-use Rattle.run.specs.Ledger.{Ledger}
 use Rattle.run.specs.World.{World, Carried, Rounds, kindIn, framesIn, isFrame, takenBySense, afterStarting, afterTaking}
-use Rattle.run.proofs.FigureGraph.{figureGraph}
 use Rattle.run.proofs.QueueViews.{viewOf}
 use Rattle.run.proofs.LeastHours.{least-outstanding, least-queued}
 use Rattle.run.proofs.EventCalls.{Stands}
@@ -52,7 +46,7 @@ use Rattle.run.proofs.RoundChains.{withRounds}
 use Rattle.run.proofs.RoundWorlds.{Alike, Called, alike-again}
 use Rattle.run.proofs.RoundsOnBytes.{Goes, started-goes, start-goes, lvt-goes, update-goes}
 use Rattle.run.proofs.BesideCalls.{change-self}
-use Rattle.run.proofs.BothWorlds.{model, forecastSetting, gatewaysIn, Both, Keeps, good-world, held, proper}
+use Rattle.run.proofs.BothWorlds.{model, forecastSetting, gatewaysIn, Both, Keeps, good-world, proper}
 
 module _ (n : ℕ) (some : 1 ≤ n) (last : ℕ) (setups : ℕ → SetUp) {w : World} {t : Worlds.World (forecastSetting n some last setups)} (b : Both n some last setups w t) (i : ℕ) (h : i < n) where
   abbrev inside : i ≤ n - 1

@@ -9,7 +9,6 @@ use lib.ListN.{length}
 use Rattle.routing.specs.Arcs.{from, to}
 use Rattle.model.specs.Messages.{kindNumber}
 use Rattle.model.specs.declared.Message.{Message}
-use Rattle.model.specs.declared.Kind.{Kind}
 use Rattle.model.specs.declared.Kind.the-variants.{Start, Lvt, Update}
 use Rattle.frame.specs.Limits.{addressee}
 use Rattle.frame.specs.Reasons.{reading}
@@ -25,7 +24,7 @@ use Rattle.gateway.specs.Rounds.{start, begun, isIdle, oneStart, oneLvt, bitOf,
 use Rattle.gateway.specs.Taking.{any, withoutFirst}
 use Rattle.gateway.specs.Calls.{started, taken, takeBytes}
 use Rattle.gateway.proofs.Accepting.{not-refused}
-use Rattle.timewarp.specs.Lists.{All, Insert}
+use Rattle.timewarp.specs.Lists.{All}
 use Rattle.timewarp.specs.Models.{Model}
 use Rattle.timewarp.specs.Gateways.{Event, networkOf}
 use Rattle.timewarp.specs.RoundSteps
@@ -42,7 +41,7 @@ use Rattle.run.proofs.RoundCounters.{isOpen, open-number}
 use Rattle.run.proofs.RoundChains.{setting}
 use Rattle.run.proofs.EventsUnderWay.{seenIn, seen-carried, seen-left, eventBySense, eventOf, acknowledgedBySense, acknowledgedOf, plainByKind}
 use Rattle.run.proofs.EventWorlds.{networkIn}
-use Rattle.run.proofs.RoundsUnderWay.{byKind, roundOf, roundsIn, roundsOf, rounds-carried, round-taken, Numbered, carried-rest, carried-more, number-found}
+use Rattle.run.proofs.RoundsUnderWay.{byKind, roundsIn, roundsOf, rounds-carried, round-taken, Numbered, carried-rest, carried-more, number-found}
 use Rattle.run.proofs.RoundWorlds.{Alike, Led, Called, start-led, start-taken-led, lvt-taken-led, update-taken-led, open-by-start, open-by-lvt}
 use Rattle.run.proofs.AcceptedFrames.{outcomeOf, bytes-accepted}
 use Rattle.run.proofs.AcceptedCalls.{on-sound, call-frames, start-accepted, start-bytes, lvt-bytes, update-bytes}

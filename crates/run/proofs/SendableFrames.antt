@@ -1,8 +1,8 @@
 -- The frames that a gateway writes for a round: they are read as they were written, count for the round, and are no events.
-use mathlib.Core.Path.{_≡_, refl, sym, _∙_, ap, subst}
+use mathlib.Core.Path.{_≡_, refl}
 use mathlib.Core.Bool.{Bool, true, false, cond}
-use mathlib.Core.List.{List, [], _∷_, _++_, map}
-use Prim.Native.Nat.{ℕ, _+_, _*_, _^_, _≤_, _<_, min}
+use mathlib.Core.List.{List, [], _∷_, map}
+use Prim.Native.Nat.{ℕ, _+_, _*_, _^_, _≤_, _<_}
 use native.Mathlib.Omega.{arith}
 use lib.Dec.{eqb, ltb}
 use borrow.Author.Tests.{ltb-true}
@@ -25,7 +25,7 @@ use Rattle.memory.proofs.Validated.{ValidSettings}
 use Rattle.gateway.specs.Rounds.{leastOutstanding, roundFrame, frames, ifBelow, children, valueAt, valueIn, finished, begun, allBits, oneStart, oneLvt}
 use Rattle.gateway.specs.Effects.{Effect}
 use Rattle.timewarp.specs.Lists.{All, nil, cons}
-use Rattle.timewarp.specs.Gateways.{Event, message}
+use Rattle.timewarp.specs.Gateways.{message}
 use Rattle.timewarp.proofs.ListLaws.{all-append, all-image, all-every, least-never}
 use Rattle.run.proofs.QueueChanges.{each-all}
 use Rattle.run.proofs.QueueViews.{eventFor}
