@@ -7,6 +7,7 @@ pub mod SavedStates
 pub mod UndoChains
 pub mod QueueChanges
 pub mod EventCalls
+pub mod DueHours
 pub mod SingleQueues
 pub mod LedgerItems
 pub mod Ledgers
@@ -16,6 +17,7 @@ pub mod EventWorlds
 pub mod OpeningQueues
 pub mod RoundsUnderWay
 pub mod FramesCut
+pub mod PassingFrames
 pub mod ReadableFrames
 pub mod WorkChains
 pub mod CommittedRecords
