@@ -37,7 +37,7 @@ use Rattle.run.proofs.EventCalls.{Stands, notedAll, plainBack, plain-sa
 use Rattle.run.proofs.EventsUnderWay.{IsEvent}
 use Rattle.run.proofs.AcceptedFrames.{outcomeOf, acknowledgmentSense, Accepted, plain-taken, cancel-taken, acknowledgment-taken, start-taken, lvt-taken, update-taken}
 use Rattle.run.proofs.Ledgers.{Follows, entered-follows, struckOut-follows}
-use Rattle.run.proofs.ReadableFrames.{EventFrame, sensed-kind, acknowledgment-frame, back-frames}
+use Rattle.run.proofs.ReadableFrames.{EventFrame, same-limits, frames-hours, sensed-kind, acknowledgment-frame, back-frames}
 use Rattle.run.proofs.EventWorlds.{settingOf, Sees, GoesOn, plain-frames, cancel-frames, plain-goes, cancel-goes, acknowledgment-goes}
 use Rattle.run.proofs.TakeChains.{Noted, still-stands, plain-noted, cancel-noted}
 
@@ -49,8 +49,9 @@ module _ (one : OneToOne) (n last : ℕ) (setups : ℕ → SetUp) (G : Graph) (s
   pub record TakeGoes (o : Outcome) : Type 1 where
     pub frames : List Frame
     pub bytes : bytesOfFrames frames ≡ o .output
-    pub are-events : All EventFrame frames
+    pub are-events : All (EventFrame n last) frames
     pub sends : List Message
+    pub timely : All (λ x. x .hour ≤ last) sends
     pub goes : GoesOn n last setups G same w i sends c (o .gateway) (carry tag (map written frames) (withoutFirst (isFrame frame) cs))
     pub stands : Stands n last setups i c (o .gateway)
     pub follows : Follows n last setups (o .gateway .queue) (takenBySense m (reading frame .frame .sense) l)
@@ -60,31 +61,35 @@ module _ (one : OneToOne) (n last : ℕ) (setups : ℕ → SetUp) (G : Graph) (s
   held : (e : Entry) → e ∈ g .queue → Good (g .settings) (isWaiting e) (e .message)
   held e k = record { storable = valid-facts g (p .valid) .entries e k .message; ranged = p .ranged .queue e k .message }
 
-  plain-back-frames : (t : Bool) → any (isCancelOf m) (g .queue) ≡ t → All EventFrame (framesFor true (plainBack n last setups i c g st m))
+  -- the settings are those of the forecast
+  settled : {f : Frame} → EventFrame (g .settings .n) (g .settings .last) f → EventFrame n last f
+  settled e = same-limits (st .count) (st .until) e
+
+  plain-back-frames : (t : Bool) → any (isCancelOf m) (g .queue) ≡ t → All (EventFrame n last) (framesFor true (plainBack n last setups i c g st m))
   unfolding plainBack
   plain-back-frames true q = rw q nil
   plain-back-frames false q =
       rw q
-      (back-frames one (g .settings) (valid-facts g (p .valid) .settings) (processedOf (behind m (g .queue)))
-      (λ e k. held e (subst (λ es. e ∈ es) (cut-again m (g .queue)) (Memᴰ·append-right (upTo m (g .queue)) (processed-member (behind m (g .queue)) e k)))))
+      (all-map (λ f e. settled e) (back-frames one (g .settings) (valid-facts g (p .valid) .settings) (processedOf (behind m (g .queue)))
+      (λ e k. held e (subst (λ es. e ∈ es) (cut-again m (g .queue)) (Memᴰ·append-right (upTo m (g .queue)) (processed-member (behind m (g .queue)) e k))))))
 
-  plain-event-frames : Good (g .settings) false m → kindNumber (m .kind) ≤ 2 → All EventFrame (takePlain m g .frames)
+  plain-event-frames : Good (g .settings) false m → kindNumber (m .kind) ≤ 2 → All (EventFrame n last) (takePlain m g .frames)
   plain-event-frames good few =
-      subst (All EventFrame) (sym (plain-frames n last setups i c g st m))
-      (cons (acknowledgment-frame one (g .settings) (valid-facts g (p .valid) .settings) false m good few) (plain-back-frames (any (isCancelOf m) (g .queue)) refl))
+      subst (All (EventFrame n last)) (sym (plain-frames n last setups i c g st m))
+      (cons (settled (acknowledgment-frame one (g .settings) (valid-facts g (p .valid) .settings) false m good few)) (plain-back-frames (any (isCancelOf m) (g .queue)) refl))
 
-  cancel-back-frames : (t : Bool) → any (isPlain m) (g .queue) ≡ t → All EventFrame (framesFor true (cancelBack n last setups i c g st m))
+  cancel-back-frames : (t : Bool) → any (isPlain m) (g .queue) ≡ t → All (EventFrame n last) (framesFor true (cancelBack n last setups i c g st m))
   unfolding cancelBack
   cancel-back-frames false q = rw q nil
   cancel-back-frames true q =
       rw q
-      (back-frames one (g .settings) (valid-facts g (p .valid) .settings) (processedOf (fromLast (isPlain m) (g .queue)))
-      (λ e k. held e (subst (λ es. e ∈ es) (around-last (isPlain m) (g .queue) q) (Memᴰ·append-right (beforeLast (isPlain m) (g .queue)) (processed-member (fromLast (isPlain m) (g .queue)) e k)))))
+      (all-map (λ f e. settled e) (back-frames one (g .settings) (valid-facts g (p .valid) .settings) (processedOf (fromLast (isPlain m) (g .queue)))
+      (λ e k. held e (subst (λ es. e ∈ es) (around-last (isPlain m) (g .queue) q) (Memᴰ·append-right (beforeLast (isPlain m) (g .queue)) (processed-member (fromLast (isPlain m) (g .queue)) e k))))))
 
-  cancel-event-frames : Good (g .settings) true m → kindNumber (m .kind) ≤ 2 → All EventFrame (takeCancel m g .frames)
+  cancel-event-frames : Good (g .settings) true m → kindNumber (m .kind) ≤ 2 → All (EventFrame n last) (takeCancel m g .frames)
   cancel-event-frames good few =
-      subst (All EventFrame) (sym (cancel-frames n last setups i c g st m))
-      (cons (acknowledgment-frame one (g .settings) (valid-facts g (p .valid) .settings) true m good few) (cancel-back-frames (any (isPlain m) (g .queue)) refl))
+      subst (All (EventFrame n last)) (sym (cancel-frames n last setups i c g st m))
+      (cons (settled (acknowledgment-frame one (g .settings) (valid-facts g (p .valid) .settings) true m good few)) (cancel-back-frames (any (isPlain m) (g .queue)) refl))
 
   pub plain-take : reading frame .frame .sense ≡ Plain → IsEvent m → kindNumber (m .kind) ≤ 2 → m .to ≡ i → g .agreed ≤ m .hour → Good (g .settings) false m → Kept (g .settings) (takePlain m g .gateway) →
       TakeGoes (outcomeOf (takePlain m g))
@@ -95,6 +100,7 @@ module _ (one : OneToOne) (n last : ℕ) (setups : ℕ → SetUp) (G : Graph) (s
         bytes = refl;
         are-events = are-events;
         sends = plainBack n last setups i c g st m;
+        timely = frames-hours true (plainBack n last setups i c g st m) (plain-back-frames (any (isCancelOf m) (g .queue)) refl);
         goes = plain-goes n last setups G same w i inside c g st cs sees frame found tag s k to-here due (all-map (λ f e. e .readable) are-events);
         stands = still-stands n last setups i c g st c (takePlain m g .gateway) kept (plain-saved n last setups i c g st m);
         follows =
@@ -113,6 +119,7 @@ module _ (one : OneToOne) (n last : ℕ) (setups : ℕ → SetUp) (G : Graph) (s
         bytes = refl;
         are-events = are-events;
         sends = cancelBack n last setups i c g st m;
+        timely = frames-hours true (cancelBack n last setups i c g st m) (cancel-back-frames (any (isPlain m) (g .queue)) refl);
         goes = cancel-goes n last setups G same w i inside c g st cs sees frame found tag s to-here (all-map (λ f e. e .readable) are-events);
         stands = still-stands n last setups i c g st c (takeCancel m g .gateway) kept (cancel-saved n last setups i c g st m);
         follows =
@@ -132,6 +139,7 @@ module _ (one : OneToOne) (n last : ℕ) (setups : ℕ → SetUp) (G : Graph) (s
         bytes = refl;
         are-events = nil;
         sends = [];
+        timely = nil;
         goes =
             subst (λ d. GoesOn n last setups G same w i [] c (withOutstanding (withoutFirst (isSent b m) (g .outstanding)) g) d)
             (sym (append-nil (withoutFirst (isFrame frame) cs)))

@@ -40,7 +40,7 @@ use Rattle.run.proofs.FramesCut.{frames-in}
 use Rattle.run.proofs.RoundsUnderWay.{carried-rest}
 use Rattle.run.proofs.AcceptedCalls.{left, on-sound}
 use Rattle.run.proofs.HeldGateways.{Holds, written-held}
-use Rattle.run.proofs.EventFrames.{rounds-still, rounds-left, none-counted, took-none, numbered-still}
+use Rattle.run.proofs.EventFrames.{rounds-still, rounds-left, none-counted, took-none, numbered-still, passing-still}
 use Rattle.run.proofs.BesideCalls.{worldAfter, change-self}
 use Rattle.run.proofs.BothWorlds.{forecastSetting, Both, Keeps, proper, sees}
 use Rattle.run.proofs.EventsKept.{Comes, keeps}
@@ -56,12 +56,12 @@ kind-few f form plain = by-sense (f .sense) refl
     by-sense CancelAcknowledgment e = omega (arith, sensed-kind (f .message) (f .sense) (rw e (omega arith)) form)
 
 -- the world after taking such a frame: the rounds stay as they were
-taken-world : (n i : ℕ) (frame memory : List ℕ) {fs : List Frame} → All EventFrame fs → (w : World) → kindIn frame < 4 →
+taken-world : (n i : ℕ) (frame memory : List ℕ) {last : ℕ} {fs : List Frame} → All (EventFrame n last) fs → (w : World) → kindIn frame < 4 →
     worldAfter w i memory (carry (w .rounds .opened) (map written fs) (withoutFirst (isFrame frame) (w .underWay))) (w .records i)
     (takenBySense (reading frame .frame .message) (reading frame .frame .sense) (w .ledgers i)) (w .rounds)
     ≡ afterTaking n i frame memory (map written fs) w
 unfolding afterTaking
-taken-world n i frame memory {fs} a w few =
+taken-world n i frame memory {fs = fs} a w few =
     rw (ne-eqb (kindIn frame) 6 (λ e. omega arith), ne-eqb (kindIn frame) 5 (λ e. omega arith))
     (λ k. record {
       memories = change i memory (w .memories);
@@ -127,6 +127,8 @@ module _ (n : ℕ) (some : 1 ≤ n) (last : ℕ) (setups : ℕ → SetUp) {w : W
           agreed = goes .noted .agreed;
           still = rounds-still tag (goes .are-events) (withoutFirst (isFrame frame) (w .underWay)) ∙ rounds-left frame (w .underWay) few;
           numbered = numbered-still tag (goes .are-events) (carried-rest (isFrame frame) (b .numbered));
+          timely = goes .timely;
+          passing = passing-still tag (goes .are-events) (carried-rest (isFrame frame) (b .passing));
         }
 
     take-kept : Keeps n some last setups t (afterTaking n i frame (encode (o .gateway) (w .memories i)) (map written (goes .frames)) w)

@@ -31,6 +31,8 @@ use Rattle.run.proofs.RoundsUnderWay.{Numbered, roundsIn}
 use Rattle.run.proofs.RoundWorlds.{Alike, alike-again}
 use Rattle.run.proofs.RoundNotes.{alike-sent}
 use Rattle.run.proofs.HeldGateways.{Holds}
+use Rattle.run.proofs.DueHours.{NoteDue, noted-due}
+use Rattle.run.proofs.PassingFrames.{Passing}
 use Rattle.run.proofs.BesideCalls.{worldAfter, beside-after, done-after}
 use Rattle.run.proofs.BothWorlds.{model, forecastSetting, gatewaysIn, Both, Keeps}
 
@@ -46,6 +48,8 @@ module _ (n : ℕ) (some : 1 ≤ n) (last : ℕ) (setups : ℕ → SetUp) {w : W
     pub agreed : next .agreed ≡ gatewaysIn n some last setups w i .agreed
     pub still : roundsIn cs ≡ roundsIn (w .underWay)
     pub numbered : All Numbered cs
+    pub timely : All (λ m. m .hour ≤ last) sends
+    pub passing : All (λ x. Passing n last (x .frame)) cs
 
   module _ (memory : List ℕ) (next : Gateway) (holds : Holds (decode (w .memories i)) memory next) (c : List Message) (cs : List Carried) (l : Ledger.Ledger) (comes : Comes next c cs l) where
     -- the gateways after it
@@ -64,6 +68,12 @@ module _ (n : ℕ) (some : 1 ≤ n) (last : ℕ) (setups : ℕ → SetUp) {w : W
     bytes-at : (j : ℕ) → j < n → (x : Bool) → SoundBytes (cond x memory (w .memories j))
     bytes-at j k true = holds .still
     bytes-at j k false = b .bytes j k
+
+    notes-at : (j : ℕ) → j < n → (x : Bool) → NoteDue last (decode (cond x memory (w .memories j)) .round)
+    notes-at j k true =
+        subst (NoteDue last) (sym (ap (λ (x : Gateway). x .round) (holds .holds) ∙ comes .round))
+        (noted-due last (comes .timely) (decode (w .memories i) .round) (b .notes i h))
+    notes-at j k false = b .notes j k
 
     -- the gateway as it was, with the note lowered
     abbrev noted : Gateway
@@ -116,5 +126,7 @@ module _ (n : ℕ) (some : 1 ≤ n) (last : ℕ) (setups : ℕ → SetUp) {w : W
                   bytes = λ j k. bytes-at j k (eqb i j);
                   rounds = alike-after;
                   numbered = comes .numbered;
+                  passing = comes .passing;
+                  notes = λ j k. notes-at j k (eqb i j);
                 };
           }

@@ -1,4 +1,4 @@
--- A frame under way that is of the forms and in its ranges is taken at its addressee, or there is not room for it.
+-- A frame under way is taken at its addressee, or there is not room for it.
 use mathlib.Core.Path.{_≡_, refl, sym, _∙_, ap, subst}
 use Prim.Native.Nat.{ℕ, suc, _+_, _*_, _-_, _/_, _≤_, _<_}
 use native.Mathlib.Omega.{arith}
@@ -51,14 +51,9 @@ use Rattle.run.proofs.EventsUnderWay.{seenIn, seen-have, eventOf, ackno
 use Rattle.run.proofs.RoundsUnderWay.{roundOf, roundsIn}
 use Rattle.run.proofs.AcceptedFrames.{outcomeOf, acknowledgmentSense}
 use Rattle.run.proofs.AcceptedCalls.{call-number}
+use Rattle.run.proofs.Ledgers.{all-each}
+use Rattle.run.proofs.PassingFrames.{Passing}
 use Rattle.run.proofs.BothWorlds.{Both, forecastSetting, gatewaysIn}
-
--- of the forms, no Restock, and with its numbers and its hour in their ranges
-pub record Passing (n last : ℕ) (bytes : List ℕ) : Type 0 where
-  pub form : formNumber (reading bytes .form) ≡ 0
-  pub kind : eqb (kindNumber (reading bytes .frame .message .kind)) 3 ≡ false
-  pub numbers : numbersBelow n (reading bytes .frame .message) ≡ true
-  pub hour : hourAllowed last (reading bytes .frame .message) ≡ true
 
 -- refused only for want of room
 abbrev pub OnlyRoom : ℕ → Type 0
@@ -125,6 +120,10 @@ module _ (n : ℕ) (some : 1 ≤ n) (last : ℕ) (setups : ℕ → SetUp) {w : W
 
   abbrev m : Message
   m = f .message
+
+  -- it is of the forms, and its numbers and its hour are in their ranges
+  passes : Passing n last (c .frame)
+  passes = all-each (b .passing) c under
 
   -- the gateway i that it is addressed to
   module _ (i : ℕ) (inside : i < n) (here : addressee (f .sense) m ≡ i) (room : ℕ) where
@@ -242,9 +241,10 @@ module _ (n : ℕ) (some : 1 ≤ n) (last : ℕ) (setups : ℕ → SetUp) {w : W
     by-sense CancelAcknowledgment s p = acknowledgment-room true (rw s refl) (rw s at here)
 
     -- taking its bytes
-    bytes-room : Passing n last (c .frame) → OnlyRoom (takeBytes (c .frame) room g .number)
+    bytes-room : OnlyRoom (takeBytes (c .frame) room g .number)
     unfolding takeBytes takeFrame refusal
-    bytes-room p =
+    bytes-room =
+        let p = passes in
         let st = b .stands i inside in
         let own : eqb (addressee (f .sense) m) (g .settings .own) ≡ true = eq-eqb (addressee (f .sense) m) (g .settings .own) (here ∙ sym (st .own)) in
         let numbers : numbersBelow (g .settings .n) m ≡ true = rw (st .count) (p .numbers) in
@@ -252,14 +252,14 @@ module _ (n : ℕ) (some : 1 ≤ n) (last : ℕ) (setups : ℕ → SetUp) {w : W
         rw (p .form, p .kind, own, numbers, hours) (by-sense (f .sense) refl (p .kind))
 
   -- the gateway that it is addressed to
-  receiver-inside : Passing n last (c .frame) → addressee (f .sense) m < n
-  receiver-inside p = by-sense (f .sense)
+  receiver-inside : addressee (f .sense) m < n
+  receiver-inside = by-sense (f .sense)
     where
       from-below : m .from < n
-      from-below = ltb-true (m .from) n (let k = p .numbers in search (and-left, and-right) depth 9)
+      from-below = ltb-true (m .from) n (let k = passes .numbers in search (and-left, and-right) depth 9)
 
       to-below : m .to < n
-      to-below = ltb-true (m .to) n (let k = p .numbers in search (and-left, and-right) depth 9)
+      to-below = ltb-true (m .to) n (let k = passes .numbers in search (and-left, and-right) depth 9)
 
       by-sense : (s : Sense) → addressee s m < n
       by-sense Plain = to-below
@@ -268,10 +268,10 @@ module _ (n : ℕ) (some : 1 ≤ n) (last : ℕ) (setups : ℕ → SetUp) {w : W
       by-sense CancelAcknowledgment = from-below
 
   -- it is taken there, or there is not room for it
-  pub taken-or-room : Passing n last (c .frame) → (output : List ℕ)
+  pub taken-or-room : (output : List ℕ)
       → (addressee (f .sense) m < n) × OnlyRoom (taken (w .memories (addressee (f .sense) m)) (c .frame) output .answer .number)
   unfolding taken
-  taken-or-room p output =
+  taken-or-room output =
       let i = addressee (f .sense) m in
-      let inside = receiver-inside p in
-      (inside, rw (call-number (takeBytes (c .frame)) (w .memories i) output (b .bytes i inside .is-sound)) (bytes-room i inside refl (length output) p))
+      let inside = receiver-inside in
+      (inside, rw (call-number (takeBytes (c .frame)) (w .memories i) output (b .bytes i inside .is-sound)) (bytes-room i inside refl (length output)))

@@ -7,8 +7,9 @@ use lib.Dec.{eqb}
 use borrow.Author.Tests.{ne-eqb}
 use Rattle.gateway.specs.Calls.{taken, started, committed}
 use Rattle.run.specs.World.{World, Call, works, takes, starts, commits, setsUp, openingWorld, afterCall, afterCalls, AllAllowed}
-use Rattle.run.specs.Further.{SameRecords, DoesNothing, NothingChanged}
+use Rattle.run.specs.Further.{OnlyForRoom, SameRecords, DoesNothing, NothingChanged}
 use Rattle.run.proofs.RefusedCalls.{refused-frame, refused-start, refused-commit, refused-set-up, idle-work}
+use Rattle.run.proofs.FramesInTurn.{taken-or-room}
 use Rattle.run.proofs.Theorem.{claimed, reached-both}
 
 -- the records of two runs that are whole
@@ -31,3 +32,7 @@ nothing-changed n last setups lent forecast calls h c d = by-call c d
     by-call (starts i output) d = refused-start n w i output (ne-eqb (started (w .memories i) output .answer .number) 0 d)
     by-call (commits i output) d = refused-commit n w i output (ne-eqb (committed (w .memories i) output .answer .number) 0 d)
     by-call (setsUp i opening list) d = refused-set-up n w i opening list d
+
+-- a frame under way at its addressee
+pub only-for-room : OnlyForRoom
+only-for-room n last setups lent forecast calls h c under output = taken-or-room n (forecast .some) last setups (reached-both n last setups lent forecast calls h .both) c under output

@@ -1,8 +1,8 @@
 -- Frames that their addressee does not turn down for their form, their numbers or their hour.
-use mathlib.Core.Path.{_≡_, refl, sym, _∙_, ap}
-use mathlib.Core.Bool.{Bool, true, false}
+use mathlib.Core.Path.{_≡_, _∙_, ap, subst}
+use mathlib.Core.Bool.{true, false}
 use mathlib.Core.List.{List}
-use Prim.Native.Nat.{ℕ, _≤_, _<_}
+use Prim.Native.Nat.{ℕ}
 use lib.Dec.{eqb}
 use Rattle.model.specs.Messages.{kindNumber}
 use Rattle.frame.specs.Reasons.{reading, formNumber, readAs}
@@ -20,6 +20,10 @@ pub record Passing (n last : ℕ) (bytes : List ℕ) : Type 0 where
   pub kind : eqb (kindNumber (reading bytes .frame .message .kind)) 3 ≡ false
   pub numbers : numbersBelow n (reading bytes .frame .message) ≡ true
   pub hour : hourAllowed last (reading bytes .frame .message) ≡ true
+
+-- with equal limits
+pub same-passing : {n n′ last last′ : ℕ} → n ≡ n′ → last ≡ last′ → {bytes : List ℕ} → Passing n last bytes → Passing n′ last′ bytes
+same-passing {n′ = n′} {last = last} p q {bytes} k = subst (λ (x : ℕ). Passing n′ x bytes) q (subst (λ (x : ℕ). Passing x last bytes) p k)
 
 -- a frame that is written
 pub passing-frame : (n last : ℕ) (f : Frame) → Ranged f → wellFormed f ≡ true → eqb (kindNumber (f .message .kind)) 3 ≡ false

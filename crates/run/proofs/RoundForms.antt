@@ -30,7 +30,7 @@ zeros (suc k) zero = refl
 zeros (suc k) (suc i) = zeros k i
 
 -- a frame of a round: its kind has no field of its own, and its numbers fit
-round-ranged : (kind : Kind) → originOf kind ≡ 0 → quantityOf kind ≡ 0 → (hour i j : ℕ) → hour < 256 ^ 4 → i < 256 → j < 256
+pub round-ranged : (kind : Kind) → originOf kind ≡ 0 → quantityOf kind ≡ 0 → (hour i j : ℕ) → hour < 256 ^ 4 → i < 256 → j < 256
     → Ranged (roundFrame kind hour i j)
 round-ranged kind o q hour i j h l m =
     record {

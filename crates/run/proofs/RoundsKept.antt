@@ -18,7 +18,7 @@ use Rattle.frame.proofs.Laws.{one-to-one}
 use Rattle.memory.specs.Records.{Gateway}
 use Rattle.memory.specs.Codec.{decode}
 use Rattle.memory.specs.declared.Settings.{Settings}
-use Rattle.memory.proofs.Validated.{ValidSettings, valid-facts}
+use Rattle.memory.proofs.Validated.{Valid, valid-facts}
 use Rattle.gateway.specs.Effects.{Outcome, withAgreed, withRound}
 use Rattle.gateway.specs.Rounds.{start}
 use Rattle.gateway.specs.Taking.{any}
@@ -26,9 +26,11 @@ use Rattle.gateway.specs.Calls.{started, taken, takeBytes}
 use Rattle.gateway.specs.Claims.{SoundBytes}
 use Rattle.gateway.proofs.Accepting.{form-good}
 use Rattle.gateway.proofs.Keeps.{start-keeps, bytes-keep}
+use Rattle.timewarp.specs.Lists.{All}
 use Rattle.timewarp.specs.Models.{hour}
 use Rattle.timewarp.specs.Families as Families
 use Rattle.timewarp.specs.Worlds as Worlds
+use Rattle.timewarp.proofs.ListLaws.{all-map}
 use Rattle.timewarp.proofs.CallChains.{steps-join}
 use Rattle.run.specs.Lines.{change}
 use Rattle.run.specs.SingleQueue.{SetUp}
@@ -45,6 +47,8 @@ use Rattle.run.proofs.RoundsUnderWay.{roundsIn}
 use Rattle.run.proofs.RoundChains.{withRounds}
 use Rattle.run.proofs.RoundWorlds.{Alike, Called, alike-again}
 use Rattle.run.proofs.RoundsOnBytes.{Goes, started-goes, start-goes, lvt-goes, update-goes}
+use Rattle.run.proofs.DueHours.{NoteDue}
+use Rattle.run.proofs.PassingFrames.{Passing, same-passing}
 use Rattle.run.proofs.BesideCalls.{change-self}
 use Rattle.run.proofs.BothWorlds.{model, forecastSetting, gatewaysIn, Both, Keeps, good-world, proper}
 
@@ -66,8 +70,11 @@ module _ (n : ℕ) (some : 1 ≤ n) (last : ℕ) (setups : ℕ → SetUp) {w : W
         queued = least-queued (gs i .queue) ∙ ap (Worlds.leastWaiting (forecastSetting n some last setups)) (sym (b .beside .views i h));
       }
 
-  valid : ValidSettings (gs i .settings)
-  valid = valid-facts (gs i) (proper n some last setups b i h .valid) .settings
+  valid : Valid (gs i)
+  valid = valid-facts (gs i) (proper n some last setups b i h .valid)
+
+  note-due : NoteDue (gs i .settings .last) (gs i .round)
+  note-due = subst (λ (x : ℕ). NoteDue x (gs i .round)) (sym (b .stands i h .until)) (b .notes i h)
 
   -- A call that changes only the round and the agreed time of gateway i.
   module _ (memory : List ℕ) (r : Outcome) (holds : Holds (gs i) memory (r .gateway)) (cs : List Carried) (c : Rounds)
@@ -125,6 +132,18 @@ module _ (n : ℕ) (some : 1 ≤ n) (last : ℕ) (setups : ℕ → SetUp) {w : W
         alike-again n some (model n some last setups) refl (gatewaysIn n some last setups after)
         (λ j. ap (λ (g : Gateway). g .round) (same-gateways j)) (λ j. ap (λ (g : Gateway). g .agreed) (same-gateways j)) (goes .led .alike)
 
+    passing-after : All (λ x. Passing n last (x .frame)) cs
+    passing-after =
+        let st = b .stands i h in
+        all-map (λ x k. same-passing (st .count) (st .until) k)
+        (goes .passing (all-map (λ x k. same-passing (sym (st .count)) (sym (st .until)) k) (b .passing)))
+
+    notes-at : (j : ℕ) → j < n → (x : Bool) → NoteDue last (decode (cond x memory (w .memories j)) .round)
+    notes-at j k true =
+        subst (λ (g : Gateway). NoteDue last (g .round)) (sym (holds .holds ∙ ap (λ (x : Outcome). x .gateway) (goes .comes-to)))
+        (subst (λ (x : ℕ). NoteDue x (goes .effect .gateway .round)) (b .stands i h .until) (goes .note))
+    notes-at j k false = b .notes j k
+
     round-kept : Keeps n some last setups t after
     unfolding change
     round-kept =
@@ -149,6 +168,8 @@ module _ (n : ℕ) (some : 1 ≤ n) (last : ℕ) (setups : ℕ → SetUp) {w : W
                 bytes = λ j k. sound-at j k (eqb i j);
                 rounds = alike-after;
                 numbered = goes .numbered (b .numbered);
+                passing = passing-after;
+                notes = λ j k. notes-at j k (eqb i j);
               };
         }
 
@@ -163,7 +184,7 @@ module _ (n : ℕ) (some : 1 ≤ n) (last : ℕ) (setups : ℕ → SetUp) {w : W
       round-kept (l .memory) (start (length output) (gs i))
       (call-held (w .memories i) (b .bytes i h) start output (start-keeps (proper n some last setups b i h) (length output)) z)
       (u .underWay) (u .rounds)
-      (started-goes n some (model n some last setups) refl t (good-world n some last setups b) w i inside called (b .rounds) valid output z)
+      (started-goes n some (model n some last setups) refl t (good-world n some last setups b) w i inside called (b .rounds) valid note-due output z)
 
   -- a frame of a round that is under way
   module _ (frame output : List ℕ) (bytes : Bytes frame) (z : taken (w .memories i) frame output .answer .number ≡ 0) (found : any (isFrame frame) (w .underWay) ≡ true)
@@ -178,20 +199,14 @@ module _ (n : ℕ) (some : 1 ≤ n) (last : ℕ) (setups : ℕ → SetUp) {w : W
     GoesLater =
         Goes n some (model n some last setups) refl t (good-world n some last setups b) w i inside (takeBytes frame (length output) (gs i)) (later .underWay) (later .rounds)
 
-    small : m .hour < 4294967296
-    unfolding taken
-    small =
-        let number = on-sound (takeBytes frame) (w .memories i) output z .1 in
-        one-to-one .readRanged frame bytes (form-good (reading frame .form) (rw (bytes-accepted frame (length output) (gs i) number .good))) .hour
-
     by-kind : (kind : Kind) → m .kind ≡ kind → GoesLater
     by-kind (Failure origin) e = absurd (omega (arith, ap kindNumber e))
     by-kind (Request origin) e = absurd (omega (arith, ap kindNumber e))
     by-kind (Delivery origin) e = absurd (omega (arith, ap kindNumber e))
     by-kind (Restock quantity) e = absurd (omega (arith, ap kindNumber e))
-    by-kind Start e = start-goes n some (model n some last setups) refl t (good-world n some last setups b) w i inside called (b .rounds) valid frame output z found plain e
-    by-kind Lvt e = lvt-goes n some (model n some last setups) refl t (good-world n some last setups b) w i inside called (b .rounds) valid frame output z found plain e (proper n some last setups b i h .ranged .note)
-    by-kind Update e = update-goes n some (model n some last setups) refl t (good-world n some last setups b) w i inside called (b .rounds) valid frame output z found plain e small (b .numbered)
+    by-kind Start e = start-goes n some (model n some last setups) refl t (good-world n some last setups b) w i inside called (b .rounds) valid note-due frame output z found plain e
+    by-kind Lvt e = lvt-goes n some (model n some last setups) refl t (good-world n some last setups b) w i inside called (b .rounds) valid note-due frame output z found plain e
+    by-kind Update e = update-goes n some (model n some last setups) refl t (good-world n some last setups b) w i inside called (b .rounds) valid note-due frame output z found plain e (b .numbered)
 
     -- it leaves the ledger
     ledger-left : takenBySense m (reading frame .frame .sense) (w .ledgers i) ≡ w .ledgers i

@@ -24,7 +24,7 @@ use Rattle.run.proofs.FigureGraph.{figureGraph}
 use Rattle.run.proofs.WorkChains.{WorkGoes, work-goes}
 use Rattle.run.proofs.FramesCut.{frames-in}
 use Rattle.run.proofs.HeldGateways.{Holds, written-held}
-use Rattle.run.proofs.EventFrames.{rounds-still, numbered-still}
+use Rattle.run.proofs.EventFrames.{rounds-still, numbered-still, passing-still}
 use Rattle.run.proofs.BesideCalls.{change-self}
 use Rattle.run.proofs.BothWorlds.{forecastSetting, gatewaysIn, Both, Keeps, proper, sees}
 use Rattle.run.proofs.EventsKept.{Comes, keeps}
@@ -66,6 +66,8 @@ module _ (n : ℕ) (some : 1 ≤ n) (last : ℕ) (setups : ℕ → SetUp) {w : W
         agreed = goes .agreed;
         still = rounds-still 0 (goes .are-events) (w .underWay);
         numbered = numbered-still 0 (goes .are-events) (b .numbered);
+        timely = goes .timely;
+        passing = passing-still 0 (goes .are-events) (b .passing);
       }
 
   pub works-kept :
