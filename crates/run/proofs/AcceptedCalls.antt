@@ -1,8 +1,8 @@
 -- What a call on bytes comes to where it is accepted: the outcome on the gateway that the memory holds.
 use mathlib.Core.Path.{_≡_, refl, sym, _∙_, ap}
 use mathlib.Core.Bool.{Bool, true, false, cond, not, _&&_, true≢false}
-use mathlib.Core.List.{List, [], _∷_, map}
-use Prim.Native.Nat.{ℕ, _+_, _-_, _/_, _≤_, min, max}
+use mathlib.Core.List.{List, map}
+use Prim.Native.Nat.{ℕ, _+_, _-_, _/_, min, max}
 use native.Mathlib.Omega.{arith}
 use lib.Dec.{eqb, leb}
 use lib.ListN.{length}
@@ -53,6 +53,15 @@ on-sound call memory output = go (sound memory) (eqb (call (length output) (deco
     go true true e h = (refl, eqb-true (r .number) 0 e, refl)
     go true false e h = absurd (true≢false (sym (eq-eqb (r .number) 0 h) ∙ e))
     go false d e h = absurd (omega arith)
+
+-- the number that a call answers on sound memory
+pub call-number : (call : ℕ → Gateway → Outcome) (memory output : List ℕ) → sound memory ≡ true → onSound call memory output .answer .number ≡ call (length output) (decode memory) .number
+unfolding onSound leaving
+call-number call memory output s = rw s (by-case (eqb (call (length output) (decode memory) .number) 0) refl)
+  where
+    by-case : (t : Bool) → eqb (call (length output) (decode memory) .number) 0 ≡ t → leaving (call (length output) (decode memory)) memory output .answer .number ≡ call (length output) (decode memory) .number
+    by-case true p = rw p (sym (eqb-true (call (length output) (decode memory) .number) 0 p))
+    by-case false p = rw p
 
 -- the start call
 pub start-accepted : (room : ℕ) (g : Gateway) → start room g .number ≡ 0

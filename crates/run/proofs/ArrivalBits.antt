@@ -3,13 +3,13 @@ use mathlib.Core.Path.{_≡_, refl, sym, _∙_, ap}
 use mathlib.Core.Logic.{_≢_}
 use mathlib.Core.Bool.{Bool, true, false, cond}
 use mathlib.Core.List.{List, [], _∷_}
-use Prim.Native.Nat.{ℕ, zero, suc, _+_, _*_, _≤_, _<_}
+use Prim.Native.Nat.{ℕ, suc, _+_, _*_, _≤_, _<_}
 use native.Mathlib.Omega.{arith}
 use native.Mathlib.Decide.{ℕ-discrete}
 use lib.Dec.{eqb}
 use lib.ListN.{length}
 use Rattle.gateway.specs.Rounds.{bitOf, allBits, awaited}
-use Rattle.timewarp.specs.Lists.{All, nil, cons, matches, count, tally}
+use Rattle.timewarp.specs.Lists.{All, nil, cons, count, tally}
 use Rattle.timewarp.specs.Arcs.{times}
 use Rattle.timewarp.proofs.ListLaws.{matches-equal, matches-other}
 use Rattle.timewarp.proofs.FamilyLaws.{Same, same, other, same?}

@@ -23,6 +23,8 @@ use Rattle.run.proofs.EventWorlds.{settingOf, Sees}
 use Rattle.run.proofs.RoundChains.{setting}
 use Rattle.run.proofs.RoundsUnderWay.{roundsIn, Numbered}
 use Rattle.run.proofs.RoundWorlds.{Alike}
+use Rattle.run.proofs.PassingFrames.{Passing}
+use Rattle.run.proofs.DueHours.{NoteDue}
 use Rattle.run.proofs.HeldGateways as HeldGateways
 use Rattle.run.proofs.ClaimParts.{Beside}
 
@@ -53,6 +55,9 @@ module _ (n : ℕ) (some : 1 ≤ n) (last : ℕ) (setups : ℕ → SetUp) where
     -- the rounds, the frames of rounds under way, which have the number of their round, and the counters
     pub rounds : Alike n some model refl (gatewaysIn w) (roundsIn (w .underWay)) (w .rounds) (t .rounds)
     pub numbered : All Numbered (w .underWay)
+    -- no frame under way is turned down for its form, its numbers or its hour, and the notes are hours that may be sent
+    pub passing : All (λ c. Passing n last (c .frame)) (w .underWay)
+    pub notes : (i : ℕ) → i < n → NoteDue last (gatewaysIn w i .round)
 
   -- What a call comes to that leads from the theory's world t to the run's world w′: steps to a world that belongs to it.
   pub record Keeps (t : Worlds.World forecastSetting) (w′ : World) : Type 0 where

@@ -15,6 +15,7 @@ use Rattle.gateway.specs.Calls.{Left, committed}
 use Rattle.gateway.specs.declared.Answer.{Answer}
 use Rattle.gateway.proofs.Maintaining.{Kept}
 use Rattle.gateway.proofs.Keeps.{commit-keeps}
+use Rattle.timewarp.specs.Lists.{nil}
 use Rattle.timewarp.specs.Worlds as Worlds
 use Rattle.run.specs.SingleQueue.{SetUp}
 use Rattle.run.specs.Ledger.{committedOne}
@@ -58,6 +59,8 @@ module _ (n : ℕ) (some : 1 ≤ n) (last : ℕ) (setups : ℕ → SetUp) {w : W
           agreed = refl;
           still = refl;
           numbered = b .numbered;
+          timely = nil;
+          passing = b .passing;
         }
 
     commit-kept : Keeps n some last setups t (afterCommitting i (encode next (w .memories i)) (Committing.recordOf (k .event)) w)

@@ -21,6 +21,7 @@ use Rattle.run.specs.World.{Carried, Rounds, carry, isFrame, kindIn, rou
 use Rattle.run.proofs.ArrivalBits.{oneIf}
 use Rattle.run.proofs.RoundsUnderWay.{byKind, roundOf, roundsIn, rounds-append, tagged, round-left, Numbered, carried-more}
 use Rattle.run.proofs.RoundForms.{counts}
+use Rattle.run.proofs.PassingFrames.{Passing}
 use Rattle.run.proofs.ReadableFrames.{EventFrame}
 
 -- a kind below 4 is none of a round
@@ -33,7 +34,7 @@ no-round t m Start h = absurd (omega arith)
 no-round t m Lvt h = absurd (omega arith)
 no-round t m Update h = absurd (omega arith)
 
-none-written : (tag : ℕ) {fs : List Frame} → All EventFrame fs → roundsIn (map (tagged tag) (map written fs)) ≡ []
+none-written : (tag : ℕ) {n last : ℕ} {fs : List Frame} → All (EventFrame n last) fs → roundsIn (map (tagged tag) (map written fs)) ≡ []
 unfolding roundsIn
 none-written tag nil = refl
 none-written tag (cons {a = f} e a) =
@@ -43,7 +44,7 @@ none-written tag (cons {a = f} e a) =
     ∙ no-round (tag - 1) (f .message) (f .message .kind) (omega (arith, e .kind))
 
 -- the frames of rounds that are under way stay the same when such frames are put under way
-pub rounds-still : (tag : ℕ) {fs : List Frame} → All EventFrame fs → (cs : List Carried) → roundsIn (carry tag (map written fs) cs) ≡ roundsIn cs
+pub rounds-still : (tag : ℕ) {n last : ℕ} {fs : List Frame} → All (EventFrame n last) fs → (cs : List Carried) → roundsIn (carry tag (map written fs) cs) ≡ roundsIn cs
 rounds-still tag {fs} a cs =
     rounds-append cs (map (tagged tag) (map written fs))
     ∙ ap (λ l. roundsIn cs ++ l) (none-written tag a)
@@ -62,7 +63,7 @@ not-counted isOpen kind h =
     by-case true = refl
     by-case false = refl
 
-pub none-counted : (isOpen : Bool) {fs : List Frame} → All EventFrame fs → roundFrames isOpen (map written fs) ≡ 0
+pub none-counted : (isOpen : Bool) {n last : ℕ} {fs : List Frame} → All (EventFrame n last) fs → roundFrames isOpen (map written fs) ≡ 0
 unfolding roundFrames
 none-counted isOpen nil = refl
 none-counted isOpen (cons {a = f} e a) =
@@ -85,5 +86,9 @@ took-none tag r = λ k. record { opened = r .opened; open? = r .open?; lvts = r 
     same t = by-case t (eqb tag t) refl
 
 -- none needs the number of a round
-pub numbered-still : (tag : ℕ) {fs : List Frame} → All EventFrame fs → {cs : List Carried} → All Numbered cs → All Numbered (carry tag (map written fs) cs)
+pub numbered-still : (tag : ℕ) {n last : ℕ} {fs : List Frame} → All (EventFrame n last) fs → {cs : List Carried} → All Numbered cs → All Numbered (carry tag (map written fs) cs)
 numbered-still tag a b = carried-more tag (all-map (λ f e k. absurd (omega (arith, e .kind, ap (λ (x : Frame). kindNumber (x .message .kind)) (e .readable)))) a) b
+
+-- each passes
+pub passing-still : (tag : ℕ) {n last : ℕ} {fs : List Frame} → All (EventFrame n last) fs → {cs : List Carried} → All (λ c. Passing n last (c .frame)) cs → All (λ c. Passing n last (c .frame)) (carry tag (map written fs) cs)
+passing-still tag a b = carried-more tag (all-map (λ f e. e .passing) a) b

@@ -1,6 +1,6 @@
 -- What a call on events that writes frames comes to: the theory's world goes on, and gateway, ledger and note follow.
 use mathlib.Core.Path.{_≡_}
-use Prim.Native.Nat.{ℕ, _-_}
+use Prim.Native.Nat.{ℕ, _-_, _≤_}
 use mathlib.Core.List.{List, map}
 use Rattle.model.specs.declared.Message.{Message}
 use Rattle.frame.specs.Writing.{written}
@@ -22,9 +22,10 @@ use Rattle.run.proofs.EventWorlds.{settingOf, GoesOn}
 pub record CallResult (n last : ℕ) (setups : ℕ → SetUp) (G : Graph) (same : G .last ≡ n - 1) (i : ℕ) (w : World (settingOf n last setups G same)) (c : List Message) (g : Gateway) (tag : ℕ) (rest : List Carried) (next : Gateway) (output : List ℕ) (l : Ledger.Ledger) : Type 1 where
   pub frames : List Frame
   pub bytes : bytesOfFrames frames ≡ output
-  pub are-events : All EventFrame frames
+  pub are-events : All (EventFrame n last) frames
   -- the messages and cancels that it sends, which lower the note
   pub sends : List Message
+  pub timely : All (λ m. m .hour ≤ last) sends
   pub goes : GoesOn n last setups G same w i sends c next (carry tag (map written frames) rest)
   pub stands : Stands n last setups i c next
   pub follows : Follows n last setups (next .queue) l

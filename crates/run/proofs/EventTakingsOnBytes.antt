@@ -33,6 +33,7 @@ use Rattle.run.proofs.AcceptedFrames.{Accepted, BytesAccepted, bytes-ac
 use Rattle.run.proofs.EventTakings.{TakeGoes, taken-goes}
 use Rattle.run.proofs.ReadableFrames.{sensed-kind}
 use Rattle.run.proofs.RoundsUnderWay.{roundsIn, Numbered, carried-rest}
+use Rattle.run.proofs.PassingFrames.{Passing}
 use Rattle.run.proofs.AcceptedCalls.{on-sound}
 use Rattle.run.proofs.EventFrames.{rounds-left, took-none}
 use Rattle.run.proofs.BothWorlds.{forecastSetting, Both, Keeps, proper, sees}
@@ -108,12 +109,15 @@ module _ (n : ℕ) (some : 1 ≤ n) (last : ℕ) (setups : ℕ → SetUp) {w : W
     numbered : All Numbered rest
     numbered = carried-rest (isFrame frame) (b .numbered)
 
+    passing : All (λ c. Passing n last (c .frame)) rest
+    passing = carried-rest (isFrame frame) (b .passing)
+
     take-kept : Keeps n some last setups t (afterTaking n i frame (encode (o .gateway) (w .memories i)) (framesIn (length (o .output)) (write 0 (o .output) output)) w)
     take-kept =
         subst (Keeps n some last setups t)
         (taken-world n i frame (encode (o .gateway) (w .memories i)) (framesIn (length (o .output)) (write 0 (o .output) output)) w few
-        (result-counts n some last setups b i h tag rest still numbered goes kept output (w .rounds .open?)))
-        (result-keeps n some last setups b i h tag rest still numbered goes kept output)
+        (result-counts n some last setups b i h tag rest still numbered passing goes kept output (w .rounds .open?)))
+        (result-keeps n some last setups b i h tag rest still numbered passing goes kept output)
 
   pub event-taken-kept : taken (w .memories i) frame output .answer .number ≡ 0 → any (isFrame frame) (w .underWay) ≡ true →
       (reading frame .frame .sense ≡ Plain → kindIn frame < 4) →

@@ -35,8 +35,10 @@ use Rattle.run.proofs.RoundWorlds.{Alike, alike-again}
 use Rattle.run.proofs.RoundNotes.{alike-sent}
 use Rattle.run.proofs.FramesCut.{frames-of}
 use Rattle.run.proofs.EventResults.{CallResult}
-use Rattle.run.proofs.EventFrames.{rounds-still, none-counted, numbered-still}
+use Rattle.run.proofs.EventFrames.{rounds-still, none-counted, numbered-still, passing-still}
 use Rattle.run.proofs.HeldGateways.{Holds, written-held}
+use Rattle.run.proofs.DueHours.{NoteDue, noted-due}
+use Rattle.run.proofs.PassingFrames.{Passing}
 use Rattle.run.proofs.BesideCalls.{change-self, worldAfter, beside-after, done-after}
 use Rattle.run.proofs.BothWorlds.{model, forecastSetting, gatewaysIn, Both, Keeps}
 
@@ -66,6 +68,8 @@ module _ (n : ℕ) (some : 1 ≤ n) (last : ℕ) (setups : ℕ → SetUp) {w : W
     pub agreed : next .agreed ≡ gatewaysIn n some last setups w i .agreed
     pub still : roundsIn cs ≡ roundsIn (w .underWay)
     pub numbered : All Numbered cs
+    pub timely : All (λ m. m .hour ≤ last) sends
+    pub passing : All (λ x. Passing n last (x .frame)) cs
 
   module _ (memory : List ℕ) (next : Gateway) (holds : Holds (decode (w .memories i)) memory next) (c : List Message) (cs : List Carried) (l : Ledger.Ledger) (comes : Comes next c cs l) where
     -- the gateways after it
@@ -84,6 +88,12 @@ module _ (n : ℕ) (some : 1 ≤ n) (last : ℕ) (setups : ℕ → SetUp) {w : W
     bytes-at : (j : ℕ) → j < n → (x : Bool) → SoundBytes (cond x memory (w .memories j))
     bytes-at j k true = holds .still
     bytes-at j k false = b .bytes j k
+
+    notes-at : (j : ℕ) → j < n → (x : Bool) → NoteDue last (decode (cond x memory (w .memories j)) .round)
+    notes-at j k true =
+        subst (NoteDue last) (sym (ap (λ (x : Gateway). x .round) (holds .holds) ∙ comes .round))
+        (noted-due last (comes .timely) (decode (w .memories i) .round) (b .notes i h))
+    notes-at j k false = b .notes j k
 
     -- the gateway as it was, with the note lowered
     abbrev noted : Gateway
@@ -136,11 +146,13 @@ module _ (n : ℕ) (some : 1 ≤ n) (last : ℕ) (setups : ℕ → SetUp) {w : W
                   bytes = λ j k. bytes-at j k (eqb i j);
                   rounds = alike-after;
                   numbered = comes .numbered;
+                  passing = comes .passing;
+                  notes = λ j k. notes-at j k (eqb i j);
                 };
           }
 
   -- a call that writes frames: the rest of what is under way has the same frames of rounds
-  module _ (tag : ℕ) (rest : List Carried) (still : roundsIn rest ≡ roundsIn (w .underWay)) (numbered : All Numbered rest) {next : Gateway} {output : List ℕ} {l : Ledger.Ledger}
+  module _ (tag : ℕ) (rest : List Carried) (still : roundsIn rest ≡ roundsIn (w .underWay)) (numbered : All Numbered rest) (passing : All (λ x. Passing n last (x .frame)) rest) {next : Gateway} {output : List ℕ} {l : Ledger.Ledger}
       (r : CallResult n last setups (figureGraph n some) refl i t (b .beside .done i) (decode (w .memories i)) tag rest next output l)
       (kept : Kept (decode (w .memories i) .settings) next) (lent : List ℕ) where
     comes-of : Comes next (b .beside .done i) (carry tag (map written (r .frames)) rest) l
@@ -154,6 +166,8 @@ module _ (n : ℕ) (some : 1 ≤ n) (last : ℕ) (setups : ℕ → SetUp) {w : W
           agreed = r .agreed;
           still = rounds-still tag (r .are-events) rest ∙ still;
           numbered = numbered-still tag (r .are-events) numbered;
+          timely = r .timely;
+          passing = passing-still tag (r .are-events) passing;
         }
 
     cut : framesIn (length output) (write 0 output lent) ≡ map written (r .frames)

@@ -1,38 +1,38 @@
 -- The claims beyond demand 3.
 use mathlib.Core.Path.{_≡_, refl, sym, _∙_, ap, subst}
-use Prim.Native.Nat.{ℕ, _≤_, _<_}
+use Prim.Native.Nat.{ℕ, _<_}
 use mathlib.Core.Bool.{Bool, true, false}
 use mathlib.Core.List.{List}
 use lib.Dec.{eqb}
 use borrow.Author.Tests.{ne-eqb}
 use Rattle.gateway.specs.Calls.{taken, started, committed}
-use Rattle.run.specs.SingleQueue.{SetUp}
 use Rattle.run.specs.World.{World, Call, works, takes, starts, commits, setsUp, openingWorld, afterCall, afterCalls, AllAllowed}
-use Rattle.run.specs.Demand3.{Forecast}
-use Rattle.run.specs.Further.{SameRecords, DoesNothing, NothingChanged}
-use Rattle.run.proofs.BothWorlds.{Both}
+use Rattle.run.specs.Further.{OnlyForRoom, SameRecords, DoesNothing, NothingChanged}
 use Rattle.run.proofs.RefusedCalls.{refused-frame, refused-start, refused-commit, refused-set-up, idle-work}
-use Rattle.run.proofs.KeptRelation.{Keeping}
+use Rattle.run.proofs.FramesInTurn.{taken-or-room}
 use Rattle.run.proofs.Theorem.{claimed, reached-both}
 
-module _ (keeping : (n : ℕ) (some : 1 ≤ n) (last : ℕ) (setups : ℕ → SetUp) → Keeping n some last setups) where
-  -- the records of two runs that are whole
-  pub same-records : SameRecords
-  same-records n last setups lent lent′ forecast forecast′ calls calls′ h h′ i l due nothing due′ nothing′ =
-      claimed n last setups lent forecast (keeping n (forecast .some) last setups) calls h .whole i l due nothing
-      ∙ sym (claimed n last setups lent′ forecast′ (keeping n (forecast′ .some) last setups) calls′ h′ .whole i l due′ nothing′)
+-- the records of two runs that are whole
+pub same-records : SameRecords
+same-records n last setups lent lent′ forecast forecast′ calls calls′ h h′ i l due nothing due′ nothing′ =
+    claimed n last setups lent forecast calls h .whole i l due nothing
+    ∙ sym (claimed n last setups lent′ forecast′ calls′ h′ .whole i l due′ nothing′)
 
-  -- a call that is refused, or work that does no event
-  pub nothing-changed : NothingChanged
-  nothing-changed n last setups lent forecast calls h c d = by-call c d
-    where
-      w : World
-      w = afterCalls n (openingWorld setups lent) calls
+-- a call that is refused, or work that does no event
+pub nothing-changed : NothingChanged
+nothing-changed n last setups lent forecast calls h c d = by-call c d
+  where
+    w : World
+    w = afterCalls n (openingWorld setups lent) calls
 
-      by-call : (c : Call) → DoesNothing n w c → afterCall n w c ≡ w
-      by-call (works i b output) d =
-          idle-work n w i b output (reached-both n last setups lent forecast (keeping n (forecast .some) last setups) calls h .both .bytes i (d .0)) (d .1)
-      by-call (takes i frame output) d = refused-frame n w i frame output (ne-eqb (taken (w .memories i) frame output .answer .number) 0 d)
-      by-call (starts i output) d = refused-start n w i output (ne-eqb (started (w .memories i) output .answer .number) 0 d)
-      by-call (commits i output) d = refused-commit n w i output (ne-eqb (committed (w .memories i) output .answer .number) 0 d)
-      by-call (setsUp i opening list) d = refused-set-up n w i opening list d
+    by-call : (c : Call) → DoesNothing n w c → afterCall n w c ≡ w
+    by-call (works i b output) d =
+        idle-work n w i b output (reached-both n last setups lent forecast calls h .both .bytes i (d .0)) (d .1)
+    by-call (takes i frame output) d = refused-frame n w i frame output (ne-eqb (taken (w .memories i) frame output .answer .number) 0 d)
+    by-call (starts i output) d = refused-start n w i output (ne-eqb (started (w .memories i) output .answer .number) 0 d)
+    by-call (commits i output) d = refused-commit n w i output (ne-eqb (committed (w .memories i) output .answer .number) 0 d)
+    by-call (setsUp i opening list) d = refused-set-up n w i opening list d
+
+-- a frame under way at its addressee
+pub only-for-room : OnlyForRoom
+only-for-room n last setups lent forecast calls h c under output = taken-or-room n (forecast .some) last setups (reached-both n last setups lent forecast calls h .both) c under output

@@ -1,11 +1,11 @@
 -- The gateway that a memory holds after a call that was accepted: the one that the call came to.
-use mathlib.Core.Path.{_≡_, refl, sym, _∙_, ap, subst}
+use mathlib.Core.Path.{_≡_, sym, ap, subst}
 use Prim.Native.Nat.{ℕ}
 use mathlib.Core.List.{List}
 use lib.ListN.{length}
 use Rattle.memory.specs.Records.{Gateway}
 use Rattle.memory.specs.Codec.{decode, encode}
-use Rattle.memory.specs.Claims.{ReadingLaws, WritingLaws}
+use Rattle.memory.specs.Claims.{ReadingLaws}
 use Rattle.memory.proofs.SoundMemory.{codec-laws}
 use Rattle.gateway.specs.Effects.{Outcome}
 use Rattle.gateway.specs.Calls.{Left, onSound}

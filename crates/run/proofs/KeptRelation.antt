@@ -4,37 +4,20 @@ use Prim.Native.Nat.{ℕ, _≤_, _<_}
 use mathlib.Core.Bool.{Bool, true, false, cond}
 use mathlib.Core.List.{List, [], _∷_, _++_}
 use lib.Dec.{eqb}
-use lib.ListN.{take}
 use borrow.Author.Tests.{eqb-true}
-use Rattle.buffer.specs.Slice.{Bytes}
-use Rattle.gateway.specs.Taking.{any}
-use Rattle.gateway.specs.Calls.{taken, started, committed, workedOff}
+use Rattle.gateway.specs.Calls.{taken, started, committed}
 use Rattle.timewarp.specs.Worlds as Worlds
 use Rattle.timewarp.proofs.CallChains.{steps-join}
 use Rattle.run.specs.SingleQueue.{SetUp}
-use Rattle.run.specs.World.{World, Call, works, takes, starts, commits, setsUp, framesIn, isFrame, afterTaking, afterStarting, afterWorking, afterCommitting, afterCall, afterCalls, Allowed, AllAllowed}
+use Rattle.run.specs.World.{World, Call, works, takes, starts, commits, setsUp, afterCall, afterCalls, Allowed, AllAllowed}
 use Rattle.run.proofs.RefusedCalls.{refused-set-up, refused-frame, refused-start, refused-commit}
 use Rattle.run.proofs.BothWorlds.{Both, Keeps, forecastSetting}
+use Rattle.run.proofs.WorkOnBytes.{works-kept}
+use Rattle.run.proofs.CommitOnBytes.{commits-kept}
+use Rattle.run.proofs.RoundsKept.{round-starts}
+use Rattle.run.proofs.TakingsKept.{takes-kept}
 
 module _ (n : ℕ) (some : 1 ≤ n) (last : ℕ) (setups : ℕ → SetUp) where
-  -- What is proved of each call at a gateway that is accepted, and of work.
-  pub record Keeping : Type 0 where
-    pub working : {w : World} {t : Worlds.World (forecastSetting n some last setups)} → Both n some last setups w t → (i : ℕ) → i < n → (b : ℕ) (output : List ℕ)
-        → let l = workedOff b (w .memories i) output in
-        Keeps n some last setups t (afterWorking i (l .answer .count) (l .memory) (framesIn (l .answer .written) (l .output)) w)
-    pub taking : {w : World} {t : Worlds.World (forecastSetting n some last setups)} → Both n some last setups w t → (i : ℕ) → i < n → (frame output : List ℕ) → Bytes frame
-        → taken (w .memories i) frame output .answer .number ≡ 0 → any (isFrame frame) (w .underWay) ≡ true
-        → let l = taken (w .memories i) frame output in
-        Keeps n some last setups t (afterTaking n i frame (l .memory) (framesIn (l .answer .written) (l .output)) w)
-    pub starting : {w : World} {t : Worlds.World (forecastSetting n some last setups)} → Both n some last setups w t → (i : ℕ) → i < n → (output : List ℕ)
-        → started (w .memories i) output .answer .number ≡ 0
-        → let l = started (w .memories i) output in
-        Keeps n some last setups t (afterStarting n i (l .memory) (framesIn (l .answer .written) (l .output)) w)
-    pub committing : {w : World} {t : Worlds.World (forecastSetting n some last setups)} → Both n some last setups w t → (i : ℕ) → i < n → (output : List ℕ)
-        → committed (w .memories i) output .answer .number ≡ 0
-        → let l = committed (w .memories i) output in
-        Keeps n some last setups t (afterCommitting i (l .memory) (take (l .answer .written) (l .output)) w)
-
   -- a world that is as it was
   pub still : {w w′ : World} {t : Worlds.World (forecastSetting n some last setups)} → Both n some last setups w t → w′ ≡ w → Keeps n some last setups t w′
   still {t = t} b e = record { world = t; steps = Worlds.none; both = subst (λ (v : World). Both n some last setups v t) (sym e) b }
@@ -43,37 +26,36 @@ module _ (n : ℕ) (some : 1 ≤ n) (last : ℕ) (setups : ℕ → SetUp) where
   pub keeps-then : {w w′ : World} {t : Worlds.World (forecastSetting n some last setups)} (k : Keeps n some last setups t w) → Keeps n some last setups (k .world) w′ → Keeps n some last setups t w′
   keeps-then k l = record { world = l .world; steps = steps-join (k .steps) (l .steps); both = l .both }
 
-  module _ (keeping : Keeping) where
-    -- a call
-    pub call-keeps : {w : World} {t : Worlds.World (forecastSetting n some last setups)} → Both n some last setups w t → (c : Call) → Allowed n w c → Keeps n some last setups t (afterCall n w c)
-    unfolding afterCall
-    call-keeps b (works i count output) h = keeping .working b i h count output
-    call-keeps {w} {t} b (takes i frame output) h = by-answer (eqb (taken (w .memories i) frame output .answer .number) 0) refl
-      where
-        by-answer : (x : Bool) → eqb (taken (w .memories i) frame output .answer .number) 0 ≡ x → Keeps n some last setups t (afterCall n w (takes i frame output))
-        by-answer true e =
-            let accepted = eqb-true (taken (w .memories i) frame output .answer .number) 0 e in
-            rw e (keeping .taking b i (h .0) frame output (h .1) accepted (h .2 accepted))
-        by-answer false e = still b (refused-frame n w i frame output e)
-    call-keeps {w} {t} b (starts i output) h = by-answer (eqb (started (w .memories i) output .answer .number) 0) refl
-      where
-        by-answer : (x : Bool) → eqb (started (w .memories i) output .answer .number) 0 ≡ x → Keeps n some last setups t (afterCall n w (starts i output))
-        by-answer true e = rw e (keeping .starting b i h output (eqb-true (started (w .memories i) output .answer .number) 0 e))
-        by-answer false e = still b (refused-start n w i output e)
-    call-keeps {w} {t} b (commits i output) h = by-answer (eqb (committed (w .memories i) output .answer .number) 0) refl
-      where
-        by-answer : (x : Bool) → eqb (committed (w .memories i) output .answer .number) 0 ≡ x → Keeps n some last setups t (afterCall n w (commits i output))
-        by-answer true e = rw e (keeping .committing b i h output (eqb-true (committed (w .memories i) output .answer .number) 0 e))
-        by-answer false e = still b (refused-commit n w i output e)
-    call-keeps {w} b (setsUp i opening list) h = still b (refused-set-up n w i opening list (h .1))
+  -- a call
+  pub call-keeps : {w : World} {t : Worlds.World (forecastSetting n some last setups)} → Both n some last setups w t → (c : Call) → Allowed n w c → Keeps n some last setups t (afterCall n w c)
+  unfolding afterCall
+  call-keeps b (works i count output) h = works-kept n some last setups b i h count output
+  call-keeps {w} {t} b (takes i frame output) h = by-answer (eqb (taken (w .memories i) frame output .answer .number) 0) refl
+    where
+      by-answer : (x : Bool) → eqb (taken (w .memories i) frame output .answer .number) 0 ≡ x → Keeps n some last setups t (afterCall n w (takes i frame output))
+      by-answer true e =
+          let accepted = eqb-true (taken (w .memories i) frame output .answer .number) 0 e in
+          rw e (takes-kept n some last setups b i (h .0) frame output (h .1) accepted (h .2 accepted))
+      by-answer false e = still b (refused-frame n w i frame output e)
+  call-keeps {w} {t} b (starts i output) h = by-answer (eqb (started (w .memories i) output .answer .number) 0) refl
+    where
+      by-answer : (x : Bool) → eqb (started (w .memories i) output .answer .number) 0 ≡ x → Keeps n some last setups t (afterCall n w (starts i output))
+      by-answer true e = rw e (round-starts n some last setups b i h output (eqb-true (started (w .memories i) output .answer .number) 0 e))
+      by-answer false e = still b (refused-start n w i output e)
+  call-keeps {w} {t} b (commits i output) h = by-answer (eqb (committed (w .memories i) output .answer .number) 0) refl
+    where
+      by-answer : (x : Bool) → eqb (committed (w .memories i) output .answer .number) 0 ≡ x → Keeps n some last setups t (afterCall n w (commits i output))
+      by-answer true e = rw e (commits-kept n some last setups b i h output (eqb-true (committed (w .memories i) output .answer .number) 0 e))
+      by-answer false e = still b (refused-commit n w i output e)
+  call-keeps {w} b (setsUp i opening list) h = still b (refused-set-up n w i opening list (h .1))
 
-    -- a list of calls
-    pub calls-keep : (calls : List Call) {w : World} {t : Worlds.World (forecastSetting n some last setups)} → Both n some last setups w t → AllAllowed n w calls → Keeps n some last setups t (afterCalls n w calls)
-    unfolding afterCalls
-    calls-keep [] b h = still b refl
-    calls-keep (c ∷ calls) b h =
-        let k = call-keeps b c (h .0) in
-        keeps-then k (calls-keep calls (k .both) (h .1))
+  -- a list of calls
+  pub calls-keep : (calls : List Call) {w : World} {t : Worlds.World (forecastSetting n some last setups)} → Both n some last setups w t → AllAllowed n w calls → Keeps n some last setups t (afterCalls n w calls)
+  unfolding afterCalls
+  calls-keep [] b h = still b refl
+  calls-keep (c ∷ calls) b h =
+      let k = call-keeps b c (h .0) in
+      keeps-then k (calls-keep calls (k .both) (h .1))
 
 -- a list of calls in two parts
 pub calls-after : (n : ℕ) (w : World) (earlier later : List Call) → afterCalls n w (earlier ++ later) ≡ afterCalls n (afterCalls n w earlier) later

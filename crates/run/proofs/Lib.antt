@@ -7,6 +7,7 @@ pub mod SavedStates
 pub mod UndoChains
 pub mod QueueChanges
 pub mod EventCalls
+pub mod DueHours
 pub mod SingleQueues
 pub mod LedgerItems
 pub mod Ledgers
@@ -16,6 +17,7 @@ pub mod EventWorlds
 pub mod OpeningQueues
 pub mod RoundsUnderWay
 pub mod FramesCut
+pub mod PassingFrames
 pub mod ReadableFrames
 pub mod EventResults
 pub mod WorkChains
@@ -44,12 +46,15 @@ pub mod RoundsOnBytes
 pub mod EventFrames
 pub mod BesideCalls
 pub mod BothWorlds
+pub mod RoundsKept
 pub mod OpeningRelation
 pub mod EventsKept
 pub mod WorkOnBytes
 pub mod CommitOnBytes
 pub mod EventTakingsOnBytes
+pub mod TakingsKept
 pub mod RefusedCalls
+pub mod FramesInTurn
 pub mod KeptRelation
 pub mod Theorem
 pub mod Further

@@ -18,6 +18,7 @@ use Rattle.run.proofs.FigureGraph.{figureGraph}
 use Rattle.run.proofs.EventCalls.{Stands}
 use Rattle.run.proofs.RoundsUnderWay.{roundsIn}
 use Rattle.run.proofs.RoundWorlds.{Alike}
+use Rattle.run.proofs.DueHours.{NoteDue}
 use Rattle.run.proofs.RoundOpening.{noRounds, alike-opening}
 use Rattle.run.proofs.OpeningQueues.{openingEntries, opening-saved}
 use Rattle.run.proofs.OpeningWorlds.{first, kept, lawful, memory-holds, opening-beside}
@@ -44,6 +45,10 @@ module _ (n last : ℕ) (setups : ℕ → SetUp) (lent : ℕ → List ℕ) (fore
           saved = opening-saved n last setups i (lawful n last setups lent forecast (figureGraph n some) refl i h);
         }
 
+    opening-note : NoteDue last (first n last setups lent forecast (figureGraph n some) refl i h .round)
+    unfolding opened
+    opening-note = tt
+
     opening-bytes : SoundBytes (openingWorld setups lent .memories i)
     unfolding openingWorld
     opening-bytes = never-unsound .bySetUp (setups i .opening) (setups i .list) (lent i) (forecast .bytes i h .1) (forecast .bytes i h .0) (forecast .accepted i h) .still
@@ -64,4 +69,6 @@ module _ (n last : ℕ) (setups : ℕ → SetUp) (lent : ℕ → List ℕ) (fore
         bytes = opening-bytes;
         rounds = opening-rounds;
         numbered = nil;
+        passing = nil;
+        notes = λ i h. subst (λ (g : Gateway). NoteDue last (g .round)) (sym (held i h)) (opening-note i h);
       }

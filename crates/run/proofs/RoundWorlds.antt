@@ -1,22 +1,18 @@
 -- The gateways, the frames under way and the run's counters beside a world of the theory: what a call of a round makes of both.
 use mathlib.Core.Path.{_≡_, refl, sym, _∙_, ap, subst}
 use mathlib.Core.Logic.{_≢_}
-use mathlib.Core.Bool.{Bool, true, false, cond, _&&_, _||_}
-use mathlib.Core.List.{List, [], _∷_, _++_, map}
-use Prim.Native.Nat.{ℕ, zero, suc, _+_, _-_, _≤_, _<_, min, max}
+use mathlib.Core.Bool.{true, cond}
+use mathlib.Core.List.{List, _++_}
+use Prim.Native.Nat.{ℕ, suc, _+_, _-_, _≤_, min, max}
 use native.Mathlib.Omega.{arith}
 use lib.Dec.{eqb}
 use lib.ListN.{length}
-use Rattle.model.specs.Messages.{kindNumber}
-use Rattle.frame.specs.Reasons.{reading}
-use Rattle.frame.specs.Writing.{written}
-use Rattle.frame.specs.declared.Frame.{Frame}
 use Rattle.memory.specs.Records.{Gateway}
 use Rattle.gateway.specs.Effects.{Effect, withAgreed, withRound, noted}
 use Rattle.gateway.specs.Rounds.{begun, oneStart, oneLvt, bitOf, isIdle, valueIn, frames, children}
 use Rattle.model.specs.declared.Kind.the-variants.{Update}
 use Rattle.routing.specs.Arcs.{from, to}
-use Rattle.timewarp.specs.Lists.{All, nil, cons, Insert}
+use Rattle.timewarp.specs.Lists.{Insert}
 use Rattle.timewarp.specs.Families.{change}
 use Rattle.timewarp.specs.Models.{Model}
 use Rattle.timewarp.specs.RoundSteps
@@ -31,14 +27,13 @@ use Rattle.timewarp.proofs.RoundArcs
 use Rattle.timewarp.proofs.RoundCarried.{of-start, of-lvt}
 use Rattle.timewarp.proofs.Joined.{Good}
 use Rattle.run.specs.World
-use Rattle.run.specs.World.{Carried, carry, roundFrames, kindIn}
 use Rattle.run.proofs.FigureGraph.{figureGraph}
 use Rattle.run.proofs.Standing.{Standings, StandingAt, lower-standings}
 use Rattle.run.proofs.RoundCounters.{Counted, lower-counted}
 use Rattle.run.proofs.RoundChains
 use Rattle.run.proofs.RoundChains.{change-same}
 use Rattle.run.proofs.RoundCalls
-use Rattle.run.proofs.RoundsUnderWay.{roundsIn, roundsOf, Readable, rounds-carried}
+use Rattle.run.proofs.RoundsUnderWay.{roundsOf}
 
 -- a family changed at one place, seen through a function
 pub change-seen : {A B : Type 0} (f : A → B) (i : ℕ) (v : A) (fam : ℕ → A) (k : ℕ) → change i (f v) (λ j. f (fam j)) k ≡ f (change i v fam k)

@@ -1,17 +1,17 @@
 -- The calls of a round on bytes: an accepted one leads from a world that is alike to one that is.
 use mathlib.Core.Path.{_≡_, refl, sym, _∙_, ap, ap₂, subst}
-use mathlib.Core.Bool.{Bool, true, false, cond, _&&_, true≢false}
+use mathlib.Core.Bool.{Bool, true, false, cond, _&&_, _||_, true≢false}
 use mathlib.Core.List.{List, [], _∷_, _++_, map, append-nil}
 use Prim.Native.Nat.{ℕ, suc, _+_, _-_, _≤_, _<_, min, max}
 use native.Mathlib.Omega.{arith}
-use lib.Dec.{eqb}
+use lib.Dec.{eqb, leb}
 use lib.ListN.{length}
+use borrow.Author.Tests.{le-leb}
 use Rattle.routing.specs.Arcs.{from, to}
 use Rattle.model.specs.Messages.{kindNumber}
 use Rattle.model.specs.declared.Message.{Message}
-use Rattle.model.specs.declared.Kind.{Kind}
 use Rattle.model.specs.declared.Kind.the-variants.{Start, Lvt, Update}
-use Rattle.frame.specs.Limits.{addressee}
+use Rattle.frame.specs.Limits.{addressee, nothingDue}
 use Rattle.frame.specs.Reasons.{reading}
 use Rattle.frame.specs.Writing.{written}
 use Rattle.frame.specs.declared.Frame.{Frame}
@@ -19,13 +19,14 @@ use Rattle.frame.specs.declared.Sense.{Sense}
 use Rattle.frame.specs.declared.Sense.the-variants.{Plain}
 use Rattle.memory.specs.Records.{Gateway}
 use Rattle.memory.specs.Codec.{decode}
-use Rattle.memory.proofs.Validated.{ValidSettings}
+use Rattle.memory.specs.declared.Settings.{Settings}
+use Rattle.memory.proofs.Validated.{Valid}
 use Rattle.gateway.specs.Effects.{Effect, Outcome, withAgreed}
 use Rattle.gateway.specs.Rounds.{start, begun, isIdle, oneStart, oneLvt, bitOf, valueIn, frames, children}
 use Rattle.gateway.specs.Taking.{any, withoutFirst}
 use Rattle.gateway.specs.Calls.{started, taken, takeBytes}
 use Rattle.gateway.proofs.Accepting.{not-refused}
-use Rattle.timewarp.specs.Lists.{All, Insert}
+use Rattle.timewarp.specs.Lists.{All}
 use Rattle.timewarp.specs.Models.{Model}
 use Rattle.timewarp.specs.Gateways.{Event, networkOf}
 use Rattle.timewarp.specs.RoundSteps
@@ -42,16 +43,18 @@ use Rattle.run.proofs.RoundCounters.{isOpen, open-number}
 use Rattle.run.proofs.RoundChains.{setting}
 use Rattle.run.proofs.EventsUnderWay.{seenIn, seen-carried, seen-left, eventBySense, eventOf, acknowledgedBySense, acknowledgedOf, plainByKind}
 use Rattle.run.proofs.EventWorlds.{networkIn}
-use Rattle.run.proofs.RoundsUnderWay.{byKind, roundOf, roundsIn, roundsOf, rounds-carried, round-taken, Numbered, carried-rest, carried-more, number-found}
+use Rattle.run.proofs.RoundsUnderWay.{byKind, roundsIn, roundsOf, rounds-carried, round-taken, Numbered, carried-rest, carried-more, number-found}
 use Rattle.run.proofs.RoundWorlds.{Alike, Led, Called, start-led, start-taken-led, lvt-taken-led, update-taken-led, open-by-start, open-by-lvt}
 use Rattle.run.proofs.AcceptedFrames.{outcomeOf, bytes-accepted}
 use Rattle.run.proofs.AcceptedCalls.{on-sound, call-frames, start-accepted, start-bytes, lvt-bytes, update-bytes}
 use Rattle.run.proofs.RoundForms.{frames-counted}
-use Rattle.run.proofs.SendableFrames.{Sendable, none-seen, begun-sendable, start-sendable, lvt-sendable, relayed-sendable, value-most}
-use Rattle.run.proofs.RoundEffects.{OnlyRound, begun-only, start-only, lvt-only}
+use Rattle.run.proofs.SendableFrames.{Sendable, none-seen, begun-sendable, start-sendable, lvt-sendable, relayed-sendable}
+use Rattle.run.proofs.RoundEffects.{OnlyRound, begun-only, start-only, lvt-only, begun-due, start-due, lvt-due}
+use Rattle.run.proofs.DueHours.{DueHour, NoteDue, due-min, value-in-due, allowed-due}
+use Rattle.run.proofs.PassingFrames.{Passing}
 
 -- frames of a round are put under way: the network is what it was
-carried-network : {open? : Bool} {fs : List Frame} → Sendable open? fs → (tag : ℕ) (cs : List Carried) → networkIn (carry tag (map written fs) cs) ≡ networkIn cs
+carried-network : {x : Settings} {open? : Bool} {fs : List Frame} → Sendable x open? fs → (tag : ℕ) (cs : List Carried) → networkIn (carry tag (map written fs) cs) ≡ networkIn cs
 carried-network {fs = fs} s tag cs =
     let unseen : (see : Frame → List (Event Message)) → All (λ f. see f ≡ []) fs → seenIn see (carry tag (map written fs) cs) ≡ seenIn see cs =
     λ see a. seen-carried see tag fs (s .readable) cs ∙ ap (λ l. seenIn see cs ++ l) (none-seen see a) ∙ append-nil (seenIn see cs) in
@@ -62,20 +65,26 @@ module _ (n : ℕ) (some : 1 ≤ n) (M : Model) (equal : n - 1 ≡ M .last) (w :
   abbrev gs : ℕ → Gateway
   gs j = decode (v .memories j)
 
-  -- What a call of a round at gateway i comes to, r being its outcome and u the world after it.
-  pub record Goes (r : Outcome) (u : World.World) : Type 0 where
+  -- a frame under way passes by the settings of gateway i
+  abbrev Passes : Carried → Type 0
+  Passes x = Passing (gs i .settings .n) (gs i .settings .last) (x .frame)
+
+  -- What a call of a round at gateway i comes to, r being its outcome, cs what is under way after it and c the counters.
+  pub record Goes (r : Outcome) (cs : List Carried) (c : World.Rounds) : Type 0 where
     pub effect : Effect
     pub comes-to : r ≡ outcomeOf effect
     pub only : OnlyRound (gs i) (effect .gateway)
-    pub led : Led n some M equal w gs i effect (roundsIn (u .underWay)) (u .rounds)
-    pub network : networkIn (u .underWay) ≡ networkIn (v .underWay)
-    pub numbered : All Numbered (v .underWay) → All Numbered (u .underWay)
+    pub led : Led n some M equal w gs i effect (roundsIn cs) c
+    pub network : networkIn cs ≡ networkIn (v .underWay)
+    pub numbered : All Numbered (v .underWay) → All Numbered cs
+    pub passing : All Passes (v .underWay) → All Passes cs
+    pub note : NoteDue (gs i .settings .last) (effect .gateway .round)
 
   led-again : {e : Effect} {fs fs′ : List RoundFrame} {c c′ : World.Rounds} → fs ≡ fs′ → c ≡ c′ → Led n some M equal w gs i e fs c → Led n some M equal w gs i e fs′ c′
   led-again {e} {fs} {fs′} {c} {c′} p q l = subst (λ x. Led n some M equal w gs i e x c′) p (subst (Led n some M equal w gs i e fs) q l)
 
   module _ (a : Called n some M equal w k gs i inside) (alike : Alike n some M equal gs (roundsIn (v .underWay)) (v .rounds) (w .rounds))
-      (valid : ValidSettings (gs i .settings)) where
+      (valid : Valid (gs i)) (noted : NoteDue (gs i .settings .last) (gs i .round)) where
     -- The start call.
     module _ (output : List ℕ) (h : started (v .memories i) output .answer .number ≡ 0) where
       -- the counters after m frames are written
@@ -85,7 +94,8 @@ module _ (n : ℕ) (some : 1 ≤ n) (M : Model) (equal : n - 1 ≡ M .last) (w :
           cond (eqb n 1) (World.closes took) took
 
       pub started-goes : let l = started (v .memories i) output in
-          Goes (start (length output) (gs i)) (afterStarting n i (l .memory) (framesIn (l .answer .written) (l .output)) v)
+          let u = afterStarting n i (l .memory) (framesIn (l .answer .written) (l .output)) v in
+          Goes (start (length output) (gs i)) (u .underWay) (u .rounds)
       unfolding started afterStarting
       started-goes =
           let e = begun (gs i) in
@@ -107,6 +117,8 @@ module _ (n : ℕ) (some : 1 ≤ n) (M : Model) (equal : n - 1 ≡ M .last) (w :
                 (start-led n some M equal w k gs i inside a alike z idles);
             network = ap networkIn carried ∙ carried-network s (suc (v .rounds .opened)) (v .underWay);
             numbered = λ b. subst (All Numbered) (sym carried) (carried-more (suc (v .rounds .opened)) (all-every (λ f x. omega arith) (e .frames)) b);
+            passing = λ b. subst (All Passes) (sym carried) (carried-more (suc (v .rounds .opened)) (s .passing) b);
+            note = begun-due (gs i) valid;
           }
         where
           not-open : i ≡ 0 → isIdle (gs i .round .phase) ≡ true
@@ -143,6 +155,13 @@ module _ (n : ℕ) (some : 1 ≤ n) (M : Model) (equal : n - 1 ≡ M .last) (w :
           ∙ not-refused (gs i .settings) (reading frame .frame) (bytes-accepted frame (length output) (gs i) number .passes) .here
           ∙ a .own
 
+      -- its hour is one that a round carries
+      hour-due : 5 ≤ kindNumber (m .kind) → DueHour (gs i .settings .last) (m .hour)
+      hour-due large =
+          allowed-due
+          (subst (λ (b : Bool). (leb (m .hour) (gs i .settings .last) || (b && eqb (m .hour) nothingDue)) ≡ true) (le-leb 5 (kindNumber (m .kind)) large)
+          (not-refused (gs i .settings) (reading frame .frame) (bytes-accepted frame (length output) (gs i) number .passes) .hour))
+
       -- and is no event
       rest-network : plainByKind m (m .kind) ≡ [] → networkIn rest ≡ networkIn (v .underWay)
       rest-network none =
@@ -150,13 +169,13 @@ module _ (n : ℕ) (some : 1 ≤ n) (M : Model) (equal : n - 1 ≡ M .last) (w :
           (seen-left eventOf frame (v .underWay) (ap (eventBySense m) plain ∙ none))
           (seen-left acknowledgedOf frame (v .underWay) (ap (acknowledgedBySense m) plain))
 
-      cut : (e : Effect) → outcome ≡ outcomeOf e → {open? : Bool} → Sendable open? (e .frames)
+      cut : (e : Effect) → outcome ≡ outcomeOf e → {open? : Bool} → Sendable (gs i .settings) open? (e .frames)
           → let l = taken (v .memories i) frame output in framesIn (l .answer .written) (l .output) ≡ map written (e .frames)
       unfolding taken
       cut e same s = call-frames (takeBytes frame) (v .memories i) output e h same (s .whole)
 
       -- A Start or an Lvt belongs to the open round.
-      module _ (e : Effect) (same : outcome ≡ outcomeOf e) (only : OnlyRound (gs i) (e .gateway)) (s : Sendable true (e .frames)) (is-open : v .rounds .open? ≡ true)
+      module _ (e : Effect) (same : outcome ≡ outcomeOf e) (only : OnlyRound (gs i) (e .gateway)) (due : NoteDue (gs i .settings .last) (e .gateway .round)) (s : Sendable (gs i .settings) true (e .frames)) (is-open : v .rounds .open? ≡ true)
           (other : eqb (kindIn frame) 6 ≡ false) (none : plainByKind m (m .kind) ≡ []) where
         -- the counters after c frames are written
         abbrev openCounters : ℕ → World.Rounds
@@ -175,7 +194,7 @@ module _ (n : ℕ) (some : 1 ≤ n) (M : Model) (equal : n - 1 ≡ M .last) (w :
         opened : v .rounds .opened ≡ suc (w .rounds .tag)
         opened = open-number (figureGraph n some) (v .rounds) (w .rounds) (alike .counted) is-open
 
-        open-goes : Led n some M equal w gs i e (roundsIn rest ++ roundsOf (w .rounds .tag) (e .frames)) (openCounters (length (e .frames))) → Goes outcome after
+        open-goes : Led n some M equal w gs i e (roundsIn rest ++ roundsOf (w .rounds .tag) (e .frames)) (openCounters (length (e .frames))) → Goes outcome (after .underWay) (after .rounds)
         open-goes led =
             record {
               effect = e;
@@ -190,13 +209,15 @@ module _ (n : ℕ) (some : 1 ≤ n) (M : Model) (equal : n - 1 ≡ M .last) (w :
               numbered =
                   λ b. subst (All Numbered) (sym after-carried)
                   (carried-more (v .rounds .opened) (all-every (λ f x. omega (arith, opened)) (e .frames)) (carried-rest (isFrame frame) b));
+              passing = λ b. subst (All Passes) (sym after-carried) (carried-more (v .rounds .opened) (s .passing) (carried-rest (isFrame frame) b));
+              note = due;
             }
 
       abbrev t : ℕ
       t = tagOf frame (v .underWay) - 1
 
       -- taking a Start
-      pub start-goes : m .kind ≡ Start → Goes outcome after
+      pub start-goes : m .kind ≡ Start → Goes outcome (after .underWay) (after .rounds)
       start-goes is =
           let heard = from (gs i .settings .n) (gs i .settings .own) in
           let e = oneStart heard (gs i .round .arrived + bitOf (m .from) heard) (gs i) in
@@ -204,6 +225,7 @@ module _ (n : ℕ) (some : 1 ≤ n) (M : Model) (equal : n - 1 ≡ M .last) (w :
           let kind = ap kindNumber is in
           open-goes e (start-bytes frame (length output) (gs i) plain number is)
           (start-only (gs i) heard (gs i .round .arrived + bitOf (m .from) heard))
+          (start-due (gs i) valid heard (gs i .round .arrived + bitOf (m .from) heard))
           (start-sendable (gs i) valid heard (gs i .round .arrived + bitOf (m .from) heard))
           (open-by-start n some M equal w k gs i inside alike (roundsIn rest) (m .from) t x)
           (ap (λ (c : ℕ). eqb c 6) kind)
@@ -211,23 +233,25 @@ module _ (n : ℕ) (some : 1 ≤ n) (M : Model) (equal : n - 1 ≡ M .last) (w :
           (rw is (start-taken-led n some M equal w k gs i inside a alike (m .from) t (roundsIn rest) x))
 
       -- taking an Lvt
-      pub lvt-goes : m .kind ≡ Lvt → gs i .round .note < 4294967296 → Goes outcome after
-      lvt-goes is small =
+      pub lvt-goes : m .kind ≡ Lvt → Goes outcome (after .underWay) (after .rounds)
+      lvt-goes is =
           let told = to (gs i .settings .n) (gs i .settings .own) in
           let value = min (valueIn (gs i .round .phase) (gs i)) (m .hour) in
+          let due = due-min (value-in-due (gs i) valid (gs i .round .phase) noted) (hour-due (omega (arith, ap kindNumber is))) in
           let e = oneLvt told (gs i .round .arrived + bitOf (m .from) told) value (gs i) in
           let x = round-taken frame (v .underWay) found (RoundSteps.lvt (m .from) i t (m .hour)) (ap (byKind t m) is ∙ ap (λ (j : ℕ). RoundSteps.lvt (m .from) j t (m .hour) ∷ []) addressed) in
           let kind = ap kindNumber is in
           open-goes e (lvt-bytes frame (length output) (gs i) plain number is)
           (lvt-only (gs i) told (gs i .round .arrived + bitOf (m .from) told) value)
-          (lvt-sendable (gs i) valid told (gs i .round .arrived + bitOf (m .from) told) value (omega (arith, value-most (gs i) small (gs i .round .phase))))
+          (lvt-due (gs i) valid told (gs i .round .arrived + bitOf (m .from) told) value due)
+          (lvt-sendable (gs i) valid told (gs i .round .arrived + bitOf (m .from) told) value due)
           (open-by-lvt n some M equal w k gs i inside alike (roundsIn rest) (m .from) t (m .hour) x)
           (ap (λ (c : ℕ). eqb c 6) kind)
           (ap (plainByKind m) is)
           (rw is (lvt-taken-led n some M equal w k gs i inside a alike (m .from) t (m .hour) (roundsIn rest) x))
 
       -- An Update belongs to its own round.
-      module _ (e : Effect) (same : outcome ≡ outcomeOf e) (s : Sendable (v .rounds .open?) (e .frames)) (is : m .kind ≡ Update) where
+      module _ (e : Effect) (same : outcome ≡ outcomeOf e) (s : Sendable (gs i .settings) (v .rounds .open?) (e .frames)) (is : m .kind ≡ Update) where
         update-carried : after .underWay ≡ carry (tagOf frame (v .underWay)) (map written (e .frames)) rest
         unfolding afterTaking
         update-carried = rw (is, cut e same s) refl
@@ -237,12 +261,12 @@ module _ (n : ℕ) (some : 1 ≤ n) (M : Model) (equal : n - 1 ≡ M .last) (w :
         update-counted = rw (is, cut e same s, frames-counted (v .rounds .open?) (s .readable) (s .counting)) refl
 
       -- taking an Update
-      pub update-goes : m .kind ≡ Update → m .hour < 4294967296 → All Numbered (v .underWay) → Goes outcome after
-      update-goes is small numbered =
+      pub update-goes : m .kind ≡ Update → All Numbered (v .underWay) → Goes outcome (after .underWay) (after .rounds)
+      update-goes is numbered =
           let e : Effect = record { gateway = withAgreed (max (gs i .agreed) (m .hour)) (gs i); frames = frames Update (m .hour) (gs i .settings .own) (children (gs i .settings)) } in
           let x = round-taken frame (v .underWay) found (RoundSteps.update (m .from) i t (m .hour)) (ap (byKind t m) is ∙ ap (λ (j : ℕ). RoundSteps.update (m .from) j t (m .hour) ∷ []) addressed) in
           let same = update-bytes frame (length output) (gs i) plain number is in
-          let s = relayed-sendable (gs i .settings) valid (v .rounds .open?) (m .hour) small in
+          let s = relayed-sendable (gs i .settings) (valid .settings) (v .rounds .open?) (m .hour) (hour-due (omega (arith, ap kindNumber is))) in
           let kind = ap kindNumber is in
           let tag : tagOf frame (v .underWay) ≡ suc t = omega (arith, number-found frame (omega arith) numbered found) in
           let carried = update-carried e same s is in
@@ -259,4 +283,6 @@ module _ (n : ℕ) (some : 1 ≤ n) (M : Model) (equal : n - 1 ≡ M .last) (w :
             numbered =
                 λ b. subst (All Numbered) (sym carried)
                 (carried-more (tagOf frame (v .underWay)) (all-every (λ f y. omega (arith, tag)) (e .frames)) (carried-rest (isFrame frame) b));
+            passing = λ b. subst (All Passes) (sym carried) (carried-more (tagOf frame (v .underWay)) (s .passing) (carried-rest (isFrame frame) b));
+            note = noted;
           }

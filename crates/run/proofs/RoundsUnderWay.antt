@@ -1,10 +1,10 @@
 -- The frames of a round that are under way, as the theory has them.
 use mathlib.Core.Path.{_≡_, refl, sym, _∙_, ap, subst}
 use mathlib.Core.Bool.{Bool, true, false, cond, _||_, false≢true}
-use mathlib.Core.List.{List, [], _∷_, _++_, map, append-assoc, append-nil}
-use Prim.Native.Nat.{ℕ, zero, suc, _+_, _*_, _-_, _≤_, _<_}
+use mathlib.Core.List.{List, [], _∷_, _++_, map, append-assoc}
+use Prim.Native.Nat.{ℕ, suc, _+_, _*_, _-_, _≤_}
 use native.Mathlib.Omega.{arith}
-use lib.Dec.{eqb, leb, ltb, leb·suc-suc}
+use lib.Dec.{leb, ltb, leb·suc-suc}
 use Rattle.model.specs.declared.Message.{Message}
 use Rattle.model.specs.declared.Kind.{Kind}
 use Rattle.model.specs.declared.Kind.the-variants.{Failure, Request, Delivery, Restock, Start, Lvt, Update}
@@ -14,7 +14,7 @@ use Rattle.frame.specs.declared.Frame.{Frame}
 use Rattle.buffer.proofs.Equality.{same-bytes}
 use Rattle.memory.specs.declared.Settings.{Settings}
 use Rattle.gateway.specs.Taking.{any, withoutFirst}
-use Rattle.gateway.specs.Rounds.{roundFrame, frames, children}
+use Rattle.gateway.specs.Rounds.{frames, children}
 use Rattle.timewarp.specs.Lists.{All, nil, cons, Insert, here, there}
 use Rattle.timewarp.specs.Arcs
 use Rattle.timewarp.specs.RoundSteps.{RoundFrame, start, lvt, update}

@@ -1,4 +1,4 @@
--- Demand 3 from what each call keeps.
+-- The theorem: demand 3 holds of every forecast, every list of calls and every carrier that keeps to the rules.
 use mathlib.Core.Path.{_≡_, refl, sym, _∙_, ap, subst}
 use Prim.Native.Nat.{ℕ, _-_, _≤_, _<_}
 use native.Mathlib.Omega.{arith}
@@ -14,9 +14,9 @@ use Rattle.run.proofs.RoundClaims.{rounds-hold, rounds-fewer}
 use Rattle.run.proofs.OpeningWorlds.{single-queue}
 use Rattle.run.proofs.BothWorlds.{Both, Keeps, forecastSetting, model, good-world}
 use Rattle.run.proofs.OpeningRelation.{opening-both}
-use Rattle.run.proofs.KeptRelation.{Keeping, calls-keep, calls-after, allowed-parts}
+use Rattle.run.proofs.KeptRelation.{calls-keep, calls-after, allowed-parts}
 
-module _ (n last : ℕ) (setups : ℕ → SetUp) (lent : ℕ → List ℕ) (forecast : Forecast n last setups lent) (keeping : Keeping n (forecast .some) last setups) where
+module _ (n last : ℕ) (setups : ℕ → SetUp) (lent : ℕ → List ℕ) (forecast : Forecast n last setups lent) where
   abbrev some : 1 ≤ n
   some = forecast .some
 
@@ -25,7 +25,7 @@ module _ (n last : ℕ) (setups : ℕ → SetUp) (lent : ℕ → List ℕ) (fore
 
   -- a world of the theory belongs to the world that every allowed list of calls leads to
   pub reached-both : (calls : List Call) → AllAllowed n first calls → Keeps n some last setups (Worlds.openingWorld (forecastSetting n some last setups)) (afterCalls n first calls)
-  reached-both calls h = calls-keep n some last setups keeping calls (opening-both n last setups lent forecast) h
+  reached-both calls h = calls-keep n some last setups calls (opening-both n last setups lent forecast) h
 
   -- no agreed time falls along a list of calls
   pub time-never-falls : {w w′ : World} {t : Worlds.World (forecastSetting n some last setups)} → Both n some last setups w t → (k : Keeps n some last setups t w′) → (i : ℕ) → i < n → agreed w i ≤ agreed w′ i
@@ -43,7 +43,7 @@ module _ (n last : ℕ) (setups : ℕ → SetUp) (lent : ℕ → List ℕ) (fore
       let (before, after) = allowed-parts n first earlier later (subst (AllAllowed n first) e h) in
       let k = reached-both earlier before in
       subst (λ (w : World). agreed (afterCalls n first earlier) i ≤ agreed w i) (sym (ap (afterCalls n first) e ∙ calls-after n first earlier later))
-      (time-never-falls (k .both) (calls-keep n some last setups keeping later (k .both) after) i l)
+      (time-never-falls (k .both) (calls-keep n some last setups later (k .both) after) i l)
 
   pub claimed : (calls : List Call) → AllAllowed n first calls → Claim n last setups lent calls (afterCalls n first calls)
   claimed calls h =
@@ -61,6 +61,6 @@ module _ (n last : ℕ) (setups : ℕ → SetUp) (lent : ℕ → List ℕ) (fore
         fewer = rounds-fewer n some (model n some last setups) refl (good-world n some last setups (k .both)) (k .both .rounds .counted);
       }
 
--- the theorem, from what each call keeps
-pub demand3-from : ((n : ℕ) (some : 1 ≤ n) (last : ℕ) (setups : ℕ → SetUp) → Keeping n some last setups) → Demand3
-demand3-from keeping n last setups lent forecast calls h = claimed n last setups lent forecast (keeping n (forecast .some) last setups) calls h
+-- The theorem.
+pub demand3 : Demand3
+demand3 n last setups lent forecast calls h = claimed n last setups lent forecast calls h

@@ -31,7 +31,7 @@ use Rattle.run.specs.World.{Carried, carry}
 use Rattle.run.proofs.LocalChains.{led-join, lower-agreed}
 use Rattle.run.proofs.EventCalls.{Stands, notedAll, did, done-saved}
 use Rattle.run.proofs.Ledgers.{Follows, did-follows}
-use Rattle.run.proofs.ReadableFrames.{EventFrame, sent-frames}
+use Rattle.run.proofs.ReadableFrames.{EventFrame, same-limits, frames-hours, sent-frames}
 use Rattle.run.proofs.EventWorlds.{settingOf, Sees, GoesOn, networkIn, done-goes}
 use Rattle.run.proofs.EventResults.{CallResult}
 
@@ -66,6 +66,7 @@ module _ (n last : ℕ) (setups : ℕ → SetUp) (G : Graph) (same : G .last ≡
           bytes = refl;
           are-events = nil;
           sends = [];
+          timely = nil;
           goes = record { world = w; steps = none; here = sees .view; elsewhere = λ j e. refl; network = sees .network ∙ ap networkIn (sym (append-nil cs)); rounds = refl };
           stands = st;
           follows = follows;
@@ -74,10 +75,10 @@ module _ (n last : ℕ) (setups : ℕ → SetUp) (G : Graph) (same : G .last ≡
         }
 
     -- one is, and the rest follows
-    more-goes : (m : Message) (ms : List Message) → pendingOf (g .queue) ≡ m ∷ ms → All EventFrame (done m g .frames) → (first : GoesOn n last setups G same w i (sent (siteOf (g .settings)) (g .state) m) c (done m g .gateway) (carry tag (map written (done m g .frames)) cs)) →
+    more-goes : (m : Message) (ms : List Message) → pendingOf (g .queue) ≡ m ∷ ms → All (EventFrame n last) (done m g .frames) → (first : GoesOn n last setups G same w i (sent (siteOf (g .settings)) (g .state) m) c (done m g .gateway) (carry tag (map written (done m g .frames)) cs)) →
         (p : Progress) → WorkGoes (first .world) (done m g .gateway) (carry tag (map written (done m g .frames)) cs) (record { items = didOne (l .items); cancels = l .cancels }) p →
         WorkGoes w g cs l (onceMore (bytesOfFrames (done m g .frames)) p)
-    unfolding didSome
+    unfolding didSome done
     more-goes m ms k r first p q =
         let t = sent (siteOf (g .settings)) (g .state) m in
         record {
@@ -85,6 +86,7 @@ module _ (n last : ℕ) (setups : ℕ → SetUp) (G : Graph) (same : G .last ≡
           bytes = bytes-append (done m g .frames) (q .frames) ∙ ap (λ b. bytesOfFrames (done m g .frames) ++ b) (q .bytes);
           are-events = all-append r (q .are-events);
           sends = t ++ q .sends;
+          timely = all-append (frames-hours false t r) (q .timely);
           goes =
               subst (λ d. GoesOn n last setups G same w i (t ++ q .sends) c (p .gateway) d) (carry-append tag (done m g .frames) (q .frames) cs)
               (led-join (settingOf n last setups G same) first (q .goes));
@@ -98,13 +100,14 @@ module _ (n last : ℕ) (setups : ℕ → SetUp) (G : Graph) (same : G .last ≡
   held-good : (g : Gateway) → Proper g → (m : Message) (ms : List Message) → pendingOf (g .queue) ≡ m ∷ ms → (e : Entry) × (e ∈ g .queue) × (m ≡ e .message)
   held-good g p m ms k = pending-member (g .queue) m (subst (λ l. m ∈ l) (sym k) (member-first refl))
 
-  done-frames : (g : Gateway) → Proper g → (m : Message) (ms : List Message) → pendingOf (g .queue) ≡ m ∷ ms → All EventFrame (done m g .frames)
+  done-frames : (g : Gateway) → Stands n last setups i c g → Proper g → (m : Message) (ms : List Message) → pendingOf (g .queue) ≡ m ∷ ms → All (EventFrame n last) (done m g .frames)
   unfolding done
-  done-frames g p m ms k =
+  done-frames g st p m ms k =
       let v = valid-facts g (p .valid) in
       let r = held-good g p m ms k in
       let good : Good (g .settings) (isWaiting (r .0)) (r .0 .message) = record { storable = v .entries (r .0) (r .1) .message; ranged = p .ranged .queue (r .0) (r .1) .message } in
-      sent-frames (g .settings) (v .settings) m (subst (Good (g .settings) (isWaiting (r .0))) (sym (r .2)) good) false (g .state)
+      all-map (λ f e. same-limits (st .count) (st .until) e)
+      (sent-frames (g .settings) (v .settings) m (subst (Good (g .settings) (isWaiting (r .0))) (sym (r .2)) good) false (g .state))
 
   -- doing an event is work of one event
   done-once : (g : Gateway) (m : Message) (ms : List Message) → pendingOf (g .queue) ≡ m ∷ ms → (room : ℕ) → fits room (done m g) ≡ true → worked 1 room g .gateway ≡ done m g .gateway
@@ -144,7 +147,7 @@ module _ (n last : ℕ) (setups : ℕ → SetUp) (G : Graph) (same : G .last ≡
       once : (m : Message) (ms : List Message) → pendingOf (g .queue) ≡ m ∷ ms → (t : Bool) → fits room (done m g) ≡ t → Again → WorkGoes w g cs l (cond t (rest m) (stopped 5 g))
       once m ms k true h again =
           let proper = done-proper g p m ms k room h in
-          let are-events = done-frames g p m ms k in
+          let are-events = done-frames g st p m ms k in
           let d = did n last setups i c g st m in
           let first = done-goes n last setups G same w i inside c g st cs sees m ms k (all-map (λ f e. e .readable) are-events) tag in
           more-goes w g cs l st sees follows m ms k are-events first (worked b (room - length (bytesOfFrames (done m g .frames))) (done m g .gateway))

@@ -42,4 +42,4 @@ module _ (n : ℕ) (some : 1 ≤ n) (last : ℕ) (setups : ℕ → SetUp) {w : W
   unfolding afterWorking
   works-kept =
       subst (λ (l : Left Worked). Keeps n some last setups t (afterWorking i (l .answer .count) (l .memory) (framesIn (l .answer .written) (l .output)) w)) (sym left)
-      (result-keeps n some last setups b i h 0 (w .underWay) refl (b .numbered) goes (work-keeps budget (length output) (proper n some last setups b i h) .gateway) output)
+      (result-keeps n some last setups b i h 0 (w .underWay) refl (b .numbered) (b .passing) goes (work-keeps budget (length output) (proper n some last setups b i h) .gateway) output)
