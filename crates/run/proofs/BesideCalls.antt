@@ -1,8 +1,8 @@
 -- A call on events at one gateway leads from a world beside the theory's to another such world.
 use mathlib.Core.Path.{_≡_, refl, sym, _∙_, ap, subst}
-use Prim.Native.Nat.{ℕ, _-_, _≤_, _<_}
+use Prim.Native.Nat.{ℕ, _-_, _<_}
 use mathlib.Core.Bool.{Bool, true, false, cond}
-use mathlib.Core.List.{List, [], _∷_}
+use mathlib.Core.List.{List}
 use lib.Dec.{eqb}
 use borrow.Author.Tests.{eqb-true, eqb-false}
 use Rattle.model.specs.declared.Message.{Message}
@@ -16,7 +16,7 @@ use Rattle.run.specs.Lines.{change}
 use Rattle.run.specs.SingleQueue.{SetUp}
 use Rattle.run.specs.Ledger as Ledger
 use Rattle.run.specs.World.{World, Carried, Rounds}
-use Rattle.run.proofs.LocalChains.{Led, lower-agreed}
+use Rattle.run.proofs.LocalChains.{lower-agreed}
 use Rattle.run.proofs.QueueViews.{viewOf}
 use Rattle.run.proofs.RoundCounters.{same-change}
 use Rattle.run.proofs.RoundChains.{change-same}

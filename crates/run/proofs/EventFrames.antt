@@ -1,8 +1,8 @@
 -- Frames of events and acknowledgments beside the rounds: none of them is one of a round, and none counts for one.
-use mathlib.Core.Path.{_≡_, refl, sym, _∙_, ap}
-use mathlib.Core.Bool.{Bool, true, false, cond, _&&_, _||_}
-use mathlib.Core.List.{List, [], _∷_, _++_, map, append-nil}
-use Prim.Native.Nat.{ℕ, zero, suc, _+_, _-_, _≤_, _<_}
+use mathlib.Core.Path.{_≡_, refl, _∙_, ap}
+use mathlib.Core.Bool.{Bool, true, false, cond, _&&_}
+use mathlib.Core.List.{List, [], _++_, map, append-nil}
+use Prim.Native.Nat.{ℕ, _+_, _-_, _<_}
 use native.Mathlib.Omega.{arith}
 use lib.Dec.{eqb}
 use borrow.Author.Tests.{eqb-true, ne-eqb}
@@ -15,7 +15,6 @@ use Rattle.frame.specs.Writing.{written}
 use Rattle.frame.specs.declared.Frame.{Frame}
 use Rattle.gateway.specs.Taking.{withoutFirst}
 use Rattle.timewarp.specs.Lists.{All, nil, cons}
-use Rattle.timewarp.specs.RoundSteps.{RoundFrame}
 use Rattle.timewarp.proofs.ListLaws.{all-map}
 use Rattle.run.specs.Lines.{change}
 use Rattle.run.specs.World.{Carried, Rounds, carry, isFrame, kindIn, roundFrames, tookMore}

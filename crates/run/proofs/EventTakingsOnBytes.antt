@@ -1,19 +1,16 @@
 -- Taking a plain message, a cancel or an acknowledgment on bytes keeps the relation of both worlds, where the frame was under way and is accepted.
 use mathlib.Core.Path.{_≡_, refl, sym, _∙_, ap, subst}
-use Prim.Native.Nat.{ℕ, suc, _+_, _-_, _≤_, _<_}
+use Prim.Native.Nat.{ℕ, _-_, _≤_, _<_}
 use native.Mathlib.Omega.{arith}
-use mathlib.Core.Bool.{Bool, true, false, cond, _&&_}
-use mathlib.Core.List.{List, [], _∷_, map}
-use lib.Dec.{eqb}
+use mathlib.Core.Bool.{true}
+use mathlib.Core.List.{List, map}
 use lib.ListN.{length}
 use borrow.Author.Tests.{eq-eqb, ne-eqb}
 use Rattle.buffer.specs.Slice.{Bytes, write}
 use Rattle.model.specs.Messages.{kindNumber}
-use Rattle.model.specs.declared.Message.{Message}
 use Rattle.frame.specs.Reasons.{reading, formNumber}
 use Rattle.frame.specs.Writing.{wellFormed, written}
 use Rattle.frame.specs.declared.Frame.{Frame}
-use Rattle.frame.specs.declared.Form.the-variants.{Good}
 use Rattle.frame.specs.declared.Sense.{Sense}
 use Rattle.frame.specs.declared.Sense.the-variants.{Plain, Cancel, Acknowledgment, CancelAcknowledgment}
 use Rattle.frame.proofs.Laws.{one-to-one}
@@ -21,7 +18,7 @@ use Rattle.memory.specs.Records.{Gateway}
 use Rattle.memory.specs.Codec.{decode, encode}
 use Rattle.gateway.specs.Effects.{Outcome}
 use Rattle.gateway.specs.Taking.{any, withoutFirst}
-use Rattle.gateway.specs.Calls.{Left, takeFrame, takeBytes, taken}
+use Rattle.gateway.specs.Calls.{Left, takeBytes, taken}
 use Rattle.gateway.specs.declared.Answer.{Answer}
 use Rattle.gateway.proofs.Maintaining.{Kept}
 use Rattle.gateway.proofs.Keeps.{bytes-keep}
@@ -31,15 +28,15 @@ use Rattle.timewarp.specs.Worlds as Worlds
 use Rattle.timewarp.proofs.ListLaws.{all-map}
 use Rattle.run.specs.Lines.{change}
 use Rattle.run.specs.SingleQueue.{SetUp}
-use Rattle.run.specs.World.{World, Carried, Rounds, framesIn, carry, isFrame, kindIn, takenBySense, tookMore, roundFrames, afterTaking}
+use Rattle.run.specs.World.{World, Carried, framesIn, carry, isFrame, kindIn, takenBySense, tookMore, roundFrames, afterTaking}
 use Rattle.run.proofs.FigureGraph.{figureGraph}
 use Rattle.run.proofs.AcceptedFrames.{Accepted, BytesAccepted, bytes-accepted}
 use Rattle.run.proofs.EventTakings.{TakeGoes, taken-goes}
 use Rattle.run.proofs.ReadableFrames.{EventFrame, sensed-kind}
 use Rattle.run.proofs.FramesCut.{frames-in}
 use Rattle.run.proofs.RoundsUnderWay.{carried-rest}
-use Rattle.run.proofs.AcceptedCalls.{left, on-sound}
-use Rattle.run.proofs.HeldGateways.{Holds, written-held}
+use Rattle.run.proofs.AcceptedCalls.{on-sound}
+use Rattle.run.proofs.HeldGateways.{written-held}
 use Rattle.run.proofs.EventFrames.{rounds-still, rounds-left, none-counted, took-none, numbered-still, passing-still}
 use Rattle.run.proofs.BesideCalls.{worldAfter, change-self}
 use Rattle.run.proofs.BothWorlds.{forecastSetting, Both, Keeps, proper, sees}

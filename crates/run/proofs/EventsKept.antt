@@ -3,13 +3,12 @@ use mathlib.Core.Path.{_≡_, refl, sym, _∙_, ap, subst}
 use Prim.Native.Nat.{ℕ, _-_, _≤_, _<_}
 use native.Mathlib.Omega.{arith}
 use mathlib.Core.Bool.{Bool, true, false, cond}
-use mathlib.Core.List.{List, [], _∷_}
+use mathlib.Core.List.{List}
 use lib.Dec.{eqb}
 use borrow.Author.Tests.{eqb-true}
 use Rattle.model.specs.declared.Message.{Message}
 use Rattle.memory.specs.Records.{Gateway}
 use Rattle.memory.specs.Codec.{decode}
-use Rattle.memory.specs.declared.Round.{Round}
 use Rattle.gateway.specs.Effects.{withRound}
 use Rattle.gateway.specs.Claims.{SoundBytes}
 use Rattle.timewarp.specs.Lists.{All}
@@ -17,7 +16,6 @@ use Rattle.timewarp.specs.Families as Families
 use Rattle.timewarp.specs.RoundSteps as RoundSteps
 use Rattle.timewarp.specs.RoundSteps.{RoundFrame}
 use Rattle.timewarp.specs.Worlds as Worlds
-use Rattle.timewarp.specs.Worlds.{lowerAll}
 use Rattle.run.specs.Lines.{change}
 use Rattle.run.specs.SingleQueue.{SetUp}
 use Rattle.run.specs.Ledger as Ledger

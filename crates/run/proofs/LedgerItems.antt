@@ -16,7 +16,7 @@ use Rattle.gateway.specs.Undoing.{undone}
 use Rattle.gateway.specs.Working.{pendingOf, processedNext}
 use Rattle.gateway.specs.Taking.{any, withoutFirst, beforeLast, fromLast, tailOf, upTo, behind, isCancelOf, isPlain}
 use Rattle.gateway.proofs.Searches.{around-last}
-use Rattle.timewarp.specs.Lists.{All, nil, cons, there}
+use Rattle.timewarp.specs.Lists.{All, nil, cons}
 use Rattle.run.specs.Ledger as Ledger
 use Rattle.run.specs.Ledger.{Item, notDone, isItem, undoneAfter, didOne, notDoneOf}
 use Rattle.run.proofs.QueueViews.{Marked, marked, pending, processed, waiting}

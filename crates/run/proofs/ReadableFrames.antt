@@ -1,33 +1,30 @@
 -- What the gateways write of events can be read again: frames of stored messages and acknowledgments are of the forms that they are written in.
-use mathlib.Core.Path.{_≡_, refl, sym, _∙_, ap, subst}
-use Prim.Native.Nat.{ℕ, zero, suc, _≤_, _<_, _^_}
+use mathlib.Core.Path.{_≡_, refl, sym, ap, subst}
+use Prim.Native.Nat.{ℕ, zero, suc, _≤_, _<_}
 use native.Mathlib.Omega.{arith}
-use mathlib.Core.Bool.{Bool, true, false, cond, _&&_, _||_, false≢true}
-use mathlib.Core.List.{List, [], _∷_, _++_, map, map-append, List·Memᴰ·head as member-first, List·Memᴰ·tail as member-rest}
+use mathlib.Core.Bool.{Bool, true, false, cond, _||_, false≢true}
+use mathlib.Core.List.{List, [], _∷_, map-append, List·Memᴰ·head as member-first, List·Memᴰ·tail as member-rest}
 use lib.Dec.{leb}
-use lib.ListN.{length, getD}
 use borrow.Author.Tests.{leb-true, le-leb, lt-ltb, ne-eqb}
 use Rattle.buffer.specs.Slice.{Bytes}
 use Rattle.routing.specs.Arcs.{_∈_}
 use Rattle.model.specs.Doing.{sent}
-use Rattle.model.specs.Messages.{kindNumber, originOf, quantityOf}
+use Rattle.model.specs.Messages.{kindNumber, originOf}
 use Rattle.model.specs.declared.Message.{Message}
 use Rattle.model.specs.declared.State.{State}
 use Rattle.frame.specs.Kinds.{hasLamp, senseNumber}
 use Rattle.frame.specs.Writing.{allBetween, lampFits, gatewaysAgree, hourFits, senseAllowed, wellFormed, written}
-use Rattle.frame.specs.Reasons.{reading, readAs}
 use Rattle.frame.specs.Claims.{OneToOne, Ranged}
 use Rattle.frame.specs.declared.Frame.{Frame}
 use Rattle.frame.specs.declared.Reading.{Reading}
 use Rattle.frame.proofs.Output.{whole-size}
 use Rattle.frame.specs.declared.Sense.{Sense}
-use Rattle.memory.specs.Records.{Gateway, siteOf}
+use Rattle.memory.specs.Records.{siteOf}
 use Rattle.memory.specs.Ranges.{RangedMessage}
 use Rattle.memory.specs.Validity.{frameIf, senseIf, isWaiting}
 use Rattle.memory.specs.declared.Settings.{Settings}
 use Rattle.memory.specs.declared.Entry.{Entry}
-use Rattle.memory.specs.declared.Sent.{Sent}
-use Rattle.memory.proofs.Validated.{ValidSettings, Storable, ValidSent, and-left, and-right}
+use Rattle.memory.proofs.Validated.{ValidSettings, Storable, and-left, and-right}
 use Rattle.gateway.specs.Effects.{framesFor}
 use Rattle.gateway.specs.Undoing.{sentBack}
 use Rattle.gateway.specs.Taking.{acknowledgment}

@@ -1,6 +1,6 @@
 -- Work is a chain of steps: as many events as it counts, one after another.
-use mathlib.Core.Path.{_≡_, refl, sym, _∙_, ap, ap₂, subst}
-use Prim.Native.Nat.{ℕ, zero, suc, _-_, _≤_, _<_}
+use mathlib.Core.Path.{_≡_, refl, sym, _∙_, ap, subst}
+use Prim.Native.Nat.{ℕ, zero, suc, _-_, _≤_}
 use mathlib.Core.Bool.{Bool, true, false, cond}
 use mathlib.Core.List.{List, [], _∷_, _++_, map, append-assoc, append-nil, map-append, List·Memᴰ·head as member-first}
 use lib.ListN.{length}
@@ -15,10 +15,10 @@ use Rattle.memory.specs.Validity.{isWaiting}
 use Rattle.memory.specs.declared.Entry.{Entry}
 use Rattle.memory.specs.declared.Round.{Round}
 use Rattle.memory.proofs.Validated.{valid-facts}
-use Rattle.gateway.specs.Effects.{bytesOfFrames, fits, noted, framesFor}
+use Rattle.gateway.specs.Effects.{bytesOfFrames, fits, noted}
 use Rattle.gateway.specs.Working.{Progress, stopped, onceMore, workedBy, worked, done, pendingOf}
 use Rattle.gateway.proofs.Maintaining.{Proper}
-use Rattle.gateway.proofs.Keeps.{WorkEnds, work-keeps}
+use Rattle.gateway.proofs.Keeps.{work-keeps}
 use Rattle.gateway.proofs.Replies.{Good}
 use Rattle.gateway.proofs.Searches.{pending-member}
 use Rattle.timewarp.specs.Lists.{All, nil}
@@ -29,7 +29,7 @@ use Rattle.run.specs.SingleQueue.{SetUp}
 use Rattle.run.specs.Ledger as Ledger
 use Rattle.run.specs.Ledger.{didOne, didSome}
 use Rattle.run.specs.World.{Carried, carry}
-use Rattle.run.proofs.LocalChains.{Led, led-join, lower-agreed}
+use Rattle.run.proofs.LocalChains.{led-join, lower-agreed}
 use Rattle.run.proofs.EventCalls.{Stands, notedAll, did, done-saved}
 use Rattle.run.proofs.Ledgers.{Follows, did-follows}
 use Rattle.run.proofs.ReadableFrames.{EventFrame, same-limits, frames-hours, sent-frames}

@@ -1,14 +1,12 @@
 -- Work on bytes keeps the relation of both worlds, whatever its budget and its output.
-use mathlib.Core.Path.{_≡_, refl, sym, _∙_, ap, subst}
+use mathlib.Core.Path.{_≡_, refl, sym, subst}
 use Prim.Native.Nat.{ℕ, _-_, _≤_, _<_}
 use native.Mathlib.Omega.{arith}
-use mathlib.Core.Bool.{Bool, true, false, cond}
-use mathlib.Core.List.{List, [], _∷_, map}
+use mathlib.Core.List.{List, map}
 use lib.ListN.{length}
 use Rattle.buffer.specs.Slice.{write}
 use Rattle.frame.specs.Writing.{written}
 use Rattle.frame.proofs.Laws.{one-to-one}
-use Rattle.memory.specs.Records.{Gateway}
 use Rattle.memory.specs.Codec.{decode, encode}
 use Rattle.gateway.specs.Working.{Progress, worked}
 use Rattle.gateway.specs.Calls.{Left, workedOff}
@@ -26,7 +24,7 @@ use Rattle.run.proofs.FramesCut.{frames-in}
 use Rattle.run.proofs.HeldGateways.{Holds, written-held}
 use Rattle.run.proofs.EventFrames.{rounds-still, numbered-still, passing-still}
 use Rattle.run.proofs.BesideCalls.{change-self}
-use Rattle.run.proofs.BothWorlds.{forecastSetting, gatewaysIn, Both, Keeps, proper, sees}
+use Rattle.run.proofs.BothWorlds.{forecastSetting, Both, Keeps, proper, sees}
 use Rattle.run.proofs.EventsKept.{Comes, keeps}
 
 module _ (n : ℕ) (some : 1 ≤ n) (last : ℕ) (setups : ℕ → SetUp) {w : World} {t : Worlds.World (forecastSetting n some last setups)} (b : Both n some last setups w t) (i : ℕ) (h : i < n) (budget : ℕ) (output : List ℕ) where
