@@ -1,9 +1,6 @@
 -- The relation of the run's world and the theory's world, for all gateways at once, and what it gives of each gateway.
-use mathlib.Core.Path.{_≡_, refl, sym, _∙_, ap, subst}
-use Prim.Native.Nat.{ℕ, _-_, _≤_, _<_}
-use native.Mathlib.Omega.{arith}
-use mathlib.Core.Bool.{true}
-use mathlib.Core.List.{List}
+use mathlib.Core.Path.{_≡_, refl, sym, _∙_}
+use Prim.Native.Nat.{ℕ, _≤_, _<_}
 use Rattle.memory.specs.Records.{Gateway}
 use Rattle.memory.specs.Codec.{decode}
 use Rattle.memory.specs.Claims.{ReadingLaws}
@@ -11,7 +8,6 @@ use Rattle.gateway.specs.Claims.{SoundBytes}
 use Rattle.gateway.proofs.Maintaining.{Proper}
 use Rattle.timewarp.specs.Lists.{All}
 use Rattle.timewarp.specs.Models.{Model}
-use Rattle.timewarp.specs.Arcs.{Graph}
 use Rattle.timewarp.specs.Worlds as Worlds
 use Rattle.timewarp.proofs.Joined.{Good, good}
 use Rattle.run.specs.SingleQueue.{SetUp}

@@ -1,20 +1,20 @@
 -- A frame under way is taken at its addressee, or there is not room for it.
 use mathlib.Core.Path.{_≡_, refl, sym, _∙_, ap, subst}
-use Prim.Native.Nat.{ℕ, suc, _+_, _*_, _-_, _/_, _≤_, _<_}
+use Prim.Native.Nat.{ℕ, _-_, _/_, _≤_, _<_}
 use native.Mathlib.Omega.{arith}
 use mathlib.Core.Bool.{Bool, true, false, cond, not, _&&_, _||_, true≢false, false≢true}
-use mathlib.Core.List.{List, [], _∷_, _++_, map, List·Memᴰ·not-nil, List·Memᴰ·cases-cons}
+use mathlib.Core.List.{List, [], _∷_, map, List·Memᴰ·not-nil, List·Memᴰ·cases-cons}
 use mathlib.Core.Logic.{⊎-elim}
-use lib.Dec.{eqb, leb, ltb}
+use lib.Dec.{eqb}
 use lib.ListN.{length}
-use borrow.Author.Tests.{eqb-true, eq-eqb, ltb-true, le-ltb, le-leb}
+use borrow.Author.Tests.{eq-eqb, ltb-true, le-ltb, le-leb}
 use Rattle.routing.specs.Arcs.{_∈_, from, to}
 use Rattle.model.specs.EventOrder.{key}
-use Rattle.model.specs.Messages.{kindNumber, originOf}
+use Rattle.model.specs.Messages.{kindNumber}
 use Rattle.model.specs.declared.Message.{Message}
 use Rattle.model.specs.declared.Kind.{Kind}
 use Rattle.model.specs.declared.Kind.the-variants.{Failure, Request, Delivery, Restock, Start, Lvt, Update}
-use Rattle.frame.specs.Reasons.{reading, formNumber}
+use Rattle.frame.specs.Reasons.{reading}
 use Rattle.frame.specs.Limits.{addressee, numbersBelow, hourAllowed, refusal}
 use Rattle.frame.specs.declared.Frame.{Frame}
 use Rattle.frame.specs.declared.Sense.{Sense}
@@ -22,9 +22,8 @@ use Rattle.frame.specs.declared.Sense.the-variants.{Plain, Cancel, Acknowledgme
 use Rattle.memory.specs.Records.{Gateway}
 use Rattle.memory.specs.Validity.{equal}
 use Rattle.memory.specs.declared.Sent.{Sent}
-use Rattle.memory.specs.declared.Phase.the-variants.{Idle}
 use Rattle.memory.proofs.EventLaws.{same-equal}
-use Rattle.memory.proofs.Validated.{and-left, and-right, and-both}
+use Rattle.memory.proofs.Validated.{and-left, and-right}
 use Rattle.gateway.specs.Effects.{Effect, Outcome, fits, settled, refused}
 use Rattle.gateway.specs.Taking.{any, isSent, takePlain, takeCancel, takeAcknowledgment}
 use Rattle.gateway.specs.Rounds.{isIdle, awaited, takeStart, takeLvt, takeUpdate}
@@ -33,8 +32,8 @@ use Rattle.gateway.proofs.Neighbours.{from-few, to-few}
 use Rattle.timewarp.specs.Lists.{All, nil, cons, Insert}
 use Rattle.timewarp.specs.Models.{hour, first}
 use Rattle.timewarp.specs.Gateways.{Event, plain, cancel, message, Network, Gateway as View}
-use Rattle.timewarp.specs.Arcs.{Child, times}
-use Rattle.timewarp.specs.RoundSteps.{RoundFrame, start, lvt, update, idle, InTurn, start-in-turn, lvt-in-turn, update-in-turn}
+use Rattle.timewarp.specs.Arcs.{times}
+use Rattle.timewarp.specs.RoundSteps.{RoundFrame, start, lvt, update, InTurn, start-in-turn, lvt-in-turn, update-in-turn}
 use Rattle.timewarp.specs.Claims.{IsOutstanding}
 use Rattle.timewarp.specs.Worlds as Worlds
 use Rattle.timewarp.proofs.ListLaws.{all-taken, all-left, all-right}
@@ -44,12 +43,12 @@ use Rattle.run.specs.SingleQueue.{SetUp}
 use Rattle.run.specs.World.{World, Carried}
 use Rattle.run.specs.Demand3.{agreed}
 use Rattle.run.proofs.FigureGraph.{figureGraph, tells-is, hears-is}
-use Rattle.run.proofs.QueueViews.{eventIf, eventFor, viewOf}
+use Rattle.run.proofs.QueueViews.{eventIf, eventFor}
 use Rattle.run.proofs.ArrivalBits.{first-arrival}
 use Rattle.run.proofs.Standing.{StandingAt, startIn, lvtIn, lvtBits, is-idle, is-finished, is-counting, is-stopped}
-use Rattle.run.proofs.EventsUnderWay.{seenIn, seen-have, eventOf, acknowledgedOf}
+use Rattle.run.proofs.EventsUnderWay.{seen-have, eventOf, acknowledgedOf}
 use Rattle.run.proofs.RoundsUnderWay.{roundOf, roundsIn}
-use Rattle.run.proofs.AcceptedFrames.{outcomeOf, acknowledgmentSense}
+use Rattle.run.proofs.AcceptedFrames.{outcomeOf}
 use Rattle.run.proofs.AcceptedCalls.{call-number}
 use Rattle.run.proofs.Ledgers.{all-each}
 use Rattle.run.proofs.PassingFrames.{Passing}

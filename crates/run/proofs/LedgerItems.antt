@@ -1,6 +1,5 @@
 -- The plain messages of a queue as the ledger's items: what each change of the queue makes of them.
 use mathlib.Core.Path.{_≡_, refl, sym, _∙_, ap, ap₂, subst}
-use Prim.Native.Nat.{_+_}
 use mathlib.Core.Bool.{Bool, true, false, cond, not, _&&_, _||_, true≢false}
 use mathlib.Core.List.{List, [], _∷_, _++_, map}
 use Rattle.routing.specs.Arcs.{Ascending, none, more}
@@ -16,7 +15,7 @@ use Rattle.gateway.specs.Undoing.{undone}
 use Rattle.gateway.specs.Working.{pendingOf, processedNext}
 use Rattle.gateway.specs.Taking.{any, withoutFirst, beforeLast, fromLast, tailOf, upTo, behind, isCancelOf, isPlain}
 use Rattle.gateway.proofs.Searches.{around-last}
-use Rattle.timewarp.specs.Lists.{All, nil, cons, there}
+use Rattle.timewarp.specs.Lists.{All, nil, cons}
 use Rattle.run.specs.Ledger as Ledger
 use Rattle.run.specs.Ledger.{Item, notDone, isItem, undoneAfter, didOne, notDoneOf}
 use Rattle.run.proofs.QueueViews.{Marked, marked, pending, processed, waiting}

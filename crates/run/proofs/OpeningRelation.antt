@@ -1,10 +1,10 @@
 -- N memories just set up and the theory's world before its first step are in the relation of both worlds.
-use mathlib.Core.Path.{_≡_, refl, sym, _∙_, ap, subst}
-use Prim.Native.Nat.{ℕ, _-_, _≤_, _<_}
+use mathlib.Core.Path.{_≡_, refl, sym, ap, subst}
+use Prim.Native.Nat.{ℕ, _≤_, _<_}
 use native.Mathlib.Omega.{arith}
 use mathlib.Core.List.{List, []}
 use Rattle.memory.specs.Records.{Gateway}
-use Rattle.memory.proofs.Validated.{Valid, valid-facts}
+use Rattle.memory.proofs.Validated.{valid-facts}
 use Rattle.gateway.specs.SettingUp.{opened}
 use Rattle.gateway.specs.Claims.{SoundBytes}
 use Rattle.gateway.proofs.SoundAfter.{never-unsound}

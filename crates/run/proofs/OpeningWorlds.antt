@@ -1,15 +1,12 @@
 -- N memories just set up are beside the theory's world before its first step.
 use mathlib.Core.Path.{_≡_, refl, sym, _∙_, ap, subst}
-use Prim.Native.Nat.{ℕ, _-_, _≤_, _<_}
+use Prim.Native.Nat.{ℕ, _-_, _<_}
 use native.Mathlib.Omega.{arith}
-use mathlib.Core.Bool.{Bool, true, false, cond}
-use mathlib.Core.List.{List, [], _∷_}
+use mathlib.Core.Bool.{Bool, true, false}
+use mathlib.Core.List.{List, []}
 use lib.Dec.{eqb}
 use lib.ListN.{length}
 use borrow.Author.Tests.{eqb-true, eqb-false}
-use Rattle.buffer.specs.Slice.{Bytes}
-use Rattle.routing.specs.Arcs.{_∈_}
-use Rattle.model.specs.declared.Message.{Message}
 use Rattle.frame.specs.Limits.{nothingDue}
 use Rattle.memory.specs.Records.{Gateway}
 use Rattle.memory.specs.Codec.{decode, encode}

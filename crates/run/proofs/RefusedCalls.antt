@@ -1,9 +1,9 @@
 -- A refused call leaves the world as it was, and so does work that does no event.
-use mathlib.Core.Path.{_≡_, refl, sym, _∙_, ap}
+use mathlib.Core.Path.{_≡_, refl, _∙_, ap}
 use Prim.Native.Nat.{ℕ, zero, suc, _-_}
 use native.Mathlib.Omega.{arith}
 use mathlib.Core.Bool.{Bool, true, false, cond}
-use mathlib.Core.List.{List, [], _∷_, _++_, append-nil}
+use mathlib.Core.List.{List, [], _∷_, append-nil}
 use lib.Dec.{eqb}
 use lib.ListN.{length}
 use Rattle.model.specs.declared.Message.{Message}
@@ -16,7 +16,7 @@ use Rattle.gateway.specs.Claims.{SoundBytes}
 use Rattle.gateway.specs.Calls.{setUp, taken, started, committed, workedOff}
 use Rattle.gateway.specs.declared.Opening.{Opening}
 use Rattle.run.specs.Lines.{change}
-use Rattle.run.specs.World.{World, Call, works, takes, starts, commits, setsUp, framesIn, carry, afterWorking, afterCall}
+use Rattle.run.specs.World.{World, works, takes, starts, commits, setsUp, afterWorking, afterCall}
 use Rattle.run.specs.Ledger.{didSome}
 use Rattle.run.proofs.BesideCalls.{change-self}
 use Rattle.run.proofs.HeldGateways.{held}

@@ -14,7 +14,6 @@ use Rattle.model.specs.declared.Kind.{Kind}
 use Rattle.model.specs.declared.Kind.the-variants.{Failure, Request, Delivery, Restock, Start, Lvt, Update}
 use Rattle.frame.specs.Reasons.{reading}
 use Rattle.frame.specs.declared.Sense.the-variants.{Plain}
-use Rattle.frame.proofs.Laws.{one-to-one}
 use Rattle.memory.specs.Records.{Gateway}
 use Rattle.memory.specs.Codec.{decode}
 use Rattle.memory.specs.declared.Settings.{Settings}
@@ -24,7 +23,6 @@ use Rattle.gateway.specs.Rounds.{start}
 use Rattle.gateway.specs.Taking.{any}
 use Rattle.gateway.specs.Calls.{started, taken, takeBytes}
 use Rattle.gateway.specs.Claims.{SoundBytes}
-use Rattle.gateway.proofs.Accepting.{form-good}
 use Rattle.gateway.proofs.Keeps.{start-keeps, bytes-keep}
 use Rattle.timewarp.specs.Lists.{All}
 use Rattle.timewarp.specs.Models.{hour}
@@ -40,8 +38,6 @@ use Rattle.run.proofs.LeastHours.{least-outstanding, least-queued}
 use Rattle.run.proofs.EventCalls.{Stands}
 use Rattle.run.proofs.Ledgers.{Follows}
 use Rattle.run.proofs.OpeningWorlds.{agreed-read}
-use Rattle.run.proofs.AcceptedCalls.{on-sound}
-use Rattle.run.proofs.AcceptedFrames.{bytes-accepted}
 use Rattle.run.proofs.HeldGateways.{Holds, call-held}
 use Rattle.run.proofs.RoundsUnderWay.{roundsIn}
 use Rattle.run.proofs.RoundChains.{withRounds}

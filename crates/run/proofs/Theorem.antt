@@ -1,8 +1,8 @@
 -- The theorem: demand 3 holds of every forecast, every list of calls and every carrier that keeps to the rules.
 use mathlib.Core.Path.{_≡_, refl, sym, _∙_, ap, subst}
-use Prim.Native.Nat.{ℕ, _-_, _≤_, _<_}
+use Prim.Native.Nat.{ℕ, _≤_, _<_}
 use native.Mathlib.Omega.{arith}
-use mathlib.Core.List.{List, [], _∷_, _++_}
+use mathlib.Core.List.{List, _++_}
 use Rattle.timewarp.specs.Worlds as Worlds
 use Rattle.timewarp.proofs.Theorem.{never-falls}
 use Rattle.run.specs.SingleQueue.{SetUp}

@@ -4,7 +4,6 @@ use Prim.Native.Nat.{ℕ, _<_}
 use mathlib.Core.List.{List, List·Memᴰ}
 use Rattle.frame.specs.Limits.{nothingDue, addressee}
 use Rattle.frame.specs.Reasons.{reading}
-use Rattle.frame.specs.declared.Frame.{Frame}
 use Rattle.gateway.specs.Calls.{taken, started, committed, workedOff, setUp}
 use Rattle.run.specs.SingleQueue.{SetUp}
 use Rattle.run.specs.World.{World, Call, works, takes, starts, commits, setsUp, Carried, openingWorld, afterCall, afterCalls, AllAllowed}
