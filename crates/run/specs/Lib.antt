@@ -4,3 +4,4 @@ pub mod SingleQueue
 pub mod Ledger
 pub mod World
 pub mod Demand3
+pub mod Further
