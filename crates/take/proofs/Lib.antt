@@ -1,0 +1,1 @@
+-- Laws and proofs of taking plain messages and cancels.
