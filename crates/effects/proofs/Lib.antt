@@ -1,1 +1,2 @@
 -- Laws and proofs of what several calls share.
+pub mod Stores
