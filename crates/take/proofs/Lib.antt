@@ -1,1 +1,3 @@
 -- Laws and proofs of taking plain messages and cancels.
+pub mod RollbackLaws
+pub mod SentMessages
