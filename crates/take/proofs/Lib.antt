@@ -1,1 +1,2 @@
 -- Laws and proofs of taking plain messages and cancels.
+pub mod Dispatching
