@@ -1,6 +1,6 @@
 -- Laws of sending: the note after it, room for its frame, and what it leaves.
-use mathlib.Core.Path.{_≡_, refl, sym, _∙_, ap}
-use Prim.Native.Nat.{ℕ, suc, _+_, _*_, _≤_, _<_, min}
+use mathlib.Core.Path.{_≡_}
+use Prim.Native.Nat.{ℕ, _+_, _*_, _≤_, _<_}
 use native.Mathlib.Numerals.{add-one}
 use native.Mathlib.Omega.{arith}
 use mathlib.Core.Bool.{Bool}
@@ -13,10 +13,9 @@ use Rattle.frame.specs.declared.Frame.{Frame}
 use Rattle.memory.specs.Codec.{sentBytes}
 use Rattle.memory.specs.Validity.{frameIf}
 use Rattle.memory.specs.declared.Round.{Round}
-use Rattle.memory.specs.declared.Phase.{Phase}
 use Rattle.memory.specs.declared.Phase.the-variants.{Idle, Counting, Stopped}
 use Rattle.gateway.specs.Effects.{loweredIn, noted}
-use Rattle.effects.specs.Sending.{MaySend, Sends, headerSent}
+use Rattle.effects.specs.Sending.{MaySend, Sends}
 use Rattle.effects.specs.declared.Sending.{Sending}
 
 -- the note in each phase
