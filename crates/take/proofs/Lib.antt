@@ -1,2 +1,3 @@
 -- Laws and proofs of taking plain messages and cancels.
 pub mod Dispatching
+pub mod FrameSizes
