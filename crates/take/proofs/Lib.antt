@@ -1,3 +1,4 @@
 -- Laws and proofs of taking plain messages and cancels.
+pub mod Dispatching
 pub mod RollbackLaws
 pub mod SentMessages
