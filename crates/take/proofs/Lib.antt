@@ -2,3 +2,5 @@
 pub mod Dispatching
 pub mod RollbackLaws
 pub mod SentMessages
+pub mod RoomLaws
+pub mod UndoLaws
