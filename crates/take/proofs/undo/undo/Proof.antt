@@ -42,11 +42,15 @@ loop-less : tie.Need-loop-less Inv-loop μ-loop
 loop-less c = search needs
 
 loop-again : tie.Need-loop-again Inv-loop μ-loop
-loop-again c =
-    (omega (arith, c .before .before .before .before .before .before .before .loop-test .taken), search needs, search needs, λ before g low may.
-    let u = c .before .before .before .before .before .before .before .before .loop .inv .3 before g low may in
-    undo-turn low may (c .before .before .before .before .before .before .before .loop-test .taken) u (entryOf [])
-    (c .before .before .before .before .undo-place .ensures before _ _ _ _ (between-here low may (c .before .before .before .before .before .before .before .loop-test .taken) u (entryOf [])) (may-here low may (c .before .before .before .before .before .before .before .loop-test .taken) u (entryOf []))))
+loop-again c = (
+  omega (arith, c .before .before .before .before .before .before .before .loop-test .taken),
+  search needs,
+  search needs,
+  λ before g low may.
+      let u = c .before .before .before .before .before .before .before .before .loop .inv .3 before g low may in
+      undo-turn low may (c .before .before .before .before .before .before .before .loop-test .taken) u (entryOf [])
+      (c .before .before .before .before .undo-place .ensures before _ _ _ _ (between-here low may (c .before .before .before .before .before .before .before .loop-test .taken) u (entryOf [])) (may-here low may (c .before .before .before .before .before .before .before .loop-test .taken) u (entryOf []))),
+)
 
 same-length : tie.Need-same-length Inv-loop μ-loop
 same-length c = search needs
