@@ -99,7 +99,7 @@ fn strike_out(
 
 // Takes the entry out of queue place k, those behind it moved down, and undoes those and then it. The place that is freed keeps its bytes.
 fn take_out(memory: &mut [u8], output: &mut [u8], sending: Sending, k: usize) -> Sending
-    requires { ⌜ (g : Gateway) × (k < length (g .queue)) × MaySendBack (now memory) g (now memory) (now output) sending (sentByEntries g (drop k (g .queue))) ⌝ }
+    requires { ⌜ ((g : Gateway) × (k < length (g .queue)) × MaySendBack (now memory) g (now memory) (now output) sending (sentByEntries g (drop k (g .queue)))) ⌝ }
     ensures { λ r. ⌜ ((g : Gateway) → k < length (g .queue) → MaySendBack (now (memory .entry)) g (now (memory .entry)) (now (output .entry)) sending (sentByEntries g (drop k (g .queue))) → SentBack (now (memory .entry)) (takenOut k g) (now (memory .exit)) (now (output .entry)) (now (output .exit)) sending (sentByEntries g (drop k (g .queue))) r) ⌝ }
 {
     let header = sending.header;

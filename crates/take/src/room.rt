@@ -94,7 +94,7 @@ fn had_sent(header: Header, entry: Entry) -> bool
 
 // Puts an entry into queue place k, and the header last.
 pub fn enter(memory: &mut [u8], header: Header, k: usize, entry: Entry)
-    requires { ⌜ (before : List ℕ) × (g : Gateway) × MayEnter before g (now memory) header k entry ⌝ }
+    requires { ⌜ ((before : List ℕ) × (g : Gateway) × MayEnter before g (now memory) header k entry) ⌝ }
     ensures { λ _. ⌜ ((before : List ℕ) (g : Gateway) → MayEnter before g (now (memory .entry)) header k entry → now (memory .exit) ≡ encode (withQueue (take k (g .queue) ++ (entry ∷ drop k (g .queue))) g) before) ⌝ }
 {
     insert_place(memory, header.queued as usize, k, entry);

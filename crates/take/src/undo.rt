@@ -20,7 +20,7 @@ ghost use Rattle.take.specs.Undone.{sentByEntries, MaySendBack, SentBack
 
 // Undoes the processed events in the queue places from place k on.
 pub fn undo(memory: &mut [u8], output: &mut [u8], sending: Sending, k: usize) -> Sending
-    requires { ⌜ (before : List ℕ) × (g : Gateway) × (k ≤ length (g .queue)) × MaySendBack before g (now memory) (now output) sending (sentByEntries g (drop k (g .queue))) ⌝ }
+    requires { ⌜ ((before : List ℕ) × (g : Gateway) × (k ≤ length (g .queue)) × MaySendBack before g (now memory) (now output) sending (sentByEntries g (drop k (g .queue)))) ⌝ }
     ensures { λ r. ⌜ ((before : List ℕ) (g : Gateway) → k ≤ length (g .queue) → MaySendBack before g (now (memory .entry)) (now (output .entry)) sending (sentByEntries g (drop k (g .queue))) → SentBack before (undoneFrom k g) (now (memory .exit)) (now (output .entry)) (now (output .exit)) sending (sentByEntries g (drop k (g .queue))) r) ⌝ }
 {
     let header = sending.header;
@@ -35,7 +35,7 @@ pub fn undo(memory: &mut [u8], output: &mut [u8], sending: Sending, k: usize) ->
 
 // Undoes the event in queue place k, if it is processed.
 fn undo_place(memory: &mut [u8], output: &mut [u8], sending: Sending, k: usize) -> Sending
-    requires { ⌜ (before : List ℕ) × (g : Gateway) × (xs : List Entry) × (e : Entry) × (zs : List Entry) × Between k (g .queue) xs e zs × MaySendBack before g (now memory) (now output) sending (sentByEntries g (e ∷ [])) ⌝ }
+    requires { ⌜ ((before : List ℕ) × (g : Gateway) × (xs : List Entry) × (e : Entry) × (zs : List Entry) × Between k (g .queue) xs e zs × MaySendBack before g (now memory) (now output) sending (sentByEntries g (e ∷ []))) ⌝ }
     ensures { λ r. ⌜ ((before : List ℕ) (g : Gateway) (xs : List Entry) (e : Entry) (zs : List Entry) → Between k (g .queue) xs e zs → MaySendBack before g (now (memory .entry)) (now (output .entry)) sending (sentByEntries g (e ∷ [])) → SentBack before (withQueue (xs ++ (undone e ∷ zs)) (rolledBack (processedOf (e ∷ [])) g)) (now (memory .exit)) (now (output .entry)) (now (output .exit)) sending (sentByEntries g (e ∷ [])) r) ⌝ }
 {
     let at = 256 + 64 * k;
@@ -51,7 +51,7 @@ fn undo_place(memory: &mut [u8], output: &mut [u8], sending: Sending, k: usize) 
 
 // Restores the state before an event, if it is processed, and sends the cancel of what it had sent.
 pub fn undo_entry(memory: &mut [u8], output: &mut [u8], sending: Sending, entry: Entry) -> Sending
-    requires { ⌜ (before : List ℕ) × (g : Gateway) × EntryFits entry × MaySendBack before g (now memory) (now output) sending (sentByEntries g (entry ∷ [])) ⌝ }
+    requires { ⌜ ((before : List ℕ) × (g : Gateway) × EntryFits entry × MaySendBack before g (now memory) (now output) sending (sentByEntries g (entry ∷ []))) ⌝ }
     ensures { λ r. ⌜ ((before : List ℕ) (g : Gateway) → EntryFits entry → MaySendBack before g (now (memory .entry)) (now (output .entry)) sending (sentByEntries g (entry ∷ [])) → SentBack before (rolledBack (processedOf (entry ∷ [])) g) (now (memory .exit)) (now (output .entry)) (now (output .exit)) sending (sentByEntries g (entry ∷ [])) r) ⌝ }
 {
     let mark = entry.mark;
