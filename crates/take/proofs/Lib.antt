@@ -4,3 +4,5 @@ pub mod RollbackLaws
 pub mod SentMessages
 pub mod RoomLaws
 pub mod UndoLaws
+pub mod Settling
+pub mod PlainTakings
