@@ -6,3 +6,6 @@ pub mod RoomLaws
 pub mod UndoLaws
 pub mod Settling
 pub mod PlainTakings
+pub mod LastPositions
+pub mod TakingOut
+pub mod CancelTakings

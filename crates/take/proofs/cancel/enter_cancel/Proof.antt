@@ -1,81 +1,71 @@
+-- `take::cancel::enter_cancel` meets its contract.
+use native.Mathlib.Omega.{arith}
+use Rattle.gateway.proofs.Changing.{sizes, bytes-known}
+use Rattle.take.proofs.CancelTakings.{waits-without-room, waits-bytes, may-wait, waits-done}
 use borrow.Author.Needs.{needs}
 use Rattle.take.proofs.cancel.enter_cancel.Statement.{statement}
 use Rattle.take.proofs.cancel.enter_cancel.Tie as tie
-use Rattle.take.proofs.cancel.enter_cancel.Reads as reads
-use Rattle.take.proofs.cancel.enter_cancel.Lts as lts
-use Rattle.frame.proofs.tables.whole_length.Reads as whole-length-reads
-use Rattle.frame.proofs.writer.map_of.Reads as map-of-reads
-use Rattle.frame.proofs.writer.put.Reads as put-reads
-use Rattle.gateway.proofs.places.find.Reads as find-reads
-use Rattle.gateway.proofs.refused.Reads as refused-reads
-use Rattle.take.proofs.cancel.waiting.Reads as waiting-reads
-use Rattle.take.proofs.room.acknowledgment.Reads as acknowledgment-reads
-use Rattle.take.proofs.room.enter.Reads as enter-reads
-use Rattle.take.proofs.room.has_room.Reads as has-room-reads
 
--- src/cancel.rt:56:18
 cast-queued : tie.Need-cast-queued
 cast-queued c = search needs
 
--- src/cancel.rt:57:9
 find-requires : tie.Need-find-requires
-find-requires c κs = ?
+find-requires c κs = let z = sizes _ _ (c .before .before .before .before .pre .0) in omega arith
 
--- src/cancel.rt:58:9
 acknowledgment-requires : tie.Need-acknowledgment-requires
 acknowledgment-requires c κs = search needs
 
--- src/cancel.rt:61:9
 add-has-room : tie.Need-add-has-room
 add-has-room c = search needs
 
--- src/cancel.rt:63:22
 map-of-requires : tie.Need-map-of-requires
 map-of-requires c κs = search needs
 
--- src/cancel.rt:63:9
 whole-length-requires : tie.Need-whole-length-requires
 whole-length-requires c κs = search needs
 
--- src/cancel.rt:59:9
 has-room-requires : tie.Need-has-room-requires
 has-room-requires c κs = search needs
 
--- src/cancel.rt:66:9
 refused-requires : tie.Need-refused-requires
 refused-requires c κs = search needs
 
--- src/cancel.rt:66:9
 same-length : tie.Need-same-length
 same-length c = search needs
 
--- src/cancel.rt:66:9
 returns : tie.Need-returns
-returns c = ?
+returns c =
+    let o = c .before .before .before .before .before .before .before .before .before .before .before in
+    let b = bytes-known (o .args .memory .now) (c .before .before .before .before .before .before .before .before .before .before .slice-known .given) in
+    waits-without-room (o .args .memory .now) (o .args .output .now) _ (o .pre .0) b _ (o .pre .1) _ (c .before .before .before .before .before .before .find .ensures) (c .before .before .before .before .before .acknowledgment .ensures) (c .before .before .before .before .map-of .ensures) (c .before .before .before .whole-length .ensures) (c .before .before .has-room .ensures) (c .before .if1 .taken) (c .refused .ensures)
 
--- src/cancel.rt:68:9
 put-requires : tie.Need-put-requires
-put-requires c κs = ?
+put-requires c κs =
+    let o = c .before .before .before .before .before .before .before .before .before .before .before in
+    let b = bytes-known (o .args .memory .now) (c .before .before .before .before .before .before .before .before .before .before .slice-known .given) in
+    waits-bytes (o .args .memory .now) (o .args .output .now) _ (o .pre .0) b _ (o .pre .1) _ (c .before .before .before .before .before .before .find .ensures) (c .before .before .before .before .before .acknowledgment .ensures) (c .before .before .before .before .map-of .ensures) (c .before .before .before .whole-length .ensures) (c .before .before .has-room .ensures) (c .before .if1 .left)
 
--- src/cancel.rt:69:30
 waiting-requires : tie.Need-waiting-requires
 waiting-requires c κs = search needs
 
--- src/cancel.rt:69:5
 enter-requires : tie.Need-enter-requires
-enter-requires c κs = ?
+enter-requires c κs =
+    let o = c .before .before .before .before .before .before .before .before .before .before .before .before .before .before .before .before in
+    let b = bytes-known (o .args .memory .now) (c .before .before .before .before .before .before .before .before .before .before .before .before .before .before .before .slice-known .given) in
+    (_, _, may-wait (o .args .memory .now) (o .args .output .now) _ (o .pre .0) b _ (o .pre .1) _ (c .before .before .before .before .before .before .before .before .before .before .before .find .ensures) (c .before .before .before .before .before .before .before .before .before .before .acknowledgment .ensures) (c .before .before .before .before .before .before .before .before .before .map-of .ensures) (c .before .before .before .before .before .before .before .before .whole-length .ensures) (c .before .before .before .before .before .before .before .has-room .ensures) (c .before .before .before .before .before .before .if1 .left) (c .waiting .ensures))
 
--- src/cancel.rt:52:1
 same-length-2 : tie.Need-same-length-2
 same-length-2 c = search needs
 
--- src/cancel.rt:52:1
 same-length-3 : tie.Need-same-length-3
 same-length-3 c = search needs
 
--- src/cancel.rt:52:1
 returns-2 : tie.Need-returns-2
-returns-2 c = ?
+returns-2 c =
+    let o = c .before .before .before .before .before .before .before .before .before .before .before .before .before .before .before .before .before .before .before in
+    let b = bytes-known (o .args .memory .now) (c .before .before .before .before .before .before .before .before .before .before .before .before .before .before .before .before .before .before .slice-known .given) in
+    let w = may-wait (o .args .memory .now) (o .args .output .now) _ (o .pre .0) b _ (o .pre .1) _ (c .before .before .before .before .before .before .before .before .before .before .before .before .before .before .find .ensures) (c .before .before .before .before .before .before .before .before .before .before .before .before .before .acknowledgment .ensures) (c .before .before .before .before .before .before .before .before .before .before .before .before .map-of .ensures) (c .before .before .before .before .before .before .before .before .before .before .before .whole-length .ensures) (c .before .before .before .before .before .before .before .before .before .before .has-room .ensures) (c .before .before .before .before .before .before .before .before .before .if1 .left) (c .before .before .before .waiting .ensures) in
+    waits-done (o .args .memory .now) (o .args .output .now) _ (o .pre .0) b _ (o .pre .1) _ (c .before .before .before .before .before .before .before .before .before .before .before .before .before .before .find .ensures) (c .before .before .before .before .before .before .before .before .before .before .before .before .before .acknowledgment .ensures) (c .before .before .before .before .before .before .before .before .before .before .before .before .map-of .ensures) (c .before .before .before .before .before .before .before .before .before .before .before .whole-length .ensures) (c .before .before .before .before .before .before .before .before .before .before .has-room .ensures) (c .before .before .before .before .before .before .before .before .before .if1 .left) (c .before .before .before .waiting .ensures) (c .before .before .before .before .before .before .before .put .ensures) (c .before .before .enter .ensures _ _ w)
 
 pub enter-cancel-spec : {M : Type 1} → statement M
 enter-cancel-spec =
