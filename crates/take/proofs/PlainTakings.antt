@@ -2,7 +2,7 @@
 use mathlib.Core.Path.{_≡_, refl, sym, _∙_, ap}
 use mathlib.Core.Bool.{Bool, true, false, cond, not, _&&_}
 use mathlib.Core.List.{List, [], _∷_, _++_, map, append-nil}
-use Prim.Native.Nat.{ℕ, suc, _+_, _-_, _*_, _≤_, _<_}
+use Prim.Native.Nat.{ℕ, suc, _+_, _-_, _*_, _^_, _≤_, _<_}
 use native.Mathlib.Omega.{arith}
 use lib.Dec.{leb, lit<}
 use lib.ListN.{length, take, drop, length-append, length-take, length-drop, length-map, take-append-drop}
@@ -10,15 +10,18 @@ use lib.Seq.{take-at, drop-at}
 use borrow.Author.Tests.{le-leb, lt-leb, leb-true, not-true, not-false}
 use Rattle.buffer.proofs.Writes.{length-write, write-join}
 use Rattle.buffer.specs.Slice.{Bytes, write}
+use Rattle.model.specs.declared.Kind.{Kind}
 use Rattle.model.specs.declared.Message.{Message}
 use Rattle.frame.specs.Layout.{wholeLength}
 use Rattle.frame.specs.Kinds.{mapOf}
 use Rattle.frame.specs.Writing.{written, Puts}
 use Rattle.frame.specs.declared.Frame.{Frame}
+use Rattle.frame.specs.declared.Sense.the-variants.{Acknowledgment, CancelAcknowledgment}
 use Rattle.frame.proofs.Output.{whole-size}
 use Rattle.memory.specs.Records.{Gateway, siteOf}
 use Rattle.memory.specs.Codec.{placesAt, entryOf, decode, encode}
 use Rattle.memory.specs.Fits.{MessageFits}
+use Rattle.memory.specs.declared.Entry.{Entry}
 use Rattle.memory.specs.declared.Header.{Header}
 use Rattle.gateway.specs.Effects.{Effect, bytesOfFrames, fits, settled, withQueue, framesFor}
 use Rattle.gateway.specs.Undoing.{processedOf, pendingEntry, undone, sentBack, rolledBack}
@@ -38,7 +41,7 @@ use Rattle.effects.proofs.PlacedLaws.{placed-first, placed-rest}
 use Rattle.effects.specs.declared.Sending.{Sending}
 use Rattle.take.specs.Undone.{sentByEntries, MaySendBack, SentBack, undoneFrom}
 use Rattle.take.specs.Entering.{MayEnter, entered}
-use Rattle.take.proofs.SentMessages.{back-cancelled, cancels-size}
+use Rattle.take.proofs.SentMessages.{back-cancelled, cancels-size, sense-small}
 use Rattle.take.proofs.RollbackLaws.{rolled-settings, rolled-outstanding}
 use Rattle.take.proofs.Settling.{fits-by, no-room, with-room}
 
@@ -65,6 +68,21 @@ module _ (cancel : Bool) (x : Message) (lamp : length (x .lamp) ≡ 18) {reply :
 
   pub reply-room : {n : ℕ} → size ≤ n → 0 + length (written reply) ≤ n
   reply-room l = rw (r, ← reply-size) (omega arith)
+
+  -- with so many cancels of 28 bytes it is still small
+  pub reply-small : (sent queued : ℕ) → {m : List ℕ} {h : Header} → sent ≤ h .queued - queued → Sizes m h → size + 28 * sent < 2 ^ 64
+  unfolding mapOf
+  reply-small sent queued l z = omega (arith, z .queued, z .settings .q, rw (reply-size, whole-size (acknowledgment cancel x) lamp) (small cancel (x .kind)))
+    where
+      small : (cancel : Bool) (kind : Kind) → wholeLength (mapOf (record { message = record { hour = x .hour; from = x .from; to = x .to; kind = kind; lamp = x .lamp }; sense = cond cancel CancelAcknowledgment Acknowledgment })) ≤ 28
+      small true kind = sense-small kind
+      small false kind = sense-small kind
+
+-- where a message enters
+pub later-bound : (m : List ℕ) (h : Header) (known : Known m h) (x : Message) (k : ℕ) → k ≡ firstWhere (passes Later x) (entriesIn m (h .queued)) → k ≤ h .queued
+later-bound m h known x k found =
+    let place : k ≡ firstWhere (passes Later x) (decode m .queue) = rw (queue-places m h known) found in
+    omega (arith, place, first-bound (passes Later x) (decode m .queue), queue-count m h known)
 
 -- the message and its cancel vanish
 module _ (m output : List ℕ) (h : Header) (known : Known m h) (k : ℕ) (below : k < h .queued) (x : Message) (lamp : length (x .lamp) ≡ 18) {reply : Frame} {map size : ℕ} (r : reply ≡ acknowledgment false x) (e : map ≡ mapOf reply) (s : size ≡ wholeLength map) where
@@ -119,8 +137,17 @@ module _ (m output : List ℕ) (h : Header) (known : Known m h) (bytes : Bytes m
   entered-is = rw (up-to-first x (g .queue), behind-first x (g .queue), ← place)
 
   -- what the code compares
+  abbrev queue-enough : Bool
+  queue-enough = leb (h .queued + 1) (h .settings .q)
+
+  abbrev places-enough : Bool
+  places-enough = leb (h .outstanding + sent) (h .settings .u)
+
+  abbrev bytes-enough : Bool
+  bytes-enough = leb (size + 28 * sent) (length output)
+
   abbrev enough : Bool
-  enough = leb (h .queued + 1) (h .settings .q) && leb (h .outstanding + sent) (h .settings .u) && leb (size + 28 * sent) (length output)
+  enough = queue-enough && places-enough && bytes-enough
 
   cancels : length (bytesOfFrames (framesFor true ms)) ≡ 28 * sent
   cancels = cancels-size (back-cancelled (g .settings) (first .fits .header .settings) (all-back (take k (g .queue)) (drop k (g .queue)) (rw (take-append-drop k (g .queue)) (first .fits .queue)))) ∙ rw (← sent-is)
@@ -146,13 +173,13 @@ module _ (m output : List ℕ) (h : Header) (known : Known m h) (bytes : Bytes m
     room = sym p ∙ not-false ok n
 
     pub bytes-room : size + 28 * sent ≤ length output
-    bytes-room = leb-true (size + 28 * sent) (length output) (and-right _ _ room)
+    bytes-room = leb-true (size + 28 * sent) (length output) (and-right (queue-enough && places-enough) bytes-enough room)
 
     places-room : h .outstanding + sent ≤ h .settings .u
-    places-room = leb-true (h .outstanding + sent) (h .settings .u) (and-right _ _ (and-left _ _ room))
+    places-room = leb-true (h .outstanding + sent) (h .settings .u) (and-right queue-enough places-enough (and-left (queue-enough && places-enough) bytes-enough room))
 
     queue-room : h .queued + 1 ≤ h .settings .q
-    queue-room = leb-true (h .queued + 1) (h .settings .q) (and-left _ _ (and-left _ _ room))
+    queue-room = leb-true (h .queued + 1) (h .settings .q) (and-left queue-enough places-enough (and-left (queue-enough && places-enough) bytes-enough room))
 
     module _ {out : List ℕ} {next : ℕ} (put : Puts 0 (written reply) output out next) where
       next-is : next ≡ size
@@ -166,27 +193,27 @@ module _ (m output : List ℕ) (h : Header) (known : Known m h) (bytes : Bytes m
       }
 
       module _ {memory out′ : List ℕ} {so-far : Sending} (b : SentBack m (undoneFrom k g) memory out out′ (record { header = h; written = next }) ms so-far) where
-        pub may-enter : MayEnter m (undoneFrom k g) memory (so-far .header) k (pendingEntry x)
+        pub may-enter : {entry : Entry} → entry ≡ pendingEntry x → MayEnter m (undoneFrom k g) memory (so-far .header) k entry
         unfolding undoneFrom
-        may-enter = record {
+        may-enter is = rw is (record {
           placed = b .placed;
           entry = record { message = fits-x; before = record { stock = lit< tt; failed = lit< tt; fitted = lit< tt; short = lit< tt } };
           place = rw (length-append, length-take, length-map, length-drop) (omega (arith, place-bound));
           room =
               rw (rolled-settings (processedOf (drop k (g .queue))) g, settings-held m h known, length-append, length-take, length-map, length-drop)
               (omega (arith, place-bound, queue-count m h known, queue-room));
-        }
+        })
 
-        pub entered-done : {after : List ℕ} → after ≡ encode (withQueue (take k (undoneFrom k g .queue) ++ (pendingEntry x ∷ drop k (undoneFrom k g .queue))) (undoneFrom k g)) m
+        pub entered-done : {entry : Entry} {after : List ℕ} → entry ≡ pendingEntry x → after ≡ encode (withQueue (take k (undoneFrom k g .queue) ++ (entry ∷ drop k (undoneFrom k g .queue))) (undoneFrom k g)) m
             → record { answer = record { number = 0; written = so-far .written }; memory = after; output = out′ } ≡ leaving (settled (length output) g (entered x g)) m output
         unfolding undoneFrom bytesOfFrames
-        entered-done q =
+        entered-done is q =
             with-room m output g (entered x g) (needs ∙ room)
-            (q ∙ rw (entered-is, take-at (take k (g .queue)) (map undone (drop k (g .queue))) k front, drop-at (take k (g .queue)) (map undone (drop k (g .queue))) k front))
+            (q ∙ rw (is, entered-is, take-at (take k (g .queue)) (map undone (drop k (g .queue))) k front, drop-at (take k (g .queue)) (map undone (drop k (g .queue))) k front))
             (rw entered-is
             (b .put
             ∙ rw (put .output, put .position, r)
-            (write-join 0 (written (acknowledgment false x)) (bytesOfFrames (framesFor true ms)) output (rw r at (reply-room false x (fits-x .lamp) r e s (omega (arith, bytes-room)))))))
+            (write-join 0 (written (acknowledgment false x)) (bytesOfFrames (framesFor true ms)) output (rw r at (reply-room false x (fits-x .lamp) r e s {n = length output} (omega (arith, bytes-room)))))))
             (rw entered-is (b .position ∙ rw (put .position, r, length-append) (omega arith)))
           where
             front : length (take k (g .queue)) ≡ k

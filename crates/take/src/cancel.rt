@@ -27,6 +27,7 @@ ghost use Prim.Native.Nat.{_<_};
 ghost use lib.ListN.{length, drop};
 ghost use Rattle.memory.specs.Records.{Gateway};
 ghost use Rattle.memory.specs.Codec.{decode};
+ghost use Rattle.memory.specs.Fits.{MessageFits};
 ghost use Rattle.gateway.specs.Effects.{settled};
 ghost use Rattle.gateway.specs.Taking.{waitingEntry, takeCancel};
 ghost use Rattle.gateway.specs.Calls.{leaving, unlessBelow};
@@ -35,7 +36,7 @@ ghost use Rattle.take.specs.Entering.{waits, struckOut};
 ghost use Rattle.take.specs.Undone.{sentByEntries, MaySendBack, SentBack, takenOut};
 
 pub fn take_cancel(memory: &mut [u8], output: &mut [u8], header: Header, message: Message) -> Answer
-    requires { ⌜ Known (now memory) header ⌝ }
+    requires { ⌜ Known (now memory) header × MessageFits message ⌝ }
     ensures { λ r. ⌜ record { answer = r; memory = now (memory .exit); output = now (output .exit) } ≡ leaving (unlessBelow (message .hour) (decode (now (memory .entry))) (settled (length (now (output .entry))) (decode (now (memory .entry))) (takeCancel message (decode (now (memory .entry)))))) (now (memory .entry)) (now (output .entry)) ⌝ }
 {
     if message.hour < header.agreed {
@@ -50,7 +51,7 @@ pub fn take_cancel(memory: &mut [u8], output: &mut [u8], header: Header, message
 
 // The cancel waits in a queue place, after its equals.
 fn enter_cancel(memory: &mut [u8], output: &mut [u8], header: Header, message: Message) -> Answer
-    requires { ⌜ Known (now memory) header ⌝ }
+    requires { ⌜ Known (now memory) header × MessageFits message ⌝ }
     ensures { λ r. ⌜ record { answer = r; memory = now (memory .exit); output = now (output .exit) } ≡ leaving (settled (length (now (output .entry))) (decode (now (memory .entry))) (waits message (decode (now (memory .entry))))) (now (memory .entry)) (now (output .entry)) ⌝ }
 {
     let queued = header.queued as usize;
