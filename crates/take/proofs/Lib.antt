@@ -1,6 +1,8 @@
 -- Laws and proofs of taking plain messages and cancels.
+pub mod Dispatching
 pub mod RollbackLaws
 pub mod SentMessages
-pub mod Dispatching
+pub mod RoomLaws
+pub mod UndoLaws
 pub mod Settling
 pub mod PlainTakings

@@ -119,6 +119,16 @@ module _ (e : Entry) where
       by true = refl
       by false = sym (append-nil (sentBack site (processedOf es)))
 
+-- what entries had sent, the later ones first
+pub back-append : (site : Site) (es fs : List Entry) → sentBack site (processedOf (es ++ fs)) ≡ sentBack site (processedOf fs) ++ sentBack site (processedOf es)
+unfolding processedOf sentBack
+back-append site [] fs = sym (append-nil (sentBack site (processedOf fs)))
+back-append site (e ∷ es) fs =
+    back-more e site (es ++ fs)
+    ∙ (ap (λ (ms : List Message). ms ++ sentBack site (processedOf (e ∷ []))) (back-append site es fs)
+    ∙ (append-assoc (sentBack site (processedOf fs)) (sentBack site (processedOf es)) (sentBack site (processedOf (e ∷ [])))
+    ∙ ap (_++_ (sentBack site (processedOf fs))) (sym (back-more e site es))))
+
 -- frames one behind the other
 pub bytes-append : (fs gs : List Frame) → bytesOfFrames (fs ++ gs) ≡ bytesOfFrames fs ++ bytesOfFrames gs
 unfolding bytesOfFrames

@@ -11,7 +11,7 @@ use model::Message;
 use model::Site;
 use model::event::perform;
 ghost use mathlib.Core.Path.{_≡_};
-ghost use mathlib.Core.Bool.{cond, _&&_};
+ghost use mathlib.Core.Bool.{_&&_};
 ghost use mathlib.Core.List.{List, [], _∷_, _++_};
 ghost use Prim.Native.Nat.{ℕ, _+_, _-_, _*_, _≤_};
 ghost use lib.Dec.{leb};
@@ -57,28 +57,26 @@ pub fn has_room(header: Header, queued: usize, sent: usize, bytes: usize, room: 
 // How many messages the processed events from queue place k on had sent.
 pub fn count_sent(memory: &[u8], header: Header, k: usize) -> usize
     requires { ⌜ (k ≤ header .queued) × (256 + 64 * header .queued ≤ length (now memory)) ⌝ }
-    ensures { λ r. ⌜ r ≡ length (sentBack (siteOf (header .settings)) (processedOf (placesAt entryOf 64 (now (memory .entry)) (256 + 64 * k) (header .queued - k)))) × (r ≤ header .queued - k) ⌝ }
+    ensures { λ r. ⌜ (r ≡ length (sentBack (siteOf (header .settings)) (processedOf (placesAt entryOf 64 (now (memory .entry)) (256 + 64 * k) (header .queued - k))))) × (r ≤ header .queued - k) ⌝ }
 {
     let queued = header.queued as usize;
     let mut sent = 0;
     let mut i = k;
     while i < queued {
         let entry = read_entry(memory, 256 + 64 * i);
-        if had_sent(header, entry) {
-            sent += 1;
-        }
+        sent += sent_by(header, entry);
         i += 1;
     }
     sent
 }
 
-// Whether the entry is a processed event that had sent a message.
-fn had_sent(header: Header, entry: Entry) -> bool
-    ensures { λ r. ⌜ length (sentBack (siteOf (header .settings)) (processedOf (entry ∷ []))) ≡ cond r 1 0 ⌝ }
+// How many messages the entry's event had sent, if it is processed: at most one.
+fn sent_by(header: Header, entry: Entry) -> usize
+    ensures { λ r. ⌜ (r ≡ length (sentBack (siteOf (header .settings)) (processedOf (entry ∷ [])))) × (r ≤ 1) ⌝ }
 {
     let mark = entry.mark;
     if !is_processed(mark) {
-        return false;
+        return 0;
     }
     let settings = header.settings;
     let site = Site {
@@ -89,7 +87,10 @@ fn had_sent(header: Header, entry: Entry) -> bool
     let before = entry.before;
     let message = entry.message;
     let outcome = perform(site, before, message);
-    outcome.sends
+    if outcome.sends {
+        return 1;
+    }
+    0
 }
 
 // Puts an entry into queue place k, and the header last.

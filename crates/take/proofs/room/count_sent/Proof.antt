@@ -1,59 +1,56 @@
+-- `take::room::count_sent` meets its contract.
+use Prim.Native.Nat.{_≤_, _+_, _-_, _*_}
+use mathlib.Core.Path.{_≡_}
+use native.Mathlib.Omega.{arith}
+use lib.ListN.{length}
+use Rattle.memory.specs.Records.{siteOf}
+use Rattle.memory.specs.Codec.{placesAt, entryOf}
+use Rattle.gateway.specs.Undoing.{processedOf, sentBack}
+use Rattle.take.proofs.RoomLaws.{Counted, count-start, count-turn, count-end}
+use borrow.Author.Needs.{needs}
 use Rattle.take.proofs.room.count_sent.Statement.{statement}
 use Rattle.take.proofs.room.count_sent.Tie as tie
-use Rattle.take.proofs.room.count_sent.Reads as reads
-use Rattle.take.proofs.room.count_sent.Lts as lts
-use Rattle.memory.proofs.place.read_entry.Reads as read-entry-reads
-use Rattle.take.proofs.room.had_sent.Reads as had-sent-reads
 
 abbrev Inv-loop : tie.InvT-loop
-Inv-loop memory header k queued sent₀ i₀ sent i = ?
+Inv-loop memory header k queued sent₀ i₀ sent i =
+    (queued ≡ header .queued) × (k ≤ i) × (i ≤ queued) × (sent + k ≤ i)
+    × Counted (siteOf (header .settings)) memory queued (length (sentBack (siteOf (header .settings)) (processedOf (placesAt entryOf 64 memory (256 + 64 * k) (queued - k))))) i sent
 
 abbrev μ-loop : tie.MeasureT-loop
-μ-loop memory header k queued sent₀ i₀ sent i = ?
+μ-loop memory header k queued sent₀ i₀ sent i = queued - i
 
--- src/room.rt:62:18
 cast-queued : tie.Need-cast-queued Inv-loop μ-loop
-cast-queued c = ?
+cast-queued c = search needs
 
--- src/room.rt:65:5
 loop-holds : tie.Need-loop-holds Inv-loop μ-loop
-loop-holds c = ?
+loop-holds c = (search needs, omega arith, omega arith, omega arith, count-start _ _ _ _)
 
--- src/room.rt:66:46
 mul-read-entry : tie.Need-mul-read-entry Inv-loop μ-loop
-mul-read-entry c = ?
+mul-read-entry c = search needs
 
--- src/room.rt:66:40
 add-read-entry : tie.Need-add-read-entry Inv-loop μ-loop
-add-read-entry c = ?
+add-read-entry c = search needs
 
--- src/room.rt:66:13
 read-entry-requires : tie.Need-read-entry-requires Inv-loop μ-loop
-read-entry-requires c κs = ?
+read-entry-requires c κs = search needs
 
--- src/room.rt:67:12
-had-sent-requires : tie.Need-had-sent-requires Inv-loop μ-loop
-had-sent-requires c κs = ?
+sent-by-requires : tie.Need-sent-by-requires Inv-loop μ-loop
+sent-by-requires c κs = search needs
 
--- src/room.rt:68:13
 add-sent : tie.Need-add-sent Inv-loop μ-loop
-add-sent c = ?
+add-sent c = search needs
 
--- src/room.rt:70:9
 add-i : tie.Need-add-i Inv-loop μ-loop
-add-i c = ?
+add-i c = search needs
 
--- src/room.rt:65:5
 loop-less : tie.Need-loop-less Inv-loop μ-loop
-loop-less c = ?
+loop-less c = search needs
 
--- src/room.rt:65:5
 loop-again : tie.Need-loop-again Inv-loop μ-loop
-loop-again c = ?
+loop-again c = (search needs, omega arith, omega arith, omega arith, search count-turn)
 
--- src/room.rt:58:1
 returns : tie.Need-returns Inv-loop μ-loop
-returns c = ?
+returns c = (search count-end, omega arith)
 
 pub count-sent-spec : {M : Type 1} → statement M
 count-sent-spec =
@@ -66,7 +63,7 @@ count-sent-spec =
     mul-read-entry
     add-read-entry
     read-entry-requires
-    had-sent-requires
+    sent-by-requires
     add-sent
     add-i
     loop-less

@@ -1,36 +1,29 @@
+-- `take::room::has_room` meets its contract.
+use Rattle.take.proofs.RoomLaws.{queue-full, outstanding-full, output-decides}
 use borrow.Author.Needs.{needs}
 use Rattle.take.proofs.room.has_room.Statement.{statement}
 use Rattle.take.proofs.room.has_room.Tie as tie
-use Rattle.take.proofs.room.has_room.Reads as reads
-use Rattle.take.proofs.room.has_room.Lts as lts
 
--- src/room.rt:48:9
 cast-if1 : tie.Need-cast-if1
 cast-if1 c = search needs
 
--- src/room.rt:49:9
 returns : tie.Need-returns
-returns c = ?
+returns c = search queue-full
 
--- src/room.rt:51:9
 cast-if2 : tie.Need-cast-if2
 cast-if2 c = search needs
 
--- src/room.rt:51:32
 cast-if2-2 : tie.Need-cast-if2-2
 cast-if2-2 c = search needs
 
--- src/room.rt:51:32
 add-if2 : tie.Need-add-if2
 add-if2 c = search needs
 
--- src/room.rt:52:9
 returns-2 : tie.Need-returns-2
-returns-2 c = ?
+returns-2 c = search outstanding-full
 
--- src/room.rt:43:1
 returns-3 : tie.Need-returns-3
-returns-3 c = ?
+returns-3 c = search output-decides
 
 pub has-room-spec : {M : Type 1} → statement M
 has-room-spec =

@@ -1,50 +1,65 @@
+-- `take::undo::undo` meets its contract.
+use mathlib.Core.Path.{_≡_, refl}
+use mathlib.Core.List.{List, []}
+use Prim.Native.Nat.{ℕ, _≤_}
+use native.Mathlib.Omega.{arith}
+use lib.ListN.{length, drop}
+use Rattle.memory.specs.Records.{Gateway}
+use Rattle.memory.specs.Codec.{entryOf}
+use Rattle.effects.proofs.PlacedLaws.{placed-count}
+use Rattle.take.specs.Undone.{sentByEntries, MaySendBack}
+use Rattle.take.proofs.UndoLaws.{UndoneTo, undo-start, between-here, may-here, undo-turn, undo-end}
+use borrow.Author.Needs.{needs}
 use Rattle.take.proofs.undo.undo.Statement.{statement}
 use Rattle.take.proofs.undo.undo.Tie as tie
-use Rattle.take.proofs.undo.undo.Reads as reads
-use Rattle.take.proofs.undo.undo.Lts as lts
-use Rattle.take.proofs.undo.undo_place.Reads as undo-place-reads
 
 abbrev Inv-loop : tie.InvT-loop
-Inv-loop memory₀ output₀ k left₀ so-far₀ memory output left so-far = ?
+Inv-loop memory₀ output₀ k left₀ so-far₀ memory output left so-far =
+    (k ≤ left) × (length memory ≡ length memory₀) × (length output ≡ length output₀)
+    × ((before : List ℕ) (g : Gateway) → k ≤ length (g .queue) → MaySendBack before g memory₀ output₀ so-far₀ (sentByEntries g (drop k (g .queue))) → UndoneTo before g memory output₀ output so-far₀ left so-far)
 
 abbrev μ-loop : tie.MeasureT-loop
-μ-loop memory₀ output₀ k left₀ so-far₀ memory output left so-far = ?
+μ-loop memory₀ output₀ k left₀ so-far₀ memory output left so-far = left
 
--- src/undo.rt:27:20
 cast-left : tie.Need-cast-left Inv-loop μ-loop
-cast-left c = ?
+cast-left c = search needs
 
--- src/undo.rt:29:5
 loop-holds : tie.Need-loop-holds Inv-loop μ-loop
-loop-holds c = ?
+loop-holds c =
+    let n = placed-count (c .before .before .before .before .pre .3 .placed) in
+    (omega (arith, c .before .before .before .before .pre .2), refl, refl, λ before g low may. undo-start low may refl)
 
--- src/undo.rt:30:9
 sub-left : tie.Need-sub-left Inv-loop μ-loop
-sub-left c = ?
+sub-left c = search needs
 
--- src/undo.rt:31:9
 undo-place-requires : tie.Need-undo-place-requires Inv-loop μ-loop
-undo-place-requires c κs = ?
+undo-place-requires c κs =
+    let p = c .before .before .before .before .before .before .before .before .pre in
+    let u = c .before .before .before .loop .inv .3 (p .0) (p .1) (p .2) (p .3) in
+    (p .0, _, _, _, _, between-here (p .2) (p .3) (c .before .before .loop-test .taken) u (entryOf []), may-here (p .2) (p .3) (c .before .before .loop-test .taken) u (entryOf []))
 
--- src/undo.rt:29:5
 loop-less : tie.Need-loop-less Inv-loop μ-loop
-loop-less c = ?
+loop-less c = search needs
 
--- src/undo.rt:29:5
 loop-again : tie.Need-loop-again Inv-loop μ-loop
-loop-again c = ?
+loop-again c = (
+  omega (arith, c .before .before .before .before .before .before .before .loop-test .taken),
+  search needs,
+  search needs,
+  λ before g low may.
+      let u = c .before .before .before .before .before .before .before .before .loop .inv .3 before g low may in
+      undo-turn low may (c .before .before .before .before .before .before .before .loop-test .taken) u (entryOf [])
+      (c .before .before .before .before .undo-place .ensures before _ _ _ _ (between-here low may (c .before .before .before .before .before .before .before .loop-test .taken) u (entryOf [])) (may-here low may (c .before .before .before .before .before .before .before .loop-test .taken) u (entryOf []))),
+)
 
--- src/undo.rt:22:1
 same-length : tie.Need-same-length Inv-loop μ-loop
-same-length c = ?
+same-length c = search needs
 
--- src/undo.rt:22:1
 same-length-2 : tie.Need-same-length-2 Inv-loop μ-loop
-same-length-2 c = ?
+same-length-2 c = search needs
 
--- src/undo.rt:22:1
 returns : tie.Need-returns Inv-loop μ-loop
-returns c = ?
+returns c = λ before g low may. undo-end low may (c .before .loop .inv .0) (c .loop-test .left) (c .before .loop .inv .3 before g low may)
 
 pub undo-spec : {M : Type 1} → statement M
 undo-spec =

@@ -1,43 +1,32 @@
+-- `take::undo::undo_entry` meets its contract.
+use Rattle.take.proofs.UndoLaws.{left-alone, only-restored, may-send, sent-one}
 use borrow.Author.Needs.{needs}
 use Rattle.take.proofs.undo.undo_entry.Statement.{statement}
 use Rattle.take.proofs.undo.undo_entry.Tie as tie
-use Rattle.take.proofs.undo.undo_entry.Reads as reads
-use Rattle.take.proofs.undo.undo_entry.Lts as lts
-use Rattle.effects.proofs.send.send.Reads as send-reads
-use Rattle.memory.proofs.rules.is_processed.Reads as is-processed-reads
-use Rattle.model.proofs.event.perform.Reads as perform-reads
 
--- src/undo.rt:58:9
 is-processed-requires : tie.Need-is-processed-requires
 is-processed-requires c κs = search needs
 
--- src/undo.rt:59:9
 returns : tie.Need-returns
-returns c = ?
+returns c = λ before g fits may. left-alone fits may (c .before .is-processed .ensures) (c .if1 .taken)
 
--- src/undo.rt:70:9
 perform-requires : tie.Need-perform-requires
 perform-requires c κs = search needs
 
--- src/undo.rt:78:9
 returns-2 : tie.Need-returns-2
-returns-2 c = ?
+returns-2 c = λ before g fits may. only-restored fits may (c .before .before .before .before .before .before .before .before .is-processed .ensures) (c .before .before .before .before .before .before .before .if1 .left) (c .before .before .perform .ensures) (c .if2 .taken)
 
--- src/undo.rt:81:5
 send-requires : tie.Need-send-requires
-send-requires c κs = ?
+send-requires c κs = may-send (c .before .before .before .before .before .before .before .before .before .before .before .before .before .before .pre .2) (c .before .before .before .before .before .before .before .before .before .before .before .before .before .before .pre .3) (c .before .before .before .before .before .before .before .before .before .before .before .is-processed .ensures) (c .before .before .before .before .before .before .before .before .before .before .if1 .left) (c .before .before .before .before .before .perform .ensures) (c .before .before .before .if2 .left)
 
--- src/undo.rt:53:1
 same-length : tie.Need-same-length
 same-length c = search needs
 
--- src/undo.rt:53:1
 same-length-2 : tie.Need-same-length-2
 same-length-2 c = search needs
 
--- src/undo.rt:53:1
 returns-3 : tie.Need-returns-3
-returns-3 c = ?
+returns-3 c = λ before g fits may. sent-one fits may (c .before .before .before .before .before .before .before .before .before .before .before .before .before .before .before .before .is-processed .ensures) (c .before .before .before .before .before .before .before .before .before .before .before .before .before .before .before .if1 .left) (c .before .before .before .before .before .before .before .before .before .before .perform .ensures) (c .before .before .before .before .before .before .before .before .if2 .left) (c .before .before .before .before .send .ensures)
 
 pub undo-entry-spec : {M : Type 1} → statement M
 undo-entry-spec =

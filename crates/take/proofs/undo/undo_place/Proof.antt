@@ -1,61 +1,50 @@
+-- `take::undo::undo_place` meets its contract.
+use native.Mathlib.Omega.{arith}
+use Rattle.take.proofs.UndoLaws.{place-inside, place-alone, may-undo, place-undone}
 use borrow.Author.Needs.{needs}
 use Rattle.take.proofs.undo.undo_place.Statement.{statement}
 use Rattle.take.proofs.undo.undo_place.Tie as tie
-use Rattle.take.proofs.undo.undo_place.Reads as reads
-use Rattle.take.proofs.undo.undo_place.Lts as lts
-use Rattle.memory.proofs.place.read_entry.Reads as read-entry-reads
-use Rattle.memory.proofs.place.write_entry.Reads as write-entry-reads
-use Rattle.memory.proofs.rules.is_processed.Reads as is-processed-reads
-use Rattle.take.proofs.plain.pending.Reads as pending-reads
-use Rattle.take.proofs.undo.undo_entry.Reads as undo-entry-reads
 
--- src/undo.rt:41:20
 mul-at : tie.Need-mul-at
-mul-at c = ?
+mul-at c = let i = place-inside (c .before .before .pre .5) (c .before .before .pre .6) in search needs
 
--- src/undo.rt:41:14
 add-at : tie.Need-add-at
-add-at c = ?
+add-at c = let i = place-inside (c .before .before .pre .5) (c .before .before .pre .6) in search needs
 
--- src/undo.rt:42:9
 read-entry-requires : tie.Need-read-entry-requires
-read-entry-requires c κs = ?
+read-entry-requires c κs = place-inside (c .before .before .before .pre .5) (c .before .before .before .pre .6) .long
 
--- src/undo.rt:44:9
 is-processed-requires : tie.Need-is-processed-requires
 is-processed-requires c κs = search needs
 
--- src/undo.rt:45:9
 same-length : tie.Need-same-length
 same-length c = search needs
 
--- src/undo.rt:45:9
 returns : tie.Need-returns
-returns c = ?
+returns c = λ before g xs e zs b may. place-alone b may (c .before .before .read-entry .ensures) (c .before .is-processed .ensures) (c .if1 .taken)
 
--- src/undo.rt:48:29
 pending-requires : tie.Need-pending-requires
 pending-requires c κs = search needs
 
--- src/undo.rt:48:5
 write-entry-requires : tie.Need-write-entry-requires
-write-entry-requires c κs = ?
+write-entry-requires c κs = place-inside (c .before .before .before .before .before .before .before .before .before .pre .5) (c .before .before .before .before .before .before .before .before .before .pre .6) .long
 
--- src/undo.rt:49:5
 undo-entry-requires : tie.Need-undo-entry-requires
-undo-entry-requires c κs = ?
+undo-entry-requires c κs =
+    let d = may-undo (c .before .before .before .before .before .before .before .before .before .before .before .before .before .before .pre .5) (c .before .before .before .before .before .before .before .before .before .before .before .before .before .before .pre .6) (c .before .before .before .before .before .before .before .before .before .before .read-entry .ensures) (c .before .before .before .before .before .before .before .before .before .is-processed .ensures) (c .before .before .before .before .before .before .before .before .if1 .left) (c .before .before .before .before .before .pending .ensures) (c .before .before .before .before .write-entry .ensures) in
+    (c .before .before .before .before .before .before .before .before .before .before .before .before .before .before .pre .0, _, d .0, d .1)
 
--- src/undo.rt:37:1
 same-length-2 : tie.Need-same-length-2
 same-length-2 c = search needs
 
--- src/undo.rt:37:1
 same-length-3 : tie.Need-same-length-3
 same-length-3 c = search needs
 
--- src/undo.rt:37:1
 returns-2 : tie.Need-returns-2
-returns-2 c = ?
+returns-2 c = λ before g xs e zs b may.
+    let d = may-undo b may (c .before .before .before .before .before .before .before .before .before .before .before .before .before .before .before .read-entry .ensures) (c .before .before .before .before .before .before .before .before .before .before .before .before .before .before .is-processed .ensures) (c .before .before .before .before .before .before .before .before .before .before .before .before .before .if1 .left) (c .before .before .before .before .before .before .before .before .before .before .pending .ensures) (c .before .before .before .before .before .before .before .before .before .write-entry .ensures) in
+    place-undone b may (c .before .before .before .before .before .before .before .before .before .before .before .before .before .before .before .read-entry .ensures) (c .before .before .before .before .before .before .before .before .before .before .before .before .before .before .is-processed .ensures) (c .before .before .before .before .before .before .before .before .before .before .before .before .before .if1 .left) (c .before .before .before .before .before .before .before .before .before .before .pending .ensures) (c .before .before .before .before .before .before .before .before .before .write-entry .ensures)
+    (c .before .before .before .before .undo-entry .ensures before _ (d .0) (d .1))
 
 pub undo-place-spec : {M : Type 1} → statement M
 undo-place-spec =
