@@ -72,7 +72,9 @@ module _ (cancel : Bool) (x : Message) (lamp : length (x .lamp) ≡ 18) {reply :
   -- with so many cancels of 28 bytes it is still small
   pub reply-small : (sent queued : ℕ) → {m : List ℕ} {h : Header} → sent ≤ h .queued - queued → Sizes m h → size + 28 * sent < 2 ^ 64
   unfolding mapOf
-  reply-small sent queued l z = omega (arith, z .queued, z .settings .q, rw (reply-size, whole-size (acknowledgment cancel x) lamp) (small cancel (x .kind)))
+  reply-small sent queued l z =
+      let b : size ≤ 28 = rw (reply-size, whole-size (acknowledgment cancel x) lamp) (small cancel (x .kind)) in
+      omega (arith, z .queued, z .settings .q, b, l)
     where
       small : (cancel : Bool) (kind : Kind) → wholeLength (mapOf (record { message = record { hour = x .hour; from = x .from; to = x .to; kind = kind; lamp = x .lamp }; sense = cond cancel CancelAcknowledgment Acknowledgment })) ≤ 28
       small true kind = sense-small kind

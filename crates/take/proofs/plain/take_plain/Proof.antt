@@ -6,58 +6,40 @@ use Rattle.take.proofs.PlainTakings.{meets, enters}
 use borrow.Author.Needs.{needs}
 use Rattle.take.proofs.plain.take_plain.Statement.{statement}
 use Rattle.take.proofs.plain.take_plain.Tie as tie
-use Rattle.take.proofs.plain.take_plain.Reads as reads
-use Rattle.take.proofs.plain.take_plain.Lts as lts
-use Rattle.gateway.proofs.places.find.Reads as find-reads
-use Rattle.gateway.proofs.refused.Reads as refused-reads
-use Rattle.take.proofs.plain.enter_plain.Reads as enter-plain-reads
-use Rattle.take.proofs.plain.meet_cancel.Reads as meet-cancel-reads
 
--- src/plain.rt:39:9
 refused-requires : tie.Need-refused-requires
 refused-requires c κs = search needs
 
--- src/plain.rt:39:9
 returns : tie.Need-returns
 returns c = below _ _ _ (c .before .before .before .before .before .before .pre .0) _ _ (c .before .if1 .taken) (c .refused .ensures)
 
--- src/plain.rt:41:18
 cast-queued : tie.Need-cast-queued
 cast-queued c = search needs
 
--- src/plain.rt:42:9
 find-requires : tie.Need-find-requires
 find-requires c κs = let z = sizes _ _ (c .before .before .before .before .before .before .before .pre .0) in omega (arith, z .long, z .queued)
 
--- src/plain.rt:44:9
 meet-cancel-requires : tie.Need-meet-cancel-requires
 meet-cancel-requires c κs = (c .before .before .before .before .before .before .before .before .before .before .before .pre .0, c .before .before .if2 .taken, c .before .before .before .before .before .before .before .before .before .before .before .pre .1 .lamp)
 
--- src/plain.rt:44:9
 same-length : tie.Need-same-length
 same-length c = search needs
 
--- src/plain.rt:44:9
 same-length-2 : tie.Need-same-length-2
 same-length-2 c = search needs
 
--- src/plain.rt:44:9
 returns-2 : tie.Need-returns-2
 returns-2 c = not-below (c .before .before .before .before .before .before .before .before .before .before .before .before .before .before .before .before .args .memory .now) (c .before .before .before .before .before .before .before .before .before .before .before .before .before .before .before .before .args .output .now) _ (c .before .before .before .before .before .before .before .before .before .before .before .before .before .before .before .before .pre .0) _ _ (c .before .before .before .before .before .before .before .before .before .before .before .if1 .left) (meets (c .before .before .before .before .before .before .before .before .before .before .before .before .before .before .before .before .args .memory .now) (c .before .before .before .before .before .before .before .before .before .before .before .before .before .before .before .before .args .output .now) _ (c .before .before .before .before .before .before .before .before .before .before .before .before .before .before .before .before .pre .0) _ _ (c .before .before .before .before .before .before .before .before .find .ensures) (c .before .before .before .before .before .before .before .if2 .taken) (c .before .before .before .before .meet-cancel .ensures))
 
--- src/plain.rt:46:5
 enter-plain-requires : tie.Need-enter-plain-requires
 enter-plain-requires c κs = search needs
 
--- src/plain.rt:34:1
 same-length-3 : tie.Need-same-length-3
 same-length-3 c = search needs
 
--- src/plain.rt:34:1
 same-length-4 : tie.Need-same-length-4
 same-length-4 c = search needs
 
--- src/plain.rt:34:1
 returns-3 : tie.Need-returns-3
 returns-3 c = not-below (c .before .before .before .before .before .before .before .before .before .before .before .before .before .before .before .before .args .memory .now) (c .before .before .before .before .before .before .before .before .before .before .before .before .before .before .before .before .args .output .now) _ (c .before .before .before .before .before .before .before .before .before .before .before .before .before .before .before .before .pre .0) _ _ (c .before .before .before .before .before .before .before .before .before .before .before .if1 .left) (enters (c .before .before .before .before .before .before .before .before .before .before .before .before .before .before .before .before .args .memory .now) (c .before .before .before .before .before .before .before .before .before .before .before .before .before .before .before .before .args .output .now) _ (c .before .before .before .before .before .before .before .before .before .before .before .before .before .before .before .before .pre .0) _ _ (c .before .before .before .before .before .before .before .before .find .ensures) (c .before .before .before .before .before .before .before .if2 .left) (c .before .before .before .before .enter-plain .ensures))
 
