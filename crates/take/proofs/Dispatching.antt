@@ -6,6 +6,7 @@ use Prim.Native.Nat.{ℕ, _≤_, _<_}
 use lib.Dec.{eqb, ltb}
 use lib.ListN.{length}
 use borrow.Author.Tests.{eq-eqb, ne-eqb, lt-ltb, le-ltb, not-true, not-false}
+use Rattle.buffer.specs.Slice.{Bytes}
 use Rattle.model.specs.Messages.{kindNumber}
 use Rattle.model.specs.declared.Message.{Message}
 use Rattle.model.specs.declared.Kind.the-variants.{Failure, Request, Delivery, Restock, Start, Lvt, Update}
@@ -18,6 +19,7 @@ use Rattle.frame.specs.declared.Frame.{Frame}
 use Rattle.frame.specs.declared.Reading.{Reading}
 use Rattle.frame.specs.declared.Sense.the-variants.{Plain, Cancel, Acknowledgment, CancelAcknowledgment}
 use Rattle.memory.specs.Codec.{decode}
+use Rattle.memory.specs.Fits.{MessageFits}
 use Rattle.memory.specs.Records.{Gateway}
 use Rattle.memory.specs.declared.Header.{Header}
 use Rattle.gateway.specs.Effects.{Outcome, refused, settled}
@@ -27,6 +29,7 @@ use Rattle.gateway.specs.Calls.{Left, leaving, unlessBelow, takeByKind, takeByS
 use Rattle.gateway.specs.Premises.{Known}
 use Rattle.gateway.specs.declared.Answer.{Answer}
 use Rattle.gateway.proofs.Stepping.{agreed-is, settings-are}
+use Rattle.effects.proofs.ReadMessages.{reading-fits}
 use Rattle.take.specs.Usable.{usable}
 
 -- what a refusal with a number other than 0 leaves
@@ -132,3 +135,7 @@ module _ (m bytes output : List ℕ) (h : Header) (k : Known m h) {r : Reading} 
 pub take-call : (m bytes output : List ℕ) → onSound (takeBytes bytes) m output ≡ taken m bytes output
 unfolding taken
 take-call m bytes output = refl
+
+-- a message that was read fits its fields
+pub read-fits : (bytes : List ℕ) → Bytes bytes → {r : Reading} → r ≡ reading bytes → MessageFits (r .frame .message)
+read-fits bytes b e = rw e (reading-fits bytes b)

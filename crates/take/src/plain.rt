@@ -24,6 +24,7 @@ ghost use mathlib.Core.List.{[], _∷_, _++_};
 ghost use Prim.Native.Nat.{suc, _<_};
 ghost use lib.ListN.{length, take, drop};
 ghost use Rattle.memory.specs.Codec.{decode};
+ghost use Rattle.memory.specs.Fits.{MessageFits};
 ghost use Rattle.gateway.specs.Effects.{withQueue, settled};
 ghost use Rattle.gateway.specs.Undoing.{pendingEntry};
 ghost use Rattle.gateway.specs.Taking.{acknowledgment, takePlain};
@@ -32,7 +33,7 @@ ghost use Rattle.gateway.specs.Premises.{Known};
 ghost use Rattle.take.specs.Entering.{entered};
 
 pub fn take_plain(memory: &mut [u8], output: &mut [u8], header: Header, message: Message) -> Answer
-    requires { ⌜ Known (now memory) header ⌝ }
+    requires { ⌜ Known (now memory) header × MessageFits message ⌝ }
     ensures { λ r. ⌜ record { answer = r; memory = now (memory .exit); output = now (output .exit) } ≡ leaving (unlessBelow (message .hour) (decode (now (memory .entry))) (settled (length (now (output .entry))) (decode (now (memory .entry))) (takePlain message (decode (now (memory .entry)))))) (now (memory .entry)) (now (output .entry)) ⌝ }
 {
     if message.hour < header.agreed {
@@ -54,7 +55,7 @@ fn meet_cancel(
     k: usize,
     message: Message,
 ) -> Answer
-    requires { ⌜ Known (now memory) header × (k < header .queued) ⌝ }
+    requires { ⌜ Known (now memory) header × (k < header .queued) × (length (message .lamp) ≡ 18) ⌝ }
     ensures { λ r. ⌜ record { answer = r; memory = now (memory .exit); output = now (output .exit) } ≡ leaving (settled (length (now (output .entry))) (decode (now (memory .entry))) (record { gateway = withQueue (take k (decode (now (memory .entry)) .queue) ++ drop (suc k) (decode (now (memory .entry)) .queue)) (decode (now (memory .entry))); frames = acknowledgment false message ∷ [] })) (now (memory .entry)) (now (output .entry)) ⌝ }
 {
     let reply = acknowledgment(false, message);
@@ -68,7 +69,7 @@ fn meet_cancel(
 
 // The message enters the queue, and the processed messages behind it are undone.
 fn enter_plain(memory: &mut [u8], output: &mut [u8], header: Header, message: Message) -> Answer
-    requires { ⌜ Known (now memory) header ⌝ }
+    requires { ⌜ Known (now memory) header × MessageFits message ⌝ }
     ensures { λ r. ⌜ record { answer = r; memory = now (memory .exit); output = now (output .exit) } ≡ leaving (settled (length (now (output .entry))) (decode (now (memory .entry))) (entered message (decode (now (memory .entry))))) (now (memory .entry)) (now (output .entry)) ⌝ }
 {
     let queued = header.queued as usize;

@@ -25,6 +25,7 @@ ghost use lib.Dec.{eqb};
 ghost use lib.ListN.{length};
 ghost use Rattle.frame.specs.Limits.{refusal};
 ghost use Rattle.memory.specs.Codec.{decode};
+ghost use Rattle.memory.specs.Fits.{MessageFits};
 ghost use Rattle.gateway.specs.Effects as Effects;
 ghost use Rattle.gateway.specs.Rounds.{takeLvt};
 ghost use Rattle.gateway.specs.Calls.{leaving, unlessBelow, takeByKind, takeFrame, takeBytes, taken};
@@ -69,7 +70,7 @@ fn is_usable(reading: Reading) -> bool
 
 // Numbers and hour are looked at before the rest: 2, then 3.
 fn take_checked(memory: &mut [u8], output: &mut [u8], header: Header, frame: Frame) -> Answer
-    requires { ⌜ Known (now memory) header ⌝ }
+    requires { ⌜ Known (now memory) header × MessageFits (frame .message) ⌝ }
     ensures { λ r. ⌜ record { answer = r; memory = now (memory .exit); output = now (output .exit) } ≡ leaving (cond (eqb (refusal frame (header .settings .n) (header .settings .own) (header .settings .last)) 0) (takeFrame (length (now (output .entry))) frame (decode (now (memory .entry)))) (Effects.refused (refusal frame (header .settings .n) (header .settings .own) (header .settings .last)) (decode (now (memory .entry))))) (now (memory .entry)) (now (output .entry)) ⌝ }
 {
     let settings = header.settings;
@@ -81,7 +82,7 @@ fn take_checked(memory: &mut [u8], output: &mut [u8], header: Header, frame: Fra
 }
 
 fn take_frame(memory: &mut [u8], output: &mut [u8], header: Header, frame: Frame) -> Answer
-    requires { ⌜ Known (now memory) header ⌝ }
+    requires { ⌜ Known (now memory) header × MessageFits (frame .message) ⌝ }
     ensures { λ r. ⌜ record { answer = r; memory = now (memory .exit); output = now (output .exit) } ≡ leaving (takeFrame (length (now (output .entry))) frame (decode (now (memory .entry)))) (now (memory .entry)) (now (output .entry)) ⌝ }
 {
     let message = frame.message;
@@ -95,7 +96,7 @@ fn take_frame(memory: &mut [u8], output: &mut [u8], header: Header, frame: Frame
 }
 
 fn take_by_kind(memory: &mut [u8], output: &mut [u8], header: Header, message: Message) -> Answer
-    requires { ⌜ Known (now memory) header ⌝ }
+    requires { ⌜ Known (now memory) header × MessageFits message ⌝ }
     ensures { λ r. ⌜ record { answer = r; memory = now (memory .exit); output = now (output .exit) } ≡ leaving (takeByKind (length (now (output .entry))) message (decode (now (memory .entry))) (message .kind)) (now (memory .entry)) (now (output .entry)) ⌝ }
 {
     let kind = message.kind;

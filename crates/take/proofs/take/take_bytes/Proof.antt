@@ -1,5 +1,6 @@
 -- `take::take::take_bytes` meets its contract.
-use Rattle.take.proofs.Dispatching.{not-usable, is-usable}
+use Rattle.gateway.proofs.Changing.{bytes-known}
+use Rattle.take.proofs.Dispatching.{not-usable, is-usable, read-fits}
 use borrow.Author.Needs.{needs}
 use Rattle.take.proofs.take.take_bytes.Statement.{statement}
 use Rattle.take.proofs.take.take_bytes.Tie as tie
@@ -17,7 +18,7 @@ returns : tie.Need-returns
 returns c = search not-usable
 
 take-checked-requires : tie.Need-take-checked-requires
-take-checked-requires c κs = search needs
+take-checked-requires c κs = (c .before .before .before .before .before .before .before .before .pre, read-fits _ (bytes-known (c .before .before .before .before .before .before .before .before .args .frame .now) (c .before .before .before .before .before .before .shared-slice-known .given)) (c .before .before .before .before .read .ensures))
 
 same-length : tie.Need-same-length
 same-length c = search needs
