@@ -29,8 +29,8 @@ write-sent-requires c κs = search needs
 frame-if-requires : tie.Need-frame-if-requires
 frame-if-requires c κs = search needs
 
-put-requires : tie.Need-put-requires
-put-requires c κs = search frame-room
+put-frame-requires : tie.Need-put-frame-requires
+put-frame-requires c κs = search frame-room
 
 note-requires : tie.Need-note-requires
 note-requires c κs = search needs
@@ -48,7 +48,7 @@ returns : tie.Need-returns
 returns c =
     sends _ _ _ _ _ (c .before .before .before .before .before .before .before .before .before .before .before .before .before .before .before .before .before .pre) (c .before .before .before .before .before .frame-if .ensures)
     (c .before .before .before .before .before .before .before .before .before .write-sent .ensures)
-    (c .before .before .before .before .put .ensures)
+    (c .before .before .before .before .put-frame .ensures)
     (c .before .note .ensures)
 
 pub send-spec : {M : Type 1} → statement M
@@ -63,7 +63,7 @@ send-spec =
     add-at-2
     write-sent-requires
     frame-if-requires
-    put-requires
+    put-frame-requires
     note-requires
     add-next
     same-length
