@@ -6,9 +6,9 @@ use crate::room::has_room;
 use crate::undo::undo;
 use crate::undo::undo_entry;
 use effects::Sending;
+use frame::outgoing::put_frame;
 use frame::tables::whole_length;
 use frame::writer::map_of;
-use frame::writer::put;
 use gateway::Answer;
 use gateway::places::Search;
 use gateway::places::find;
@@ -66,7 +66,7 @@ fn enter_cancel(memory: &mut [u8], output: &mut [u8], header: Header, message: M
     ) {
         return refused(5);
     }
-    let written = put(output, 0, reply);
+    let written = put_frame(output, 0, reply);
     enter(memory, header, k, waiting(message));
     Answer { number: 0, written }
 }
@@ -88,7 +88,7 @@ fn strike_out(
     if !has_room(header, 0, sent, bytes, output.len()) {
         return refused(5);
     }
-    let written = put(output, 0, reply);
+    let written = put_frame(output, 0, reply);
     let undone = take_out(memory, output, Sending { header, written }, k);
     let next = undone.header;
     write_header(memory, next);

@@ -5,9 +5,9 @@ use crate::room::enter;
 use crate::room::has_room;
 use crate::undo::undo;
 use effects::Sending;
+use frame::outgoing::put_frame;
 use frame::tables::whole_length;
 use frame::writer::map_of;
-use frame::writer::put;
 use gateway::Answer;
 use gateway::changes::remove_entry;
 use gateway::places::Search;
@@ -62,7 +62,7 @@ fn meet_cancel(
     if output.len() < whole_length(map_of(reply)) {
         return refused(5);
     }
-    let written = put(output, 0, reply);
+    let written = put_frame(output, 0, reply);
     remove_entry(memory, header, k);
     Answer { number: 0, written }
 }
@@ -80,7 +80,7 @@ fn enter_plain(memory: &mut [u8], output: &mut [u8], header: Header, message: Me
     if !has_room(header, queued + 1, sent, bytes, output.len()) {
         return refused(5);
     }
-    let written = put(output, 0, reply);
+    let written = put_frame(output, 0, reply);
     let undone = undo(memory, output, Sending { header, written }, k);
     let next = undone.header;
     enter(memory, next, k, pending(message));

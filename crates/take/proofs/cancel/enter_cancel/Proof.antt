@@ -39,8 +39,8 @@ returns c =
     let b = bytes-known (o .args .memory .now) (c .before .before .before .before .before .before .before .before .before .before .slice-known .given) in
     waits-without-room (o .args .memory .now) (o .args .output .now) _ (o .pre .0) b _ (o .pre .1) _ (c .before .before .before .before .before .before .find .ensures) (c .before .before .before .before .before .acknowledgment .ensures) (c .before .before .before .before .map-of .ensures) (c .before .before .before .whole-length .ensures) (c .before .before .has-room .ensures) (c .before .if1 .taken) (c .refused .ensures)
 
-put-requires : tie.Need-put-requires
-put-requires c κs =
+put-frame-requires : tie.Need-put-frame-requires
+put-frame-requires c κs =
     let o = c .before .before .before .before .before .before .before .before .before .before .before in
     let b = bytes-known (o .args .memory .now) (c .before .before .before .before .before .before .before .before .before .before .slice-known .given) in
     waits-bytes (o .args .memory .now) (o .args .output .now) _ (o .pre .0) b _ (o .pre .1) _ (c .before .before .before .before .before .before .find .ensures) (c .before .before .before .before .before .acknowledgment .ensures) (c .before .before .before .before .map-of .ensures) (c .before .before .before .whole-length .ensures) (c .before .before .has-room .ensures) (c .before .if1 .left)
@@ -65,7 +65,7 @@ returns-2 c =
     let o = c .before .before .before .before .before .before .before .before .before .before .before .before .before .before .before .before .before .before .before in
     let b = bytes-known (o .args .memory .now) (c .before .before .before .before .before .before .before .before .before .before .before .before .before .before .before .before .before .before .slice-known .given) in
     let w = may-wait (o .args .memory .now) (o .args .output .now) _ (o .pre .0) b _ (o .pre .1) _ (c .before .before .before .before .before .before .before .before .before .before .before .before .before .before .find .ensures) (c .before .before .before .before .before .before .before .before .before .before .before .before .before .acknowledgment .ensures) (c .before .before .before .before .before .before .before .before .before .before .before .before .map-of .ensures) (c .before .before .before .before .before .before .before .before .before .before .before .whole-length .ensures) (c .before .before .before .before .before .before .before .before .before .before .has-room .ensures) (c .before .before .before .before .before .before .before .before .before .if1 .left) (c .before .before .before .waiting .ensures) in
-    waits-done (o .args .memory .now) (o .args .output .now) _ (o .pre .0) b _ (o .pre .1) _ (c .before .before .before .before .before .before .before .before .before .before .before .before .before .before .find .ensures) (c .before .before .before .before .before .before .before .before .before .before .before .before .before .acknowledgment .ensures) (c .before .before .before .before .before .before .before .before .before .before .before .before .map-of .ensures) (c .before .before .before .before .before .before .before .before .before .before .before .whole-length .ensures) (c .before .before .before .before .before .before .before .before .before .before .has-room .ensures) (c .before .before .before .before .before .before .before .before .before .if1 .left) (c .before .before .before .waiting .ensures) (c .before .before .before .before .before .before .before .put .ensures) (c .before .before .enter .ensures _ _ w)
+    waits-done (o .args .memory .now) (o .args .output .now) _ (o .pre .0) b _ (o .pre .1) _ (c .before .before .before .before .before .before .before .before .before .before .before .before .before .before .find .ensures) (c .before .before .before .before .before .before .before .before .before .before .before .before .before .acknowledgment .ensures) (c .before .before .before .before .before .before .before .before .before .before .before .before .map-of .ensures) (c .before .before .before .before .before .before .before .before .before .before .before .whole-length .ensures) (c .before .before .before .before .before .before .before .before .before .before .has-room .ensures) (c .before .before .before .before .before .before .before .before .before .if1 .left) (c .before .before .before .waiting .ensures) (c .before .before .before .before .before .before .before .put-frame .ensures) (c .before .before .enter .ensures _ _ w)
 
 pub enter-cancel-spec : {M : Type 1} → statement M
 enter-cancel-spec =
@@ -81,7 +81,7 @@ enter-cancel-spec =
     refused-requires
     same-length
     returns
-    put-requires
+    put-frame-requires
     waiting-requires
     enter-requires
     same-length-2

@@ -41,8 +41,8 @@ returns c =
     let b = bytes-known (o .args .memory .now) (c .before .before .before .before .before .before .before .before .before .slice-known .given) in
     struck-without-room (o .args .memory .now) (o .args .output .now) _ (o .pre .0) b _ (o .pre .2) _ (o .pre .1) _ (c .before .before .before .before .before .before .count-sent .ensures .0) (c .before .before .before .before .before .acknowledgment .ensures) (c .before .before .before .before .map-of .ensures) (c .before .before .before .whole-length .ensures) (c .before .before .has-room .ensures) (c .before .if1 .taken) (c .refused .ensures)
 
-put-requires : tie.Need-put-requires
-put-requires c κs =
+put-frame-requires : tie.Need-put-frame-requires
+put-frame-requires c κs =
     let o = c .before .before .before .before .before .before .before .before .before .before in
     let b = bytes-known (o .args .memory .now) (c .before .before .before .before .before .before .before .before .before .slice-known .given) in
     struck-bytes (o .args .memory .now) (o .args .output .now) _ (o .pre .0) b _ (o .pre .2) _ (o .pre .1) _ (c .before .before .before .before .before .before .count-sent .ensures .0) (c .before .before .before .before .before .acknowledgment .ensures) (c .before .before .before .before .map-of .ensures) (c .before .before .before .whole-length .ensures) (c .before .before .has-room .ensures) (c .before .if1 .left)
@@ -51,7 +51,7 @@ take-out-requires : tie.Need-take-out-requires
 take-out-requires c κs =
     let o = c .before .before .before .before .before .before .before .before .before .before .before .before .before .before .before in
     let b = bytes-known (o .args .memory .now) (c .before .before .before .before .before .before .before .before .before .before .before .before .before .before .slice-known .given) in
-    (_, struck-below (o .args .memory .now) (o .args .output .now) _ (o .pre .0) b _ (o .pre .2) _ (o .pre .1) _ (c .before .before .before .before .before .before .before .before .before .before .before .count-sent .ensures .0) (c .before .before .before .before .before .before .before .before .before .before .acknowledgment .ensures) (c .before .before .before .before .before .before .before .before .before .map-of .ensures) (c .before .before .before .before .before .before .before .before .whole-length .ensures), may-strike (o .args .memory .now) (o .args .output .now) _ (o .pre .0) b _ (o .pre .2) _ (o .pre .1) _ (c .before .before .before .before .before .before .before .before .before .before .before .count-sent .ensures .0) (c .before .before .before .before .before .before .before .before .before .before .acknowledgment .ensures) (c .before .before .before .before .before .before .before .before .before .map-of .ensures) (c .before .before .before .before .before .before .before .before .whole-length .ensures) (c .before .before .before .before .before .before .before .has-room .ensures) (c .before .before .before .before .before .before .if1 .left) (c .before .before .before .before .put .ensures))
+    (_, struck-below (o .args .memory .now) (o .args .output .now) _ (o .pre .0) b _ (o .pre .2) _ (o .pre .1) _ (c .before .before .before .before .before .before .before .before .before .before .before .count-sent .ensures .0) (c .before .before .before .before .before .before .before .before .before .before .acknowledgment .ensures) (c .before .before .before .before .before .before .before .before .before .map-of .ensures) (c .before .before .before .before .before .before .before .before .whole-length .ensures), may-strike (o .args .memory .now) (o .args .output .now) _ (o .pre .0) b _ (o .pre .2) _ (o .pre .1) _ (c .before .before .before .before .before .before .before .before .before .before .before .count-sent .ensures .0) (c .before .before .before .before .before .before .before .before .before .before .acknowledgment .ensures) (c .before .before .before .before .before .before .before .before .before .map-of .ensures) (c .before .before .before .before .before .before .before .before .whole-length .ensures) (c .before .before .before .before .before .before .before .has-room .ensures) (c .before .before .before .before .before .before .if1 .left) (c .before .before .before .before .put-frame .ensures))
 
 write-header-requires : tie.Need-write-header-requires
 write-header-requires c κs = let z = sizes _ _ (c .before .before .before .before .before .before .before .before .before .before .before .before .before .before .before .before .before .before .before .before .before .before .pre .0) in omega arith
@@ -66,8 +66,8 @@ returns-2 : tie.Need-returns-2
 returns-2 c =
     let o = c .before .before .before .before .before .before .before .before .before .before .before .before .before .before .before .before .before .before .before .before .before .before .before .before .before in
     let b = bytes-known (o .args .memory .now) (c .before .before .before .before .before .before .before .before .before .before .before .before .before .before .before .before .before .before .before .before .before .before .before .before .slice-known .given) in
-    let w = may-strike (o .args .memory .now) (o .args .output .now) _ (o .pre .0) b _ (o .pre .2) _ (o .pre .1) _ (c .before .before .before .before .before .before .before .before .before .before .before .before .before .before .before .before .before .before .before .before .before .count-sent .ensures .0) (c .before .before .before .before .before .before .before .before .before .before .before .before .before .before .before .before .before .before .before .before .acknowledgment .ensures) (c .before .before .before .before .before .before .before .before .before .before .before .before .before .before .before .before .before .before .before .map-of .ensures) (c .before .before .before .before .before .before .before .before .before .before .before .before .before .before .before .before .before .before .whole-length .ensures) (c .before .before .before .before .before .before .before .before .before .before .before .before .before .before .before .before .before .has-room .ensures) (c .before .before .before .before .before .before .before .before .before .before .before .before .before .before .before .before .if1 .left) (c .before .before .before .before .before .before .before .before .before .before .before .before .before .before .put .ensures) in
-    struck-done (o .args .memory .now) (o .args .output .now) _ (o .pre .0) b _ (o .pre .2) _ (o .pre .1) _ (c .before .before .before .before .before .before .before .before .before .before .before .before .before .before .before .before .before .before .before .before .before .count-sent .ensures .0) (c .before .before .before .before .before .before .before .before .before .before .before .before .before .before .before .before .before .before .before .before .acknowledgment .ensures) (c .before .before .before .before .before .before .before .before .before .before .before .before .before .before .before .before .before .before .before .map-of .ensures) (c .before .before .before .before .before .before .before .before .before .before .before .before .before .before .before .before .before .before .whole-length .ensures) (c .before .before .before .before .before .before .before .before .before .before .before .before .before .before .before .before .before .has-room .ensures) (c .before .before .before .before .before .before .before .before .before .before .before .before .before .before .before .before .if1 .left) (c .before .before .before .before .before .before .before .before .before .before .before .before .before .before .put .ensures) (c .before .before .before .before .before .before .before .before .before .take-out .ensures _ (struck-below (o .args .memory .now) (o .args .output .now) _ (o .pre .0) b _ (o .pre .2) _ (o .pre .1) _ (c .before .before .before .before .before .before .before .before .before .before .before .before .before .before .before .before .before .before .before .before .before .count-sent .ensures .0) (c .before .before .before .before .before .before .before .before .before .before .before .before .before .before .before .before .before .before .before .before .acknowledgment .ensures) (c .before .before .before .before .before .before .before .before .before .before .before .before .before .before .before .before .before .before .before .map-of .ensures) (c .before .before .before .before .before .before .before .before .before .before .before .before .before .before .before .before .before .before .whole-length .ensures)) w) (c .before .before .write-header .ensures)
+    let w = may-strike (o .args .memory .now) (o .args .output .now) _ (o .pre .0) b _ (o .pre .2) _ (o .pre .1) _ (c .before .before .before .before .before .before .before .before .before .before .before .before .before .before .before .before .before .before .before .before .before .count-sent .ensures .0) (c .before .before .before .before .before .before .before .before .before .before .before .before .before .before .before .before .before .before .before .before .acknowledgment .ensures) (c .before .before .before .before .before .before .before .before .before .before .before .before .before .before .before .before .before .before .before .map-of .ensures) (c .before .before .before .before .before .before .before .before .before .before .before .before .before .before .before .before .before .before .whole-length .ensures) (c .before .before .before .before .before .before .before .before .before .before .before .before .before .before .before .before .before .has-room .ensures) (c .before .before .before .before .before .before .before .before .before .before .before .before .before .before .before .before .if1 .left) (c .before .before .before .before .before .before .before .before .before .before .before .before .before .before .put-frame .ensures) in
+    struck-done (o .args .memory .now) (o .args .output .now) _ (o .pre .0) b _ (o .pre .2) _ (o .pre .1) _ (c .before .before .before .before .before .before .before .before .before .before .before .before .before .before .before .before .before .before .before .before .before .count-sent .ensures .0) (c .before .before .before .before .before .before .before .before .before .before .before .before .before .before .before .before .before .before .before .before .acknowledgment .ensures) (c .before .before .before .before .before .before .before .before .before .before .before .before .before .before .before .before .before .before .before .map-of .ensures) (c .before .before .before .before .before .before .before .before .before .before .before .before .before .before .before .before .before .before .whole-length .ensures) (c .before .before .before .before .before .before .before .before .before .before .before .before .before .before .before .before .before .has-room .ensures) (c .before .before .before .before .before .before .before .before .before .before .before .before .before .before .before .before .if1 .left) (c .before .before .before .before .before .before .before .before .before .before .before .before .before .before .put-frame .ensures) (c .before .before .before .before .before .before .before .before .before .take-out .ensures _ (struck-below (o .args .memory .now) (o .args .output .now) _ (o .pre .0) b _ (o .pre .2) _ (o .pre .1) _ (c .before .before .before .before .before .before .before .before .before .before .before .before .before .before .before .before .before .before .before .before .before .count-sent .ensures .0) (c .before .before .before .before .before .before .before .before .before .before .before .before .before .before .before .before .before .before .before .before .acknowledgment .ensures) (c .before .before .before .before .before .before .before .before .before .before .before .before .before .before .before .before .before .before .before .map-of .ensures) (c .before .before .before .before .before .before .before .before .before .before .before .before .before .before .before .before .before .before .whole-length .ensures)) w) (c .before .before .write-header .ensures)
 
 pub strike-out-spec : {M : Type 1} → statement M
 strike-out-spec =
@@ -83,7 +83,7 @@ strike-out-spec =
     refused-requires
     same-length
     returns
-    put-requires
+    put-frame-requires
     take-out-requires
     write-header-requires
     same-length-2

@@ -20,8 +20,8 @@ refused-requires c κs = search needs
 returns : tie.Need-returns
 returns c = met-without-room _ _ _ (c .before .before .before .before .before .before .before .pre .0) _ (c .before .before .before .before .before .before .before .pre .1) _ (c .before .before .before .before .before .before .before .pre .2) (c .before .before .before .before .acknowledgment .ensures) (c .before .before .before .map-of .ensures) (c .before .before .whole-length .ensures) (c .before .if1 .taken) (c .refused .ensures)
 
-put-requires : tie.Need-put-requires
-put-requires c κs = reply-room false _ (c .before .before .before .before .before .before .before .pre .2) (c .before .before .before .before .acknowledgment .ensures) (c .before .before .before .map-of .ensures) (c .before .before .whole-length .ensures) (c .before .if1 .left)
+put-frame-requires : tie.Need-put-frame-requires
+put-frame-requires c κs = reply-room false _ (c .before .before .before .before .before .before .before .pre .2) (c .before .before .before .before .acknowledgment .ensures) (c .before .before .before .map-of .ensures) (c .before .before .whole-length .ensures) (c .before .if1 .left)
 
 remove-entry-requires : tie.Need-remove-entry-requires
 remove-entry-requires c κs = search needs
@@ -33,7 +33,7 @@ same-length-2 : tie.Need-same-length-2
 same-length-2 c = search needs
 
 returns-2 : tie.Need-returns-2
-returns-2 c = met-done _ _ _ (c .before .before .before .before .before .before .before .before .before .before .before .before .before .before .pre .0) _ (c .before .before .before .before .before .before .before .before .before .before .before .before .before .before .pre .1) _ (c .before .before .before .before .before .before .before .before .before .before .before .before .before .before .pre .2) (c .before .before .before .before .before .before .before .before .before .before .before .acknowledgment .ensures) (c .before .before .before .before .before .before .before .before .before .before .map-of .ensures) (c .before .before .before .before .before .before .before .before .before .whole-length .ensures) (c .before .before .before .before .before .before .before .before .if1 .left) (c .before .before .before .before .before .before .put .ensures) (c .before .before .remove-entry .ensures)
+returns-2 c = met-done _ _ _ (c .before .before .before .before .before .before .before .before .before .before .before .before .before .before .pre .0) _ (c .before .before .before .before .before .before .before .before .before .before .before .before .before .before .pre .1) _ (c .before .before .before .before .before .before .before .before .before .before .before .before .before .before .pre .2) (c .before .before .before .before .before .before .before .before .before .before .before .acknowledgment .ensures) (c .before .before .before .before .before .before .before .before .before .before .map-of .ensures) (c .before .before .before .before .before .before .before .before .before .whole-length .ensures) (c .before .before .before .before .before .before .before .before .if1 .left) (c .before .before .before .before .before .before .put-frame .ensures) (c .before .before .remove-entry .ensures)
 
 pub meet-cancel-spec : {M : Type 1} → statement M
 meet-cancel-spec =
@@ -44,7 +44,7 @@ meet-cancel-spec =
     whole-length-requires
     refused-requires
     returns
-    put-requires
+    put-frame-requires
     remove-entry-requires
     same-length
     same-length-2
