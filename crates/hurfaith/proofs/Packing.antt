@@ -4,12 +4,13 @@ use mathlib.Core.List.{List}
 use Prim.Native.Nat.{ℕ, _+_, _*_, _/_, _%_, _≤_, _<_}
 use native.Mathlib.Omega.{arith}
 use Rattle.buffer.specs.Slice.{Bytes}
-use Rattle.gateway.specs.Calls.{Left, workedOff, started, committed}
+use Rattle.gateway.specs.Calls.{Left, workedOff, taken, started, committed}
 use Rattle.gateway.specs.declared.Answer.{Answer}
 use Rattle.gateway.specs.declared.Worked.{Worked}
 use Rattle.gateway.specs.declared.AgreedTime.{AgreedTime}
 use Rattle.hurfaith.specs.Exported.{packed, ReadBack, packedAnswer, packedWork, numberAlone, packedTime}
 use Rattle.hurfaith.proofs.WrittenSizes.{started-small, committed-small, worked-small}
+use Rattle.hurfaith.proofs.TakenSizes.{taken-small}
 
 -- the sum
 pub packed-sum : (number written count : ℕ) → number + 256 * written + 4294967296 * count ≡ packed number written count
@@ -47,3 +48,6 @@ module _ (memory output : List ℕ) (bytes : Bytes memory) {after written : List
 
   pub worked-fits : (b : ℕ) {r : Worked} → record { answer = r; memory = after; output = written } ≡ workedOff b memory output → r .written < 16777216
   worked-fits b e = let same = ap (λ (x : Left Worked). x .answer .written) e in omega (arith, same, worked-small memory output bytes b)
+
+  pub taken-fits : (frame : List ℕ) → Bytes frame → {r : Answer} → record { answer = r; memory = after; output = written } ≡ taken memory frame output → r .written < 16777216
+  taken-fits frame read e = let same = ap (λ (x : Left Answer). x .answer .written) e in omega (arith, same, taken-small memory frame output bytes read)

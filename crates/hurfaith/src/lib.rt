@@ -7,12 +7,13 @@ use gateway::start::start;
 use opening::set_up::set_up;
 use routing::Gateways;
 use routing::neighbours_of;
+use take::take::take;
 use work::work;
 ghost use mathlib.Core.Path.{_≡_};
 ghost use mathlib.Core.List.{[], _∷_};
 ghost use Prim.Native.Nat.{_<_, _≤_};
 ghost use lib.ListN.{getD, length, drop};
-ghost use Rattle.gateway.specs.Calls.{setUp, workedOff, started, committed, agreedTime};
+ghost use Rattle.gateway.specs.Calls.{setUp, workedOff, taken, started, committed, agreedTime};
 ghost use Rattle.hurfaith.specs.Exported as Exported;
 ghost use Rattle.hurfaith.specs.Exported.{packedAnswer, packedWork, numberAlone, packedTime, numberAt, routed};
 
@@ -97,6 +98,15 @@ pub extern "C" fn hurfaith_work(memory: &mut [u8], output: &mut [u8], budget: u3
 {
     let worked = work(memory, output, budget);
     packed(worked.why, worked.written, worked.count)
+}
+
+// Taking a frame.
+#[no_mangle]
+pub extern "C" fn hurfaith_take(memory: &mut [u8], frame: &[u8], output: &mut [u8]) -> u64
+    ensures { λ r. ⌜ record { answer = r; memory = now (memory .exit); output = now (output .exit) } ≡ packedAnswer (taken (now (memory .entry)) (now (frame .entry)) (now (output .entry))) ⌝ }
+{
+    let answer = take(memory, frame, output);
+    packed(answer.number, answer.written, 0)
 }
 
 // The start call.
