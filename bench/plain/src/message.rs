@@ -115,7 +115,6 @@ pub fn perform(site: Site, state: State, message: &Message) -> (State, Option<Me
         return (after, None);
     }
     let lamp = message.lamp;
-    let sent =
-        Message { hour: hour as u32, kind, origin, lamp, quantity: 0, from: site.own, to };
+    let sent = Message { hour: hour as u32, kind, origin, lamp, quantity: 0, from: site.own, to };
     (after, Some(sent))
 }

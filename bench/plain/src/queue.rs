@@ -3,7 +3,8 @@
 use crate::frame::{plain_length, Output, Sense};
 use crate::memory::{
     entry, mark, put_entry, put_pending, put_processed, put_sent, queue_at, queued_message,
-    sound_message, Entry, Header, COUNTING, OUTSTANDING_PLACE, PENDING, PROCESSED, QUEUE_PLACE, WAITING,
+    sound_message, Entry, Header, COUNTING, OUTSTANDING_PLACE, PENDING, PROCESSED, QUEUE_PLACE,
+    WAITING,
 };
 use crate::message::{perform, Message};
 use crate::refusal;
@@ -187,12 +188,7 @@ fn check_room(output: &Output, bytes: usize) -> Result<(), u32> {
 }
 
 /// Room for an acknowledgment and for the cancels of the processed events from a place on.
-fn check_undoing(
-    memory: &[u8],
-    header: &Header,
-    place: usize,
-    output: &Output,
-) -> Result<(), u32> {
+fn check_undoing(memory: &[u8], header: &Header, place: usize, output: &Output) -> Result<(), u32> {
     let mut cancels = 0;
     for k in place..header.queued {
         if mark(memory, k) == PROCESSED {

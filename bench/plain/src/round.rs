@@ -135,13 +135,15 @@ fn arcs(header: &Header) -> Arcs {
 
 fn children(header: &Header) -> [u16; 2] {
     let first = 2 * u16::from(header.own) + 1;
-    [first, first + 1].map(|child| {
-        if child < header.gateways.into() {
-            child
-        } else {
-            NO_NEIGHBOUR
-        }
-    })
+    [first, first + 1].map(
+        |child| {
+            if child < header.gateways.into() {
+                child
+            } else {
+                NO_NEIGHBOUR
+            }
+        },
+    )
 }
 
 /// The arrivals with one more; refused with 4 if it is not along an arc or not the first along it.
