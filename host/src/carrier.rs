@@ -30,6 +30,8 @@ pub struct Forecast<C> {
     window: u32,
     output: Vec<u8>,
     progress: Progress,
+    /// The most places that each gateway has used.
+    most: Vec<Places>,
 }
 
 /// What has happened so far.
@@ -107,12 +109,13 @@ impl<C: Calls> Forecast<C> {
         }
         Ok(Forecast {
             calls,
-            memories,
             under_way: VecDeque::new(),
             agreed: 0,
             window: LONGEST_WINDOW,
             output: vec![0; ample_output(MOST_PLACES)],
             progress: Progress::default(),
+            most: memories.iter().map(|memory| Places::of(memory)).collect(),
+            memories,
         })
     }
 
@@ -130,6 +133,11 @@ impl<C: Calls> Forecast<C> {
             show(&self.progress);
         }
         Ok(self.progress)
+    }
+
+    /// The places of each gateway, with the most that were used at the end of a step of work or of bringing.
+    pub fn most_places(&self) -> &[Places] {
+        &self.most
     }
 
     /// One window, taken back and shortened as often as places run out.
@@ -170,10 +178,20 @@ impl<C: Calls> Forecast<C> {
     fn settle(&mut self, work: u32, carry: u32) -> Result<(), Stopped> {
         loop {
             let worked = self.work(work)?;
+            self.note_places();
             let brought = self.bring(carry)?;
+            self.note_places();
             if !worked && !brought {
                 return Ok(());
             }
+        }
+    }
+
+    fn note_places(&mut self) {
+        for (most, memory) in self.most.iter_mut().zip(&self.memories) {
+            let Places { queue_used, outstanding_used, .. } = Places::of(memory);
+            most.queue_used = most.queue_used.max(queue_used);
+            most.outstanding_used = most.outstanding_used.max(outstanding_used);
         }
     }
 

@@ -1,11 +1,11 @@
 //! The program forecast: runs all gateways of a scenario over the proved library until every record is whole.
 //!
-//! `forecast SCENARIO DIRECTORY` writes each gateway's record to `gateway-NNN.record`, the counts to `years.csv` and the
-//! drivers to order to `drivers.csv`. Its status is 0, 1 where the forecast cannot go on (what is committed is kept), or 2
+//! `forecast SCENARIO DIRECTORY` writes each gateway's record to `gateway-NNN.record`, the counts to `years.csv`, the
+//! drivers to order to `drivers.csv` and the places in use to `places.csv`. Its status is 0, 1 where the forecast cannot go on (what is committed is kept), or 2
 //! where the scenario or a file is bad.
 
 use host::carrier::{Forecast, Progress};
-use host::report::Report;
+use host::report::{places_csv, Report};
 use host::scenario::Scenario;
 use interface::NOTHING_DUE;
 use library::Library;
@@ -72,6 +72,7 @@ fn forecast(path: &Path, directory: &Path) -> Result<String, Failure> {
         .finish()
         .and_then(|()| fs::write(directory.join("years.csv"), report.years_csv()))
         .and_then(|()| fs::write(directory.join("drivers.csv"), report.drivers_csv()))
+        .and_then(|()| fs::write(directory.join("places.csv"), places_csv(forecast.most_places())))
         .map_err(|error| Failure::file(directory, &error))?;
     let progress = result.map_err(|why| {
         let Failure { status, what } = stopped(why);
@@ -88,7 +89,7 @@ fn summary(scenario: &Scenario, report: &Report, progress: &Progress, directory:
         "{} gateways, {} hours: every record is whole, {committed} events committed\n\
          {worked} events worked off, {frames} frames carried, {rounds} rounds, {taken_back} windows taken back\n\
          drivers to order by the end of each year: {}\n\
-         records, years.csv and drivers.csv are in {}",
+         records, years.csv, drivers.csv and places.csv are in {}",
         scenario.gateways.len(),
         scenario.last_hour,
         drivers.join(" "),

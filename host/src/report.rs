@@ -1,6 +1,7 @@
 //! What is made of the records: failed, fitted, short and stock by gateway and year, and the drivers to order.
 
 use crate::frame::{recorded, Recorded, DELIVERY, FAILURE, REQUEST};
+use crate::places::Places;
 use crate::scenario::Scenario;
 use std::fmt::Write;
 
@@ -94,6 +95,16 @@ impl Report {
         }
         sums
     }
+}
+
+/// A line for each gateway: its places, and the most of them that were in use.
+pub fn places_csv(places: &[Places]) -> String {
+    let mut text = String::from("gateway,queue,queue_used,outstanding,outstanding_used\n");
+    for (gateway, places) in places.iter().enumerate() {
+        let Places { queue, queue_used, outstanding, outstanding_used } = places;
+        let _ = writeln!(text, "{gateway},{queue},{queue_used},{outstanding},{outstanding_used}");
+    }
+    text
 }
 
 /// The year of an hour, counted from 0.
