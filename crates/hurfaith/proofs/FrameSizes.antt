@@ -11,7 +11,6 @@ use mathlib.Core.List.{List·Memᴰ·head as here, List·Memᴰ·tail as there}
 use Rattle.model.specs.Messages.{kindNumber}
 use Rattle.model.specs.declared.Message.{Message}
 use Rattle.model.specs.declared.Kind.{Kind}
-use Rattle.model.specs.declared.Kind.the-variants.{Failure, Request, Delivery, Restock, Start, Lvt, Update}
 use Rattle.frame.specs.Layout.{wholeLength}
 use Rattle.frame.specs.Kinds.{mapOf, mapOfKind, senseNumber}
 use Rattle.frame.specs.Writing.{written}
@@ -21,27 +20,16 @@ use Rattle.memory.specs.Records.{Gateway}
 use Rattle.memory.specs.Validity.{frameIf}
 use Rattle.gateway.specs.Effects.{bytesOfFrames, framesFor, sentOne, sentAll}
 use Rattle.gateway.specs.Rounds.{roundFrame, frames}
+use Rattle.gateway.proofs.Announcing.{kind-small}
+use Rattle.take.proofs.SentMessages.{sense-small}
 
-kind-small : (b : Bool) (kind : Kind) → wholeLength (cond b (mapOfKind (kindNumber kind) + 128) (mapOfKind (kindNumber kind))) ≤ 28
-unfolding wholeLength mapOfKind
-kind-small true (Failure origin) = omega arith
-kind-small true (Request origin) = omega arith
-kind-small true (Delivery origin) = omega arith
-kind-small true (Restock quantity) = omega arith
-kind-small true Start = omega arith
-kind-small true Lvt = omega arith
-kind-small true Update = omega arith
-kind-small false (Failure origin) = omega arith
-kind-small false (Request origin) = omega arith
-kind-small false (Delivery origin) = omega arith
-kind-small false (Restock quantity) = omega arith
-kind-small false Start = omega arith
-kind-small false Lvt = omega arith
-kind-small false Update = omega arith
+with-sense : (b : Bool) (kind : Kind) → wholeLength (cond b (mapOfKind (kindNumber kind) + 128) (mapOfKind (kindNumber kind))) ≤ 28
+with-sense true kind = sense-small kind
+with-sense false kind = kind-small kind
 
 pub frame-small : (f : Frame) → length (f .message .lamp) ≡ 18 → length (written f) ≤ 28
 unfolding mapOf
-frame-small f lamp = rw (whole-size f lamp) (kind-small (leb 1 (senseNumber (f .sense))) (f .message .kind))
+frame-small f lamp = rw (whole-size f lamp) (with-sense (leb 1 (senseNumber (f .sense))) (f .message .kind))
 
 -- the frames of some messages or cancels
 pub messages-small : (cancel : Bool) (ms : List Message) → ((m : Message) → m ∈ ms → length (m .lamp) ≡ 18) → length (bytesOfFrames (framesFor cancel ms)) ≤ 28 * length ms

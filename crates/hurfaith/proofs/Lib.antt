@@ -3,4 +3,5 @@ pub mod FrameSizes
 pub mod WrittenSizes
 pub mod TakenSizes
 pub mod Packing
+pub mod ReadBacks
 pub mod Routing

@@ -142,7 +142,7 @@ work-places (suc b) room {g} p = next (pendingOf (g .queue)) refl (λ room′ h 
 
 -- the calls
 module _ (memory output : List ℕ) (bytes : Bytes memory) where
-  held : sound memory ≡ true → Proper (decode memory)
+  pub held : sound memory ≡ true → Proper (decode memory)
   held h = let r = codec-laws .reading memory bytes h in record { valid = r .valid-held; ranged = r .ranged }
 
   left-small : (r : Outcome) {most : ℕ} → length (r .output) ≤ most → leaving r memory output .answer .written ≤ most

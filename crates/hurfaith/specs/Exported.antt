@@ -8,7 +8,8 @@ use lib.ListN.{length, getD, drop}
 use Rattle.routing.specs.Answers.{neighboursOf}
 use Rattle.routing.specs.declared.Gateways.{Gateways}
 use Rattle.routing.specs.declared.Neighbours.{Neighbours}
-use Rattle.gateway.specs.Calls.{Left}
+use Rattle.buffer.specs.Slice.{Bytes}
+use Rattle.gateway.specs.Calls.{Left, taken, started, committed, workedOff}
 use Rattle.gateway.specs.declared.Answer.{Answer}
 use Rattle.gateway.specs.declared.Worked.{Worked}
 use Rattle.gateway.specs.declared.AgreedTime.{AgreedTime}
@@ -58,3 +59,12 @@ routed N own neighbours =
     cond (eqb (r .answer) 0)
     (cond (leb 4 (length neighbours)) (record { answer = 0; neighbours = front }) (record { answer = 5; neighbours = neighbours }))
     (record { answer = r .answer; neighbours = neighbours })
+
+-- what is proved of the packed answers beside the contracts: whatever bytes a call is given, the parts of its answer are read back
+pub record AnswersReadBack : Type 0 where
+  pub ofTaking : (memory frame output : List ℕ) → Bytes memory → Bytes frame
+      → ReadBack (taken memory frame output .answer .number) (taken memory frame output .answer .written) 0
+  pub ofStarting : (memory output : List ℕ) → Bytes memory → ReadBack (started memory output .answer .number) (started memory output .answer .written) 0
+  pub ofCommitting : (memory output : List ℕ) → Bytes memory → ReadBack (committed memory output .answer .number) (committed memory output .answer .written) 0
+  pub ofWorking : (b : ℕ) (memory output : List ℕ) → Bytes memory
+      → ReadBack (workedOff b memory output .answer .why) (workedOff b memory output .answer .written) (workedOff b memory output .answer .count)
