@@ -12,3 +12,5 @@ pub mod Cutting
 pub mod ReadFirst
 pub mod WriteFirst
 pub mod Laws
+pub mod HeldWriter
+pub mod LendingAgain

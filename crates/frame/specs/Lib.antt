@@ -2,6 +2,7 @@
 pub mod Layout
 pub mod Kinds
 pub mod Writing
+pub mod Outgoing
 pub mod Reasons
 pub mod Lamps
 pub mod Steps

@@ -3,6 +3,7 @@
 use model::Message;
 
 pub mod limits; // limits.rt: which frames a gateway turns down for their numbers and their hour
+pub mod outgoing; // outgoing.rt: frames put one behind the other
 pub mod reader; // reader.rt: what a byte string is, and the lamp's part of it
 pub mod rules; // rules.rt: what a message of each kind has to keep to
 pub mod tables; // tables.rt: the table of kinds and the table of lengths

@@ -103,12 +103,12 @@ module _ (s : Settings) where
       by-case false e z = absurd (omega arith)
 
 -- the queue that the opening messages make
-length-entered : (m : Message) (e : Entry) (es : List Entry) → length (upTo m es ++ (e ∷ behind m es)) ≡ suc (length es)
+pub length-entered : (m : Message) (e : Entry) (es : List Entry) → length (upTo m es ++ (e ∷ behind m es)) ≡ suc (length es)
 length-entered m e es =
     let l : length (upTo m es) + length (behind m es) ≡ length es = sym (length-append (upTo m es) (behind m es)) ∙ ap length (cut-again m es) in
     simp length-append (omega arith)
 
-length-queued : (es : List Entry) (fs : List (List ℕ)) → length (queued es fs) ≡ length es + length fs
+pub length-queued : (es : List Entry) (fs : List (List ℕ)) → length (queued es fs) ≡ length es + length fs
 unfolding queued
 length-queued es [] = omega arith
 length-queued es (f ∷ fs) =

@@ -4,9 +4,9 @@ use crate::refused;
 use crate::round::Few;
 use frame::Frame;
 use frame::Sense;
+use frame::outgoing::put_frame;
 use frame::tables::map_of_kind;
 use frame::tables::whole_length;
-use frame::writer::put;
 use memory::Header;
 use memory::header_bytes::write_header;
 use model::Kind;
@@ -55,11 +55,11 @@ fn put_each(output: &mut [u8], kind: Kind, hour: u32, own: u8, to: Few)
     if to.count == 0 {
         return;
     }
-    let next = put(output, 0, round_frame(kind, hour, own, to.first));
+    let next = put_frame(output, 0, round_frame(kind, hour, own, to.first));
     if to.count == 1 {
         return;
     }
-    put(output, next, round_frame(kind, hour, own, to.second));
+    put_frame(output, next, round_frame(kind, hour, own, to.second));
 }
 
 fn round_frame(kind: Kind, hour: u32, from: u8, to: u8) -> Frame

@@ -3,9 +3,9 @@ use crate::Answer;
 use crate::changes::remove_entry;
 use crate::places::next_marked;
 use crate::refused;
+use frame::outgoing::put_frame;
 use frame::tables::whole_length;
 use frame::writer::map_of;
-use frame::writer::put;
 use memory::Entry;
 use memory::Header;
 use memory::Mark;
@@ -95,6 +95,6 @@ fn put_record(output: &mut [u8], header: Header, entry: Entry)
     };
     let done = perform(site, before, message);
     let state = done.state;
-    let next = put(output, 0, frame_if(false, message));
+    let next = put_frame(output, 0, frame_if(false, message));
     write_state(output, next, state);
 }

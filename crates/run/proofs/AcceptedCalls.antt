@@ -1,24 +1,31 @@
 -- What a call on bytes comes to where it is accepted: the outcome on the gateway that the memory holds.
 use mathlib.Core.Path.{_≡_, refl, sym, _∙_, ap}
 use mathlib.Core.Bool.{Bool, true, false, cond, not, _&&_, true≢false}
-use mathlib.Core.List.{List, [], _∷_}
-use Prim.Native.Nat.{ℕ, _+_, _-_, _/_, _≤_, min, max}
+use mathlib.Core.List.{List, map}
+use Prim.Native.Nat.{ℕ, _+_, _-_, _/_, min, max}
 use native.Mathlib.Omega.{arith}
 use lib.Dec.{eqb, leb}
 use lib.ListN.{length}
 use borrow.Author.Tests.{eqb-true, eq-eqb}
 use Rattle.buffer.specs.Slice.{write}
 use Rattle.routing.specs.Arcs.{from, to}
-use Rattle.model.specs.declared.Kind.the-variants.{Update}
+use Rattle.model.specs.declared.Message.{Message}
+use Rattle.model.specs.declared.Kind.the-variants.{Start, Lvt, Update}
+use Rattle.frame.specs.Reasons.{reading}
+use Rattle.frame.specs.Writing.{written}
+use Rattle.frame.specs.declared.Sense.the-variants.{Plain}
 use Rattle.memory.specs.Records.{Gateway}
 use Rattle.memory.specs.Codec.{decode, encode}
 use Rattle.memory.specs.Soundness.{sound}
 use Rattle.memory.proofs.Validated.{and-left, and-right}
 use Rattle.gateway.specs.Effects.{Effect, Outcome, refused, settled, withAgreed}
 use Rattle.gateway.specs.Rounds.{start, begun, isIdle, takeStart, takeLvt, takeUpdate, oneStart, oneLvt, awaited, bitOf, valueIn, frames, children}
-use Rattle.gateway.specs.Calls.{Left, onSound, leaving, refusedWith}
+use Rattle.gateway.specs.Calls.{Left, onSound, leaving, refusedWith, takeByKind, takeBySense, takeFrame, takeBytes}
 use Rattle.gateway.specs.declared.Answer.{Answer}
-use Rattle.run.proofs.AcceptedFrames.{outcomeOf, settles}
+use Rattle.timewarp.specs.Lists.{All}
+use Rattle.run.specs.World.{framesIn}
+use Rattle.run.proofs.FramesCut.{Whole, frames-in}
+use Rattle.run.proofs.AcceptedFrames.{outcomeOf, settles, not-below, bytes-accepted}
 
 -- what an accepted outcome leaves
 abbrev pub left : Outcome → List ℕ → List ℕ → Left Answer
@@ -46,6 +53,15 @@ on-sound call memory output = go (sound memory) (eqb (call (length output) (deco
     go true true e h = (refl, eqb-true (r .number) 0 e, refl)
     go true false e h = absurd (true≢false (sym (eq-eqb (r .number) 0 h) ∙ e))
     go false d e h = absurd (omega arith)
+
+-- the number that a call answers on sound memory
+pub call-number : (call : ℕ → Gateway → Outcome) (memory output : List ℕ) → sound memory ≡ true → onSound call memory output .answer .number ≡ call (length output) (decode memory) .number
+unfolding onSound leaving
+call-number call memory output s = rw s (by-case (eqb (call (length output) (decode memory) .number) 0) refl)
+  where
+    by-case : (t : Bool) → eqb (call (length output) (decode memory) .number) 0 ≡ t → leaving (call (length output) (decode memory)) memory output .answer .number ≡ call (length output) (decode memory) .number
+    by-case true p = rw p (sym (eqb-true (call (length output) (decode memory) .number) 0 p))
+    by-case false p = rw p
 
 -- the start call
 pub start-accepted : (room : ℕ) (g : Gateway) → start room g .number ≡ 0
@@ -93,3 +109,43 @@ unfolding takeUpdate
 update-taken-accepted room k hour g h =
     in-turn-accepted room g (record { gateway = withAgreed (max (g .agreed) hour) g; frames = frames Update hour (g .settings .own) (children (g .settings)) })
     (leb 1 (g .settings .own) && eqb k ((g .settings .own - 1) / 2)) h
+
+-- Start, Lvt and Update as bytes
+module _ (bytes : List ℕ) (room : ℕ) (g : Gateway) (plain : reading bytes .frame .sense ≡ Plain) (number : takeBytes bytes room g .number ≡ 0) where
+  abbrev m : Message
+  m = reading bytes .frame .message
+
+  by-kind : takeBytes bytes room g ≡ takeByKind room m g (m .kind)
+  unfolding takeFrame
+  by-kind = bytes-accepted bytes room g number .comes-to ∙ ap (takeBySense room m g) plain
+
+  pub start-bytes : m .kind ≡ Start
+      → let heard = from (g .settings .n) (g .settings .own) in
+      takeBytes bytes room g ≡ outcomeOf (oneStart heard (g .round .arrived + bitOf (m .from) heard) g)
+  start-bytes e =
+      let same = by-kind ∙ ap (takeByKind room m g) e in
+      same ∙ start-taken-accepted room (m .from) g (ap (λ (r : Outcome). r .number) (sym same) ∙ number)
+
+  pub lvt-bytes : m .kind ≡ Lvt
+      → let told = to (g .settings .n) (g .settings .own) in
+      takeBytes bytes room g ≡ outcomeOf (oneLvt told (g .round .arrived + bitOf (m .from) told) (min (valueIn (g .round .phase) g) (m .hour)) g)
+  lvt-bytes e =
+      let same = by-kind ∙ ap (takeByKind room m g) e in
+      let due = same ∙ not-below (m .hour) g (takeLvt room (m .from) (m .hour) g) (ap (λ (r : Outcome). r .number) (sym same) ∙ number) .comes-to in
+      due ∙ lvt-taken-accepted room (m .from) (m .hour) g (ap (λ (r : Outcome). r .number) (sym due) ∙ number)
+
+  pub update-bytes : m .kind ≡ Update
+      → takeBytes bytes room g
+      ≡ outcomeOf (record { gateway = withAgreed (max (g .agreed) (m .hour)) g; frames = frames Update (m .hour) (g .settings .own) (children (g .settings)) })
+  update-bytes e =
+      let same = by-kind ∙ ap (takeByKind room m g) e in
+      same ∙ update-taken-accepted room (m .from) (m .hour) g (ap (λ (r : Outcome). r .number) (sym same) ∙ number)
+
+-- the frames that an accepted call wrote
+pub call-frames : (call : ℕ → Gateway → Outcome) (memory output : List ℕ) (e : Effect) → onSound call memory output .answer .number ≡ 0
+    → call (length output) (decode memory) ≡ outcomeOf e → All Whole (e .frames)
+    → let l = onSound call memory output in
+    framesIn (l .answer .written) (l .output) ≡ map written (e .frames)
+call-frames call memory output e h outcome whole =
+    ap (λ (l : Left Answer). framesIn (l .answer .written) (l .output)) (on-sound call memory output h .2 ∙ ap (λ r. left r memory output) outcome)
+    ∙ frames-in (e .frames) output whole

@@ -1,13 +1,12 @@
 -- What a frame that is accepted at a gateway was, and what it came to.
 use mathlib.Core.Path.{_≡_, refl, sym, _∙_, ap, subst}
-use Prim.Native.Nat.{ℕ, _≤_, _<_}
+use Prim.Native.Nat.{ℕ, _≤_}
 use native.Mathlib.Omega.{arith}
 use mathlib.Core.Bool.{Bool, true, false, cond, not, _&&_}
-use mathlib.Core.List.{List, [], _∷_}
+use mathlib.Core.List.{List, []}
 use lib.Dec.{ltb, eqb}
 use borrow.Author.Tests.{ltb-false, eqb-true, eqb-false}
 use Rattle.model.specs.Messages.{kindNumber}
-use Rattle.model.specs.declared.Message.{Message}
 use Rattle.model.specs.declared.Kind.{Kind}
 use Rattle.model.specs.declared.Kind.the-variants.{Failure, Request, Delivery, Restock, Start, Lvt, Update}
 use Rattle.frame.specs.Reasons.{reading, formNumber}
@@ -16,8 +15,8 @@ use Rattle.frame.specs.declared.Frame.{Frame}
 use Rattle.frame.specs.declared.Sense.{Sense}
 use Rattle.frame.specs.declared.Sense.the-variants.{Plain, Cancel, Acknowledgment, CancelAcknowledgment}
 use Rattle.memory.specs.Records.{Gateway}
-use Rattle.memory.proofs.Validated.{and-left, and-right}
-use Rattle.gateway.specs.Effects.{Effect, Outcome, bytesOfFrames, fits, settled, refused, withOutstanding}
+use Rattle.memory.proofs.Validated.{and-left}
+use Rattle.gateway.specs.Effects.{Effect, Outcome, bytesOfFrames, fits, settled, withOutstanding}
 use Rattle.gateway.specs.Taking.{any, withoutFirst, isSent, takePlain, takeCancel, takeAcknowledgment}
 use Rattle.gateway.specs.Rounds.{takeStart, takeLvt, takeUpdate}
 use Rattle.gateway.specs.Calls.{unlessBelow, takeByKind, takeBySense, takeFrame, takeBytes}

@@ -3,13 +3,13 @@ use mathlib.Core.Path.{_≡_, refl, sym, _∙_, ap}
 use mathlib.Core.Logic.{_≢_}
 use mathlib.Core.Bool.{Bool, true, false, cond}
 use mathlib.Core.List.{List, [], _∷_}
-use Prim.Native.Nat.{ℕ, zero, suc, _+_, _*_, _≤_, _<_}
+use Prim.Native.Nat.{ℕ, suc, _+_, _*_, _≤_, _<_}
 use native.Mathlib.Omega.{arith}
 use native.Mathlib.Decide.{ℕ-discrete}
 use lib.Dec.{eqb}
 use lib.ListN.{length}
-use Rattle.gateway.specs.Rounds.{bitOf, allBits}
-use Rattle.timewarp.specs.Lists.{All, nil, cons, matches, count, tally}
+use Rattle.gateway.specs.Rounds.{bitOf, allBits, awaited}
+use Rattle.timewarp.specs.Lists.{All, nil, cons, count, tally}
 use Rattle.timewarp.specs.Arcs.{times}
 use Rattle.timewarp.proofs.ListLaws.{matches-equal, matches-other}
 use Rattle.timewarp.proofs.FamilyLaws.{Same, same, other, same?}
@@ -85,3 +85,22 @@ module _ (f : ℕ → Bool) where
       go true e (not-all p q) = not-all (rw e (omega arith)) (rw e (omega arith))
       go false e (all-in a p q) = not-all (rw e (omega arith)) (rw e (omega arith))
       go false e (not-all p q) = not-all (rw e (omega arith)) (rw e (omega arith))
+
+  -- one of a list of at most two that does not pass is awaited
+  pub first-arrival : (k : ℕ) (l : List ℕ) → length l ≤ 2 → 1 ≤ times k l → f k ≡ false → awaited k l (bitsOf f l) ≡ true
+  unfolding bitsOf bitOf count tally
+  first-arrival k [] few h e = absurd (omega arith)
+  first-arrival k (x ∷ []) few h e = go (same? k x)
+    where
+      go : Same k x → awaited k (x ∷ []) (bitsOf f (x ∷ [])) ≡ true
+      go (same p q) = rw (q, sym (ap f p) ∙ e) refl
+      go (other p q) = absurd (omega (arith, matches-other ℕ-discrete {a = k} {b = x} p))
+  first-arrival k (x ∷ y ∷ []) few h e = go (same? k x) (same? k y) (f x) (f y) refl refl
+    where
+      go : Same k x → Same k y → (b c : Bool) → f x ≡ b → f y ≡ c → awaited k (x ∷ y ∷ []) (bitsOf f (x ∷ y ∷ [])) ≡ true
+      go (same p q) s b true u v = rw (q, sym (ap f p) ∙ e, v) refl
+      go (same p q) s b false u v = rw (q, sym (ap f p) ∙ e, v) refl
+      go (other p q) (same r z) true c u v = rw (q, z, sym (ap f r) ∙ e, u) refl
+      go (other p q) (same r z) false c u v = rw (q, z, sym (ap f r) ∙ e, u) refl
+      go (other p q) (other r z) b c u v = absurd (omega (arith, matches-other ℕ-discrete {a = k} {b = x} p, matches-other ℕ-discrete {a = k} {b = y} r))
+  first-arrival k (x ∷ y ∷ z ∷ l) few h e = absurd (omega arith)

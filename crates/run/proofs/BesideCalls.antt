@@ -1,8 +1,8 @@
 -- A call on events at one gateway leads from a world beside the theory's to another such world.
 use mathlib.Core.Path.{_≡_, refl, sym, _∙_, ap, subst}
-use Prim.Native.Nat.{ℕ, _-_, _≤_, _<_}
+use Prim.Native.Nat.{ℕ, _-_, _<_}
 use mathlib.Core.Bool.{Bool, true, false, cond}
-use mathlib.Core.List.{List, [], _∷_}
+use mathlib.Core.List.{List}
 use lib.Dec.{eqb}
 use borrow.Author.Tests.{eqb-true, eqb-false}
 use Rattle.model.specs.declared.Message.{Message}
@@ -16,25 +16,31 @@ use Rattle.run.specs.Lines.{change}
 use Rattle.run.specs.SingleQueue.{SetUp}
 use Rattle.run.specs.Ledger as Ledger
 use Rattle.run.specs.World.{World, Carried, Rounds}
-use Rattle.run.proofs.LocalChains.{Led, lower-agreed}
+use Rattle.run.proofs.LocalChains.{lower-agreed}
 use Rattle.run.proofs.QueueViews.{viewOf}
+use Rattle.run.proofs.RoundCounters.{same-change}
+use Rattle.run.proofs.RoundChains.{change-same}
 use Rattle.run.proofs.SingleQueues.{recordOf}
 use Rattle.run.proofs.Ledgers.{Follows}
 use Rattle.run.proofs.EventWorlds.{settingOf, GoesOn}
 use Rattle.run.proofs.ClaimParts.{Beside}
 use Rattle.run.proofs.OpeningWorlds.{agreed-read}
 
-module _ (n last : ℕ) (setups : ℕ → SetUp) (G : Graph) (same : G .last ≡ n - 1) where
-  -- the run's world after a call at gateway i
-  abbrev pub worldAfter : World → ℕ → List ℕ → List Carried → List ℕ → Ledger.Ledger → Rounds → World
-  worldAfter w i memory underWay bytes l rounds = record {
-    memories = change i memory (w .memories);
-    underWay = underWay;
-    records = change i bytes (w .records);
-    ledgers = change i l (w .ledgers);
-    rounds = rounds;
-  }
+-- a family changed to what it is
+pub change-self : {A : Type 0} (i : ℕ) (f : ℕ → A) → change i (f i) f ≡ f
+change-self i f = λ k j. (same-change i (f i) f j ∙ change-same i f j) k
 
+-- the run's world after a call at gateway i
+abbrev pub worldAfter : World → ℕ → List ℕ → List Carried → List ℕ → Ledger.Ledger → Rounds → World
+worldAfter w i memory underWay bytes l rounds = record {
+  memories = change i memory (w .memories);
+  underWay = underWay;
+  records = change i bytes (w .records);
+  ledgers = change i l (w .ledgers);
+  rounds = rounds;
+}
+
+module _ (n last : ℕ) (setups : ℕ → SetUp) (G : Graph) (same : G .last ≡ n - 1) where
   module _ (w : World) (t : Worlds.World (settingOf n last setups G same)) (b : Beside n last setups G same w t) (i : ℕ) (h : i < n) (memory : List ℕ) (c : List Message) (cs : List Carried) (bytes : List ℕ) (l : Ledger.Ledger) (rounds : Rounds) {s : List Message} (still : sound memory ≡ true) (goes : GoesOn n last setups G same t i s c (decode memory) cs) (time : decode memory .agreed ≡ decode (w .memories i) .agreed) (written : bytes ≡ recordOf n last setups i c) (follows : Follows n last setups (decode memory .queue) l) where
     agreed-still : (j : ℕ) → goes .world .rounds .agreed j ≡ t .rounds .agreed j
     agreed-still j = ap (λ r. r .agreed j) (goes .rounds) ∙ ap (λ (f : ℕ → ℕ). f j) (lower-agreed (settingOf n last setups G same) i s (t .rounds))
@@ -75,3 +81,8 @@ module _ (n last : ℕ) (setups : ℕ → SetUp) (G : Graph) (same : G .last ≡
           records = λ j k. record-at j k (eqb i j) refl;
           ledgers = λ j k. ledger-at j k (eqb i j);
         }
+
+    -- only what gateway i has committed changes
+    pub done-after : beside-after .done ≡ change i c (b .done)
+    unfolding beside-after
+    done-after = refl

@@ -1,24 +1,20 @@
 -- What the abstract theorem says of a run's world that is beside a reachable world of the theory.
-use mathlib.Core.Path.{_≡_, refl, sym, _∙_, ap, subst}
+use mathlib.Core.Path.{_≡_, sym, _∙_, ap, subst}
 use Prim.Native.Nat.{ℕ, _-_, _≤_, _<_}
 use native.Mathlib.Omega.{arith}
-use mathlib.Core.Bool.{Bool, true, false, cond}
-use mathlib.Core.List.{List, [], _∷_, _++_}
-use lib.Dec.{eqb}
+use mathlib.Core.Bool.{true}
+use mathlib.Core.List.{List, [], _++_}
 use lib.ListN.{length}
-use borrow.Author.Tests.{eqb-true}
 use Rattle.routing.specs.Arcs.{_∈_}
 use Rattle.model.specs.EventOrder.{key}
 use Rattle.model.specs.declared.Message.{Message}
 use Rattle.frame.specs.Limits.{nothingDue}
 use Rattle.frame.specs.Reasons.{reading}
-use Rattle.memory.specs.Records.{Gateway}
 use Rattle.memory.specs.Codec.{decode}
 use Rattle.memory.specs.Soundness.{sound}
-use Rattle.gateway.specs.Effects.{Outcome}
 use Rattle.gateway.specs.Committing.{commit}
 use Rattle.gateway.specs.Working.{pendingOf}
-use Rattle.gateway.specs.Calls.{committed, onSound, leaving}
+use Rattle.gateway.specs.Calls.{committed}
 use Rattle.timewarp.specs.Lists.{All}
 use Rattle.timewarp.specs.Models.{hour, first}
 use Rattle.timewarp.specs.Gateways.{Event, message, Gateway as View, Network}
@@ -37,16 +33,13 @@ use Rattle.run.proofs.SingleQueues.{recordOf}
 use Rattle.run.proofs.Ledgers.{Follows, waiting-have}
 use Rattle.run.proofs.EventsUnderWay.{seenIn, eventOf, acknowledgedOf, bound-seen}
 use Rattle.run.proofs.EventWorlds.{settingOf, networkIn}
+use Rattle.run.proofs.AcceptedCalls.{call-number}
 use Rattle.run.proofs.CommittedRecords.{nothing-to-commit, record-begins}
 
 -- the number that commit answers on sound memory
 commit-number : (memory output : List ℕ) → sound memory ≡ true → committed memory output .answer .number ≡ commit (length output) (decode memory) .number
-unfolding committed onSound leaving
-commit-number memory output s = rw s (by-case (eqb (commit (length output) (decode memory) .number) 0) refl)
-  where
-    by-case : (t : Bool) → eqb (commit (length output) (decode memory) .number) 0 ≡ t → leaving (commit (length output) (decode memory)) memory output .answer .number ≡ commit (length output) (decode memory) .number
-    by-case true p = rw p (sym (eqb-true (commit (length output) (decode memory) .number) 0 p))
-    by-case false p = rw p
+unfolding committed
+commit-number memory output s = call-number commit memory output s
 
 module _ (n last : ℕ) (setups : ℕ → SetUp) (G : Graph) (same : G .last ≡ n - 1) where
   abbrev S : Worlds.Setting

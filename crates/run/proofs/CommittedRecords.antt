@@ -1,5 +1,5 @@
 -- Commits: what an accepted commit took and wrote, when there is nothing to commit, and committed records as beginnings of the whole.
-use mathlib.Core.Path.{_≡_, refl, sym, _∙_, ap, subst}
+use mathlib.Core.Path.{_≡_, refl, sym, _∙_, ap}
 use Prim.Native.Nat.{ℕ, _≤_, _<_}
 use native.Mathlib.Omega.{arith}
 use mathlib.Core.Bool.{Bool, true, false, cond}
@@ -15,18 +15,18 @@ use Rattle.memory.specs.Records.{Gateway}
 use Rattle.memory.specs.Codec.{stateBytes}
 use Rattle.memory.specs.Validity.{isProcessed, frameIf}
 use Rattle.memory.specs.declared.Entry.{Entry}
-use Rattle.gateway.specs.Effects.{Outcome, refused, withQueue}
+use Rattle.gateway.specs.Effects.{refused, withQueue}
 use Rattle.gateway.specs.Undoing.{processedOf}
 use Rattle.gateway.specs.Taking.{withoutFirst}
 use Rattle.gateway.specs.Committing as Committing
 use Rattle.gateway.specs.Committing.{commit, commitOldest}
-use Rattle.timewarp.specs.Models.{Model, stateAfter}
+use Rattle.timewarp.specs.Models.{stateAfter}
 use Rattle.timewarp.specs.SingleQueue as Theory
 use Rattle.run.specs.Lines.{Beginning}
 use Rattle.run.specs.SingleQueue.{SetUp, recordFor, wholeRecord}
 use Rattle.run.proofs.ForecastModel.{forecastModel}
 use Rattle.run.proofs.QueueViews.{doneAfter, done-history}
-use Rattle.run.proofs.SavedStates.{Saved, stateAt}
+use Rattle.run.proofs.SavedStates.{Saved}
 use Rattle.run.proofs.QueueChanges.{saved-committed, oldest-taken}
 use Rattle.run.proofs.SingleQueues.{recordOf, record-beginning}
 

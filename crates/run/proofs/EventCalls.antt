@@ -2,7 +2,7 @@
 use mathlib.Core.Path.{_≡_, refl, sym, _∙_, ap, subst}
 use Prim.Native.Nat.{ℕ, _≤_, _<_}
 use native.Mathlib.Omega.{arith}
-use mathlib.Core.Bool.{Bool, true, false, cond, not, _&&_, true≢false, false≢true}
+use mathlib.Core.Bool.{Bool, true, false, cond, not, true≢false}
 use mathlib.Core.List.{List, [], _∷_, _++_, map, append-assoc, append-nil, List·Memᴰ·head as member-first, List·Memᴰ·cases-cons, Memᴰ·append-right}
 use mathlib.Core.Logic.{⊎-elim}
 use borrow.Author.Tests.{not-true}
@@ -13,23 +13,22 @@ use Rattle.model.specs.Messages.{originOf}
 use Rattle.model.specs.declared.Message.{Message}
 use Rattle.model.specs.declared.State.{State}
 use Rattle.model.specs.declared.Site.{Site}
-use Rattle.frame.specs.Limits.{nothingDue}
 use Rattle.memory.specs.Records.{Gateway, siteOf}
 use Rattle.memory.specs.Validity.{isPending, isProcessed, isWaiting, equal, later}
 use Rattle.memory.specs.declared.Entry.{Entry}
 use Rattle.memory.specs.declared.Sent.{Sent}
 use Rattle.memory.specs.declared.Round.{Round}
 use Rattle.memory.proofs.EventLaws.{equal-same, not-later-self}
-use Rattle.memory.proofs.Validated.{Valid, ValidEntry, MayStand, and-left, and-right, first-of}
+use Rattle.memory.proofs.Validated.{Valid, MayStand, and-left, and-right, first-of}
 use Rattle.gateway.specs.Effects.{withQueue, withState, withRound, withOutstanding, noted, sentOne, sentAll}
 use Rattle.gateway.specs.Undoing.{processedOf, pendingEntry, undone, restored, sentBack, rolledBack}
 use Rattle.gateway.specs.Working.{pendingOf, processedNext, done}
-use Rattle.gateway.specs.Taking.{any, withoutFirst, beforeLast, fromLast, tailOf, upTo, behind, isCancelOf, isPlain, isSent, waitingEntry, takePlain, takeCancel, takeAcknowledgment}
+use Rattle.gateway.specs.Taking.{any, withoutFirst, beforeLast, fromLast, tailOf, upTo, behind, isCancelOf, isPlain, isSent, waitingEntry, takePlain, takeCancel}
 use Rattle.gateway.proofs.Searches.{pending-member, cut-again, up-to-not-later, behind-later, around-last}
 use Rattle.timewarp.specs.Lists.{All, nil, cons, Insert, here}
-use Rattle.timewarp.specs.Models.{Model, NotLater, hour, first, stateAfter, sentBy}
+use Rattle.timewarp.specs.Models.{Model, NotLater, hour, first, sentBy}
 use Rattle.timewarp.specs.Gateways.{Event, plain, cancel, message, history, gatewayOf, networkOf, Network, Gateway as View}
-use Rattle.timewarp.specs.EventSteps.{EventStep, does, takes, takesAcknowledgment, commits, becomesPending, meetsCancel, strikesOut, waits}
+use Rattle.timewarp.specs.EventSteps.{does, takes, takesAcknowledgment, commits, becomesPending, meetsCancel, strikesOut, waits}
 use Rattle.timewarp.proofs.ListLaws.{insert-last, insert-between, inserts-back, all-map}
 use Rattle.timewarp.proofs.CallChains.{insert-append}
 use Rattle.run.specs.SingleQueue.{SetUp}
@@ -38,8 +37,8 @@ use Rattle.run.proofs.ForecastModel.{forecastModel, siteAt, sendsAt, se
 use Rattle.run.proofs.QueueViews.{eventIf, eventFor, doneAfter, waitingOf, viewOf, done-append, done-history, pending-append, waiting-append, undone-done, undone-waiting, Marked, marked, pending, processed, waiting}
 use Rattle.run.proofs.SavedStates.{stateAt, Saved, saved-front, saved-back, saved-join, saved-state, saved-restored, saved-undone, saved-more}
 use Rattle.run.proofs.QueueChanges.{done-all, Found, last-found, cancel-met, oldest-taken, each-all, next-done, sent-taken, saved-without, saved-committed, saved-next}
-use Rattle.run.proofs.LocalChains.{Chain, none, then, single, join}
-use Rattle.run.proofs.UndoChains.{SendsAll, Undoable, undo-chain}
+use Rattle.run.proofs.LocalChains.{Chain, then, single}
+use Rattle.run.proofs.UndoChains.{SendsAll, undo-chain}
 
 -- what sending some messages, or their cancels, makes of a gateway
 unfoldable pub notedAll : List Message → Round → Round

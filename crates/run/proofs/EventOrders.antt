@@ -1,17 +1,14 @@
 -- The event order of messages is the order that the abstract theory knows.
-use mathlib.Core.Path.{_≡_, refl, sym, _∙_, ap, subst}
-use Prim.Native.Nat.{ℕ, _≤_, _<_}
+use mathlib.Core.Path.{_≡_, refl, sym, _∙_, ap}
+use Prim.Native.Nat.{ℕ, _<_}
 use native.Mathlib.Omega.{arith}
 use native.Mathlib.Decide.{decLt}
-use mathlib.Core.Bool.{Bool, true, false, cond, not, true≢false, false≢true}
+use mathlib.Core.Bool.{true, false, cond, not, false≢true}
 use mathlib.Core.List.{List, [], _∷_}
 use lib.Dec.{ltb, eqb}
 use borrow.Author.Tests.{lt-ltb, le-ltb, eq-eqb, ne-eqb}
 use Rattle.model.specs.EventOrder.{key, compared, orElse, numbers}
 use Rattle.model.specs.declared.Message.{Message}
-use Rattle.model.specs.declared.order.Comparison.{Comparison}
-use Rattle.model.specs.declared.order.Comparison.the-variants.{Before, Same, After}
-use Rattle.model.proofs.Comparing.{less, more, neither}
 use Rattle.memory.specs.Validity.{isAfter, later}
 use Rattle.memory.proofs.EventLaws.{later-flip}
 use Rattle.timewarp.specs.Models.{KeyNotLater}

@@ -1,23 +1,22 @@
 -- A call on events at one gateway, beside a world of the theory that sees that gateway and the frames under way.
 use mathlib.Core.Path.{_≡_, refl, sym, _∙_, ap, ap₂, subst}
 use Prim.Native.Nat.{ℕ, _-_, _≤_, _<_}
-use mathlib.Core.Bool.{Bool, true, false, cond}
-use mathlib.Core.List.{List, [], _∷_, _++_, map, append-assoc, append-nil}
+use mathlib.Core.Bool.{Bool, true, false}
+use mathlib.Core.List.{List, [], _∷_, _++_, map, append-nil}
 use Rattle.model.specs.Doing.{sent}
 use Rattle.model.specs.declared.Message.{Message}
 use Rattle.frame.specs.Reasons.{reading}
 use Rattle.frame.specs.Writing.{written}
 use Rattle.frame.specs.declared.Frame.{Frame}
-use Rattle.frame.specs.declared.Sense.{Sense}
 use Rattle.frame.specs.declared.Sense.the-variants.{Plain, Cancel}
 use Rattle.memory.specs.Records.{Gateway, siteOf}
 use Rattle.memory.specs.Validity.{isProcessed}
 use Rattle.memory.specs.declared.Entry.{Entry}
 use Rattle.gateway.specs.Effects.{framesFor, withQueue, withOutstanding}
-use Rattle.gateway.specs.Undoing.{processedOf, sentBack}
+use Rattle.gateway.specs.Undoing.{processedOf}
 use Rattle.gateway.specs.Working.{pendingOf, done}
-use Rattle.gateway.specs.Taking.{any, withoutFirst, behind, fromLast, isCancelOf, isPlain, isSent, acknowledgment, takePlain, takeCancel}
-use Rattle.timewarp.specs.Lists.{All, nil, cons, Insert}
+use Rattle.gateway.specs.Taking.{any, withoutFirst, isCancelOf, isPlain, isSent, acknowledgment, takePlain, takeCancel}
+use Rattle.timewarp.specs.Lists.{All}
 use Rattle.timewarp.specs.Gateways.{Event, plain, cancel, Network, networkOf, Gateway as View}
 use Rattle.timewarp.specs.Arcs.{Graph}
 use Rattle.timewarp.specs.Worlds.{Setting, World}

@@ -1,6 +1,6 @@
 -- The events and acknowledgments that are under way, as the theory has them.
 use mathlib.Core.Path.{_≡_, refl, sym, _∙_, ap, ap₂, subst}
-use Prim.Native.Nat.{ℕ, _≤_, _<_}
+use Prim.Native.Nat.{ℕ, _<_}
 use native.Mathlib.Omega.{arith}
 use mathlib.Core.Bool.{Bool, true, false, cond, _||_, false≢true}
 use mathlib.Core.List.{List, [], _∷_, _++_, map, append-assoc, List·Memᴰ·not-nil, List·Memᴰ·cases-cons}
@@ -19,8 +19,6 @@ use Rattle.frame.specs.Writing.{written}
 use Rattle.frame.specs.declared.Frame.{Frame}
 use Rattle.frame.specs.declared.Sense.{Sense}
 use Rattle.frame.specs.declared.Sense.the-variants.{Plain, Cancel, Acknowledgment, CancelAcknowledgment}
-use Rattle.buffer.specs.Slice.{sameBytes}
-use Rattle.memory.specs.Validity.{frameIf}
 use Rattle.buffer.proofs.Equality.{same-bytes}
 use Rattle.gateway.specs.Effects.{framesFor}
 use Rattle.gateway.specs.Taking.{any, withoutFirst, acknowledgment}

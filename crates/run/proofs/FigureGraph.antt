@@ -1,8 +1,7 @@
 -- Figure 2's arcs as a graph of the theory.
 use mathlib.Core.Path.{_≡_, refl, sym, _∙_, ap, subst}
-use mathlib.Core.Logic.{_↔_}
 use mathlib.Core.Bool.{Bool, true, false, cond}
-use mathlib.Core.List.{List, [], _∷_, _++_, List·Memᴰ·head as here, List·Memᴰ·tail as there, List·Memᴰ·not-nil}
+use mathlib.Core.List.{List, [], _∷_, List·Memᴰ·head as here, List·Memᴰ·tail as there}
 use Prim.Native.Nat.{ℕ, zero, suc, _+_, _*_, _-_, _≤_, _<_}
 use native.Mathlib.Omega.{arith}
 use native.Mathlib.Decide.{decLt, ℕ-discrete}
@@ -15,7 +14,6 @@ use Rattle.timewarp.specs.Lists.{matches, count, tally}
 use Rattle.timewarp.specs.Families.{sum}
 use Rattle.timewarp.specs.Arcs.{Graph, times, arcCount, roundMessages}
 use Rattle.timewarp.proofs.ListLaws.{matches-equal, matches-other}
-use Rattle.timewarp.proofs.FamilyLaws.{Same, same, other, same?}
 
 -- how often a number stands in a list, and that it is an element
 pub times-member : (k : ℕ) (l : List ℕ) → 1 ≤ times k l → k ∈ l

@@ -1,5 +1,5 @@
 -- What a call wrote, cut into frames again.
-use mathlib.Core.Path.{_≡_, refl, sym, _∙_, ap}
+use mathlib.Core.Path.{_≡_, refl, _∙_, ap, subst}
 use mathlib.Core.List.{List, [], _∷_, _++_, map}
 use Prim.Native.Nat.{ℕ, zero, suc, _+_, _≤_}
 use native.Mathlib.Omega.{arith}
@@ -12,7 +12,7 @@ use Rattle.frame.specs.Writing.{written}
 use Rattle.frame.specs.declared.Frame.{Frame}
 use Rattle.gateway.specs.Effects.{bytesOfFrames}
 use Rattle.gateway.specs.SettingUp.{cutFrames}
-use Rattle.timewarp.specs.Lists.{All, nil, cons}
+use Rattle.timewarp.specs.Lists.{All, cons}
 use Rattle.run.specs.World.{framesIn}
 
 -- a frame is as long as the table says of its map
@@ -37,10 +37,19 @@ unfolding bytesOfFrames written
 frames-bytes [] = omega arith
 frames-bytes (f ∷ fs) = omega (arith, frames-bytes fs, length-append (written f) (bytesOfFrames fs))
 
+-- what was written is read back
+pub written-back : (bytes output : List ℕ) → take (length bytes) (write 0 bytes output) ≡ bytes
+unfolding write
+written-back bytes output = take-append-seam bytes (drop (0 + length bytes) output)
+
 -- the frames that a call wrote, as the run cuts them out of its output
 pub frames-in : (fs : List Frame) (output : List ℕ) → All Whole fs
     → framesIn (length (bytesOfFrames fs)) (write 0 (bytesOfFrames fs) output) ≡ map written fs
-unfolding write
 frames-in fs output a =
-    ap (cutFrames (length (bytesOfFrames fs))) (take-append-seam (bytesOfFrames fs) (drop (0 + length (bytesOfFrames fs)) output))
+    ap (cutFrames (length (bytesOfFrames fs))) (written-back (bytesOfFrames fs) output)
     ∙ cut-written fs a (length (bytesOfFrames fs)) (frames-bytes fs)
+
+-- as bytes that are known to be theirs
+pub frames-of : (fs : List Frame) {bytes : List ℕ} → bytesOfFrames fs ≡ bytes → All Whole fs → (output : List ℕ)
+    → framesIn (length bytes) (write 0 bytes output) ≡ map written fs
+frames-of fs e a output = subst (λ (x : List ℕ). framesIn (length x) (write 0 x output) ≡ map written fs) e (frames-in fs output a)

@@ -1,20 +1,19 @@
 -- The two least hours that a round asks of a gateway, as the theory has them.
-use mathlib.Core.Path.{_≡_, refl, sym, _∙_, ap}
-use mathlib.Core.Bool.{Bool, true, false, cond}
+use mathlib.Core.Path.{_≡_, refl, ap}
+use mathlib.Core.Bool.{Bool, true, false}
 use mathlib.Core.List.{List, [], _∷_, map}
-use Prim.Native.Nat.{ℕ, _+_, _-_, _≤_, min}
+use Prim.Native.Nat.{ℕ, min}
 use native.Mathlib.Omega.{arith}
 use Rattle.model.specs.EventOrder.{key}
 use Rattle.model.specs.declared.Message.{Message}
 use Rattle.frame.specs.Limits.{nothingDue}
-use Rattle.memory.specs.Validity.{isPending, isProcessed, isWaiting}
 use Rattle.memory.specs.declared.Entry.{Entry}
 use Rattle.memory.specs.declared.Sent.{Sent}
 use Rattle.gateway.specs.Rounds.{leastOutstanding, leastQueued}
 use Rattle.gateway.specs.Working.{pendingOf}
 use Rattle.timewarp.specs.Lists.{least}
 use Rattle.timewarp.specs.Models.{first}
-use Rattle.timewarp.specs.Gateways.{Event, plain, cancel, message}
+use Rattle.timewarp.specs.Gateways.{cancel, message}
 use Rattle.run.proofs.QueueViews.{eventIf, eventFor, waitingOf, Marked, pending, processed, waiting, marked}
 
 -- a message's hour, as the theory has it

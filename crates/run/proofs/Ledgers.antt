@@ -1,25 +1,25 @@
 -- The ledger, followed through the calls, is what the queue holds: the same plain messages, and the same waiting cancels.
 use mathlib.Core.Path.{_≡_, refl, sym, _∙_, ap, ap₂, subst}
 use mathlib.Core.Logic.{⊎-elim}
-use Prim.Native.Nat.{ℕ, _+_, _≤_, _<_}
+use Prim.Native.Nat.{ℕ, _≤_}
 use native.Mathlib.Omega.{arith}
 use mathlib.Core.Bool.{Bool, true, false, cond, not, _&&_, _||_, true≢false, false≢true}
 use mathlib.Core.List.{List, [], _∷_, _++_, map, List·Memᴰ·not-nil, List·Memᴰ·cases-cons, List·Memᴰ·append-cases}
-use Rattle.routing.specs.Arcs.{_∈_, Ascending, none, more}
+use Rattle.routing.specs.Arcs.{_∈_, Ascending}
 use Rattle.model.specs.declared.Message.{Message}
 use Rattle.model.specs.declared.State.{State}
 use Rattle.memory.specs.Records.{Gateway}
-use Rattle.memory.specs.Validity.{isPending, isProcessed, isWaiting, equal, later}
+use Rattle.memory.specs.Validity.{isProcessed, isWaiting, equal}
 use Rattle.memory.specs.declared.Entry.{Entry}
 use Rattle.memory.specs.declared.Mark.the-variants.{Processed}
-use Rattle.memory.proofs.EventLaws.{equal-same, same-equal, later-onward}
-use Rattle.memory.proofs.Validated.{MayStand, and-left, and-right, and-both, first-of}
+use Rattle.memory.proofs.EventLaws.{equal-same, same-equal}
+use Rattle.memory.proofs.Validated.{MayStand, and-left}
 use borrow.Author.Tests.{not-true}
 use Rattle.gateway.specs.Undoing.{undone, pendingEntry}
 use Rattle.gateway.specs.Working.{pendingOf, processedNext}
 use Rattle.gateway.specs.Taking.{any, withoutFirst, beforeLast, fromLast, tailOf, upTo, behind, isCancelOf, isPlain, waitingEntry, takePlain, takeCancel}
 use Rattle.gateway.proofs.Searches.{cut-again, around-last}
-use Rattle.timewarp.specs.Lists.{All, nil, cons, Insert, here, there, count, matches}
+use Rattle.timewarp.specs.Lists.{All, nil, cons, Insert, here, there, count}
 use Rattle.timewarp.specs.Models.{Model}
 use Rattle.timewarp.proofs.ListLaws.{insert-between, matches-same, matches-equal, matches-other, count-nil, count-cons, count-insert, all-count}
 use Rattle.timewarp.proofs.OrderLaws.{message-eq}
@@ -29,349 +29,8 @@ use Rattle.run.specs.Ledger.{Item, notDone, entered, isItem, undoneAfter
 use Rattle.run.proofs.ForecastModel.{forecastModel}
 use Rattle.run.proofs.SingleQueues.{Alike}
 use Rattle.run.proofs.QueueViews.{waitingOf, waiting-append, undone-waiting, Marked, marked, pending, processed, waiting}
-use Rattle.run.proofs.EventCalls.{ascending-right}
-use Rattle.run.proofs.QueueChanges.{each-all, Found, last-found, cancel-met}
-
--- a plain entry as an item
-abbrev pub itemOf : Entry → Item
-itemOf e = record { message = e .message; done = isProcessed e }
-
--- the plain messages of a queue
-unfoldable pub itemsOf : List Entry → List Item
-itemsOf [] = []
-itemsOf (e ∷ es) = let rest = itemsOf es in cond (isWaiting e) rest (itemOf e ∷ rest)
-
--- an entry in front, plain or not
-pub items-plain : (e : Entry) (es : List Entry) → isWaiting e ≡ false → itemsOf (e ∷ es) ≡ itemOf e ∷ itemsOf es
-unfolding itemsOf
-items-plain e es q = rw q
-
-pub items-waiting : (e : Entry) (es : List Entry) → isWaiting e ≡ true → itemsOf (e ∷ es) ≡ itemsOf es
-unfolding itemsOf
-items-waiting e es q = rw q
-
-pub items-append : (us vs : List Entry) → itemsOf (us ++ vs) ≡ itemsOf us ++ itemsOf vs
-unfolding itemsOf
-items-append [] vs = refl
-items-append (u ∷ us) vs = by-case (isWaiting u) (items-append us vs)
-  where
-    by-case : (t : Bool) → itemsOf (us ++ vs) ≡ itemsOf us ++ itemsOf vs → cond t (itemsOf (us ++ vs)) (itemOf u ∷ itemsOf (us ++ vs)) ≡ cond t (itemsOf us) (itemOf u ∷ itemsOf us) ++ itemsOf vs
-    by-case true p = p
-    by-case false p = ap (λ l. itemOf u ∷ l) p
-
--- after undoing nothing is done
-pub items-undone : (es : List Entry) → itemsOf (map undone es) ≡ map notDone (itemsOf es)
-unfolding itemsOf undone
-items-undone [] = refl
-items-undone (e ∷ es) = by-mark (marked e) (items-undone es)
-  where
-    by-mark : Marked e → itemsOf (map undone es) ≡ map notDone (itemsOf es) → itemsOf (map undone (e ∷ es)) ≡ map notDone (itemsOf (e ∷ es))
-    by-mark (pending p q r) k = rw (q, r, q) (ap (λ l. record { message = e .message; done = false } ∷ l) k)
-    by-mark (processed p q r) k = rw (q, r) (ap (λ l. record { message = e .message; done = false } ∷ l) k)
-    by-mark (waiting p q r) k = rw (q, r) k
-
--- where nothing is processed, undoing changes nothing
-pub items-none : {es : List Entry} → All (λ e. isProcessed e ≡ false) es → map notDone (itemsOf es) ≡ itemsOf es
-unfolding itemsOf
-items-none nil = refl
-items-none (cons {a = e} {l = es} p a) = by-case (isWaiting e) (items-none a)
-  where
-    by-case : (t : Bool) → map notDone (itemsOf es) ≡ itemsOf es → map notDone (cond t (itemsOf es) (itemOf e ∷ itemsOf es)) ≡ cond t (itemsOf es) (itemOf e ∷ itemsOf es)
-    by-case true k = k
-    by-case false k = ap₂ (λ (d : Bool) l. record { message = e .message; done = d } ∷ l) (sym p) k
-
--- where a message enters: there, or further on
-module _ (m : Message) where
-  module _ (e : Entry) (es : List Entry) where
-    up-stop : later (e .message) m ≡ true → upTo m (e ∷ es) ≡ []
-    unfolding upTo
-    up-stop p = rw p
-
-    up-go : later (e .message) m ≡ false → upTo m (e ∷ es) ≡ e ∷ upTo m es
-    unfolding upTo
-    up-go p = rw p
-
-    behind-stop : later (e .message) m ≡ true → behind m (e ∷ es) ≡ e ∷ es
-    unfolding behind
-    behind-stop p = rw p
-
-    behind-go : later (e .message) m ≡ false → behind m (e ∷ es) ≡ behind m es
-    unfolding behind
-    behind-go p = rw p
-
-  module _ (x : Item) (xs : List Item) where
-    ledger-up-stop : later (x .message) m ≡ true → Ledger.upTo m (x ∷ xs) ≡ []
-    unfolding Ledger.upTo
-    ledger-up-stop p = rw p
-
-    ledger-up-go : later (x .message) m ≡ false → Ledger.upTo m (x ∷ xs) ≡ x ∷ Ledger.upTo m xs
-    unfolding Ledger.upTo
-    ledger-up-go p = rw p
-
-    ledger-behind-stop : later (x .message) m ≡ true → Ledger.behind m (x ∷ xs) ≡ x ∷ xs
-    unfolding Ledger.behind
-    ledger-behind-stop p = rw p
-
-    ledger-behind-go : later (x .message) m ≡ false → Ledger.behind m (x ∷ xs) ≡ Ledger.behind m xs
-    unfolding Ledger.behind
-    ledger-behind-go p = rw p
-
-  all-behind : {es : List Entry} → All (λ e. later (e .message) m ≡ true) es → (Ledger.upTo m (itemsOf es) ≡ []) × (Ledger.behind m (itemsOf es) ≡ itemsOf es)
-  unfolding itemsOf Ledger.upTo Ledger.behind
-  all-behind nil = (refl, refl)
-  all-behind (cons {a = e} {l = es} p a) = by-case (isWaiting e) (all-behind a)
-    where
-      by-case : (t : Bool) → (Ledger.upTo m (itemsOf es) ≡ []) × (Ledger.behind m (itemsOf es) ≡ itemsOf es)
-          → (Ledger.upTo m (cond t (itemsOf es) (itemOf e ∷ itemsOf es)) ≡ []) × (Ledger.behind m (cond t (itemsOf es) (itemOf e ∷ itemsOf es)) ≡ cond t (itemsOf es) (itemOf e ∷ itemsOf es))
-      by-case true k = k
-      by-case false k = (rw p, rw p)
-
-  pub items-cut : {es : List Entry} → Ascending MayStand es → (Ledger.upTo m (itemsOf es) ≡ itemsOf (upTo m es)) × (Ledger.behind m (itemsOf es) ≡ itemsOf (behind m es))
-  unfolding itemsOf Ledger.upTo Ledger.behind upTo behind
-  items-cut none = (refl, refl)
-  items-cut (more {x = e} {xs = es} f a) = by-case (later (e .message) m) refl (isWaiting e) refl (items-cut a)
-    where
-      Cut : List Entry → Type 0
-      Cut xs = (Ledger.upTo m (itemsOf xs) ≡ itemsOf (upTo m xs)) × (Ledger.behind m (itemsOf xs) ≡ itemsOf (behind m xs))
-
-      by-case : (t : Bool) → later (e .message) m ≡ t → (u : Bool) → isWaiting e ≡ u → Cut es → Cut (e ∷ es)
-      by-case true p true q k =
-          let b = all-behind (each-all es (λ y d. later-onward m (e .message) (y .message) p (f y d .order))) in (
-            ap (Ledger.upTo m) (items-waiting e es q) ∙ b .0 ∙ ap itemsOf (sym (up-stop e es p)),
-            ap (Ledger.behind m) (items-waiting e es q) ∙ b .1 ∙ sym (items-waiting e es q) ∙ ap itemsOf (sym (behind-stop e es p)),
-          )
-      by-case true p false q k = (
-        ap (Ledger.upTo m) (items-plain e es q) ∙ ledger-up-stop (itemOf e) (itemsOf es) p ∙ ap itemsOf (sym (up-stop e es p)),
-        ap (Ledger.behind m) (items-plain e es q) ∙ ledger-behind-stop (itemOf e) (itemsOf es) p ∙ sym (items-plain e es q) ∙ ap itemsOf (sym (behind-stop e es p)),
-      )
-      by-case false p true q k = (
-        ap (Ledger.upTo m) (items-waiting e es q) ∙ k .0 ∙ sym (items-waiting e (upTo m es) q) ∙ ap itemsOf (sym (up-go e es p)),
-        ap (Ledger.behind m) (items-waiting e es q) ∙ k .1 ∙ ap itemsOf (sym (behind-go e es p)),
-      )
-      by-case false p false q k = (
-        ap (Ledger.upTo m) (items-plain e es q) ∙ ledger-up-go (itemOf e) (itemsOf es) p ∙ ap (λ l. itemOf e ∷ l) (k .0) ∙ sym (items-plain e (upTo m es) q) ∙ ap itemsOf (sym (up-go e es p)),
-        ap (Ledger.behind m) (items-plain e es q) ∙ ledger-behind-go (itemOf e) (itemsOf es) p ∙ k .1 ∙ ap itemsOf (sym (behind-go e es p)),
-      )
-
--- the equal messages
-module _ (m : Message) where
-  pub items-any : (es : List Entry) → any (isItem m) (itemsOf es) ≡ any (isPlain m) es
-  unfolding itemsOf any
-  items-any [] = refl
-  items-any (e ∷ es) = by-case (isWaiting e) refl (items-any es)
-    where
-      by-case : (t : Bool) → isWaiting e ≡ t → any (isItem m) (itemsOf es) ≡ any (isPlain m) es
-          → any (isItem m) (cond t (itemsOf es) (itemOf e ∷ itemsOf es)) ≡ ((not t && equal (e .message) m) || any (isPlain m) es)
-      by-case true q k = k
-      by-case false q k = ap (λ (b : Bool). equal (e .message) m || b) k
-
--- the last that passes
-or-left : (a b : Bool) → (a || b) ≡ false → a ≡ false
-or-left true b h = h
-or-left false b h = refl
-
-or-right : (a b : Bool) → (a || b) ≡ false → b ≡ false
-or-right true b h = absurd (true≢false h)
-or-right false b h = h
-
-module _ {A : Type 0} (f : A → Bool) (x : A) (xs : List A) where
-  before-more : any f xs ≡ true → beforeLast f (x ∷ xs) ≡ x ∷ beforeLast f xs
-  unfolding beforeLast
-  before-more p = rw p
-
-  before-none : any f xs ≡ false → beforeLast f (x ∷ xs) ≡ []
-  unfolding beforeLast
-  before-none p = rw p
-
-  from-more : any f xs ≡ true → fromLast f (x ∷ xs) ≡ fromLast f xs
-  unfolding fromLast
-  from-more p = rw p
-
-  from-here : any f xs ≡ false → f x ≡ true → fromLast f (x ∷ xs) ≡ x ∷ xs
-  unfolding fromLast
-  from-here p q = rw (p, q)
-
-  from-none : any f xs ≡ false → f x ≡ false → fromLast f (x ∷ xs) ≡ []
-  unfolding fromLast
-  from-none p q = rw (p, q)
-
-nothing-before : {A : Type 0} (f : A → Bool) (xs : List A) → any f xs ≡ false → beforeLast f xs ≡ []
-unfolding any beforeLast
-nothing-before f [] h = refl
-nothing-before f (x ∷ xs) h = before-none f x xs (or-right (f x) (any f xs) h)
-
-nothing-from : {A : Type 0} (f : A → Bool) (xs : List A) → any f xs ≡ false → fromLast f xs ≡ []
-unfolding any fromLast
-nothing-from f [] h = refl
-nothing-from f (x ∷ xs) h = from-none f x xs (or-right (f x) (any f xs) h) (or-left (f x) (any f xs) h)
-
-module _ (m : Message) where
-  -- the last equal message in the ledger is that in the queue
-  pub record Last (es : List Entry) : Type 0 where
-    pub before : beforeLast (isItem m) (itemsOf es) ≡ itemsOf (beforeLast (isPlain m) es)
-    pub from : fromLast (isItem m) (itemsOf es) ≡ itemsOf (fromLast (isPlain m) es)
-
-  pub items-last : (es : List Entry) → Last es
-  unfolding itemsOf beforeLast fromLast
-  items-last [] = record { before = refl; from = refl }
-  items-last (e ∷ es) = by-case (isWaiting e) refl (any (isPlain m) es) refl (equal (e .message) m) refl (items-last es)
-    where
-      plain-test : isWaiting e ≡ false → isPlain m e ≡ equal (e .message) m
-      plain-test q = ap (λ (b : Bool). not b && equal (e .message) m) q
-
-      waiting-test : isWaiting e ≡ true → isPlain m e ≡ false
-      waiting-test q = ap (λ (b : Bool). not b && equal (e .message) m) q
-
-      by-case : (t : Bool) → isWaiting e ≡ t → (u : Bool) → any (isPlain m) es ≡ u → (v : Bool) → equal (e .message) m ≡ v → Last es → Last (e ∷ es)
-      by-case true q true p v o k =
-          record {
-            before =
-                ap (beforeLast (isItem m)) (items-waiting e es q) ∙ k .before ∙ sym (items-waiting e (beforeLast (isPlain m) es) q)
-                ∙ ap itemsOf (sym (before-more (isPlain m) e es p));
-            from = ap (fromLast (isItem m)) (items-waiting e es q) ∙ k .from ∙ ap itemsOf (sym (from-more (isPlain m) e es p));
-          }
-      by-case true q false p v o k =
-          record {
-            before =
-                ap (beforeLast (isItem m)) (items-waiting e es q) ∙ k .before ∙ ap itemsOf (nothing-before (isPlain m) es p)
-                ∙ ap itemsOf (sym (before-none (isPlain m) e es p));
-            from =
-                ap (fromLast (isItem m)) (items-waiting e es q) ∙ k .from ∙ ap itemsOf (nothing-from (isPlain m) es p)
-                ∙ ap itemsOf (sym (from-none (isPlain m) e es p (waiting-test q)));
-          }
-      by-case false q true p v o k =
-          record {
-            before =
-                ap (beforeLast (isItem m)) (items-plain e es q) ∙ before-more (isItem m) (itemOf e) (itemsOf es) (items-any m es ∙ p)
-                ∙ ap (λ l. itemOf e ∷ l) (k .before) ∙ sym (items-plain e (beforeLast (isPlain m) es) q)
-                ∙ ap itemsOf (sym (before-more (isPlain m) e es p));
-            from =
-                ap (fromLast (isItem m)) (items-plain e es q) ∙ from-more (isItem m) (itemOf e) (itemsOf es) (items-any m es ∙ p)
-                ∙ k .from ∙ ap itemsOf (sym (from-more (isPlain m) e es p));
-          }
-      by-case false q false p true o k =
-          record {
-            before =
-                ap (beforeLast (isItem m)) (items-plain e es q) ∙ before-none (isItem m) (itemOf e) (itemsOf es) (items-any m es ∙ p)
-                ∙ ap itemsOf (sym (before-none (isPlain m) e es p));
-            from =
-                ap (fromLast (isItem m)) (items-plain e es q) ∙ from-here (isItem m) (itemOf e) (itemsOf es) (items-any m es ∙ p) o
-                ∙ sym (items-plain e es q) ∙ ap itemsOf (sym (from-here (isPlain m) e es p (plain-test q ∙ o)));
-          }
-      by-case false q false p false o k =
-          record {
-            before =
-                ap (beforeLast (isItem m)) (items-plain e es q) ∙ before-none (isItem m) (itemOf e) (itemsOf es) (items-any m es ∙ p)
-                ∙ ap itemsOf (sym (before-none (isPlain m) e es p));
-            from =
-                ap (fromLast (isItem m)) (items-plain e es q) ∙ from-none (isItem m) (itemOf e) (itemsOf es) (items-any m es ∙ p) o
-                ∙ ap itemsOf (sym (from-none (isPlain m) e es p (plain-test q ∙ o)));
-          }
-
-  -- what stands behind the message that is struck out
-  behind-struck : (x : Entry) (rest : List Entry) → isWaiting x ≡ false → Ascending MayStand (x ∷ rest) → undoneAfter (itemsOf (x ∷ rest)) ≡ itemsOf (map undone rest)
-  behind-struck x rest w a = ap undoneAfter (items-plain x rest w) ∙ by-mark (marked x) ∙ sym (items-undone rest)
-    where
-      by-mark : Marked x → undoneAfter (itemOf x ∷ itemsOf rest) ≡ map notDone (itemsOf rest)
-      by-mark (pending p q r) = rw q (sym (items-none (each-all rest (λ y d. first-of a y d .marks p))))
-      by-mark (processed p q r) = rw q
-      by-mark (waiting p q r) = absurd (true≢false (sym r ∙ w))
-
-  pub items-struck : (es : List Entry) → Ascending MayStand es → any (isPlain m) es ≡ true
-      → beforeLast (isItem m) (itemsOf es) ++ undoneAfter (fromLast (isItem m) (itemsOf es)) ≡ itemsOf (beforeLast (isPlain m) es ++ map undone (tailOf (fromLast (isPlain m) es)))
-  items-struck es a h =
-      let l = items-last es in
-      let f = last-found (isPlain m) es h in
-      let not-waiting : isWaiting (f .first) ≡ false = not-true (isWaiting (f .first)) (and-left (not (isWaiting (f .first))) (equal (f .first .message) m) (f .passes)) in
-      let order : Ascending MayStand (f .first ∷ f .rest) = ascending-right (beforeLast (isPlain m) es) (subst (Ascending MayStand) (sym (ap (λ l. beforeLast (isPlain m) es ++ l) (sym (f .is)) ∙ around-last (isPlain m) es h)) a) in
-      ap₂ _++_ (l .before) (ap undoneAfter (l .from ∙ ap itemsOf (f .is)) ∙ behind-struck (f .first) (f .rest) not-waiting order ∙ ap (λ k. itemsOf (map undone (tailOf k))) (sym (f .is)))
-      ∙ sym (items-append (beforeLast (isPlain m) es) (map undone (tailOf (fromLast (isPlain m) es))))
-
--- an event done
-did-done : (x : Item) (xs : List Item) → x .done ≡ true → didOne (x ∷ xs) ≡ x ∷ didOne xs
-unfolding didOne
-did-done x xs h = rw h
-
-did-here : (x : Item) (xs : List Item) → x .done ≡ false → didOne (x ∷ xs) ≡ record { message = x .message; done = true } ∷ xs
-unfolding didOne
-did-here x xs h = rw h
-
-next-here : (s : State) (e : Entry) (es : List Entry) → isPending e ≡ true → processedNext s (e ∷ es) ≡ record { message = e .message; mark = Processed; before = s } ∷ es
-unfolding processedNext
-next-here s e es h = rw h
-
-next-later : (s : State) (e : Entry) (es : List Entry) → isPending e ≡ false → processedNext s (e ∷ es) ≡ e ∷ processedNext s es
-unfolding processedNext
-next-later s e es h = rw h
-
-pub items-done : (s : State) (es : List Entry) → didOne (itemsOf es) ≡ itemsOf (processedNext s es)
-unfolding didOne itemsOf processedNext
-items-done s [] = refl
-items-done s (e ∷ es) = by-mark (marked e) (items-done s es)
-  where
-    by-mark : Marked e → didOne (itemsOf es) ≡ itemsOf (processedNext s es) → didOne (itemsOf (e ∷ es)) ≡ itemsOf (processedNext s (e ∷ es))
-    by-mark (pending p q r) k =
-        ap didOne (items-plain e es r) ∙ did-here (itemOf e) (itemsOf es) q
-        ∙ sym (items-plain (record { message = e .message; mark = Processed; before = s }) es refl) ∙ ap itemsOf (sym (next-here s e es p))
-    by-mark (processed p q r) k =
-        ap didOne (items-plain e es r) ∙ did-done (itemOf e) (itemsOf es) q ∙ ap (λ l. itemOf e ∷ l) k
-        ∙ sym (items-plain e (processedNext s es) r) ∙ ap itemsOf (sym (next-later s e es p))
-    by-mark (waiting p q r) k =
-        ap didOne (items-waiting e es r) ∙ k ∙ sym (items-waiting e (processedNext s es) r) ∙ ap itemsOf (sym (next-later s e es p))
-
--- an event committed
-module _ {A : Type 0} (f : A → Bool) (x : A) (xs : List A) where
-  without-here : f x ≡ true → withoutFirst f (x ∷ xs) ≡ xs
-  unfolding withoutFirst
-  without-here h = rw h
-
-  without-later : f x ≡ false → withoutFirst f (x ∷ xs) ≡ x ∷ withoutFirst f xs
-  unfolding withoutFirst
-  without-later h = rw h
-
-abbrev isDone : Item → Bool
-isDone x = x .done
-
-pub items-committed : (es : List Entry) → withoutFirst isDone (itemsOf es) ≡ itemsOf (withoutFirst isProcessed es)
-unfolding withoutFirst itemsOf
-items-committed [] = refl
-items-committed (e ∷ es) = by-mark (marked e) (items-committed es)
-  where
-    by-mark : Marked e → withoutFirst isDone (itemsOf es) ≡ itemsOf (withoutFirst isProcessed es) → withoutFirst isDone (itemsOf (e ∷ es)) ≡ itemsOf (withoutFirst isProcessed (e ∷ es))
-    by-mark (pending p q r) k =
-        ap (withoutFirst isDone) (items-plain e es r) ∙ without-later isDone (itemOf e) (itemsOf es) q ∙ ap (λ l. itemOf e ∷ l) k
-        ∙ sym (items-plain e (withoutFirst isProcessed es) r) ∙ ap itemsOf (sym (without-later isProcessed e es q))
-    by-mark (processed p q r) k =
-        ap (withoutFirst isDone) (items-plain e es r) ∙ without-here isDone (itemOf e) (itemsOf es) q ∙ ap itemsOf (sym (without-here isProcessed e es q))
-    by-mark (waiting p q r) k =
-        ap (withoutFirst isDone) (items-waiting e es r) ∙ k ∙ sym (items-waiting e (withoutFirst isProcessed es) r) ∙ ap itemsOf (sym (without-later isProcessed e es q))
-
--- what is not done is pending
-left-here : (x : Item) (xs : List Item) → x .done ≡ false → notDoneOf (x ∷ xs) ≡ x .message ∷ notDoneOf xs
-unfolding notDoneOf
-left-here x xs h = rw h
-
-left-none : (x : Item) (xs : List Item) → x .done ≡ true → notDoneOf (x ∷ xs) ≡ notDoneOf xs
-unfolding notDoneOf
-left-none x xs h = rw h
-
-pending-here : (e : Entry) (es : List Entry) → isPending e ≡ true → pendingOf (e ∷ es) ≡ e .message ∷ pendingOf es
-unfolding pendingOf
-pending-here e es h = rw h
-
-pending-none : (e : Entry) (es : List Entry) → isPending e ≡ false → pendingOf (e ∷ es) ≡ pendingOf es
-unfolding pendingOf
-pending-none e es h = rw h
-
-pub items-pending : (es : List Entry) → notDoneOf (itemsOf es) ≡ pendingOf es
-unfolding notDoneOf itemsOf pendingOf
-items-pending [] = refl
-items-pending (e ∷ es) = by-mark (marked e) (items-pending es)
-  where
-    by-mark : Marked e → notDoneOf (itemsOf es) ≡ pendingOf es → notDoneOf (itemsOf (e ∷ es)) ≡ pendingOf (e ∷ es)
-    by-mark (pending p q r) k = ap notDoneOf (items-plain e es r) ∙ left-here (itemOf e) (itemsOf es) q ∙ ap (λ l. e .message ∷ l) k ∙ sym (pending-here e es p)
-    by-mark (processed p q r) k = ap notDoneOf (items-plain e es r) ∙ left-none (itemOf e) (itemsOf es) q ∙ k ∙ sym (pending-none e es p)
-    by-mark (waiting p q r) k = ap notDoneOf (items-waiting e es r) ∙ k ∙ sym (pending-none e es p)
+use Rattle.run.proofs.QueueChanges.{Found, last-found, cancel-met}
+use Rattle.run.proofs.LedgerItems.{itemsOf, items-plain, items-waiting, items-append, items-undone, items-cut, items-any, or-left, or-right, items-struck, next-here, next-later, items-done, without-here, without-later, isDone, items-committed, items-pending, items-met}
 
 -- the waiting cancels of a queue with an entry in front
 waiting-plain : (e : Entry) (es : List Entry) → isWaiting e ≡ false → waitingOf (e ∷ es) ≡ waitingOf es
@@ -387,11 +46,7 @@ waiting-more : (e : Entry) (es fs : List Entry) → waitingOf es ≡ waitingOf f
 unfolding waitingOf
 waiting-more e es fs k = ap (λ l. cond (isWaiting e) (e .message ∷ l) l) k
 
-items-more : (e : Entry) (es fs : List Entry) → itemsOf es ≡ itemsOf fs → itemsOf (e ∷ es) ≡ itemsOf (e ∷ fs)
-unfolding itemsOf
-items-more e es fs k = ap (λ l. cond (isWaiting e) l (itemOf e ∷ l)) k
-
--- doing and committing leave the waiting cancels, and meeting a cancel leaves the items
+-- doing and committing leave the waiting cancels
 waiting-next : (s : State) (es : List Entry) → waitingOf (processedNext s es) ≡ waitingOf es
 unfolding processedNext
 waiting-next s [] = refl
@@ -411,15 +66,6 @@ waiting-committed (e ∷ es) = by-mark (marked e) (waiting-committed es)
     by-mark (pending p q r) k = ap waitingOf (without-later isProcessed e es q) ∙ waiting-more e (withoutFirst isProcessed es) es k
     by-mark (processed p q r) k = ap waitingOf (without-here isProcessed e es q) ∙ sym (waiting-plain e es r)
     by-mark (waiting p q r) k = ap waitingOf (without-later isProcessed e es q) ∙ waiting-more e (withoutFirst isProcessed es) es k
-
-items-met : (m : Message) (es : List Entry) → itemsOf (withoutFirst (isCancelOf m) es) ≡ itemsOf es
-unfolding withoutFirst
-items-met m [] = refl
-items-met m (e ∷ es) = by-case (isCancelOf m e) refl (items-met m es)
-  where
-    by-case : (t : Bool) → isCancelOf m e ≡ t → itemsOf (withoutFirst (isCancelOf m) es) ≡ itemsOf es → itemsOf (withoutFirst (isCancelOf m) (e ∷ es)) ≡ itemsOf (e ∷ es)
-    by-case true q k = ap itemsOf (without-here (isCancelOf m) e es q) ∙ sym (items-waiting e es (and-left (isWaiting e) (equal (e .message) m) q))
-    by-case false q k = ap itemsOf (without-later (isCancelOf m) e es q) ∙ items-more e (withoutFirst (isCancelOf m) es) es k
 
 -- an element has what all have
 pub all-each : {A : Type 0} {p : A → Type 0} {l : List A} → All p l → (x : A) → x ∈ l → p x

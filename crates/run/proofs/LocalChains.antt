@@ -7,7 +7,7 @@ use Rattle.timewarp.specs.Models.{Model}
 use Rattle.timewarp.specs.Gateways.{Gateway, Network, after}
 use Rattle.timewarp.specs.EventSteps.{EventStep}
 use Rattle.timewarp.specs.RoundSteps.{Rounds, lower}
-use Rattle.timewarp.specs.Worlds.{Setting, World, Step, event, Steps, none as noSteps, then as oneMore, lowerAll}
+use Rattle.timewarp.specs.Worlds.{Setting, World, event, Steps, none as noSteps, then as oneMore, lowerAll}
 use Rattle.timewarp.proofs.FamilyLaws.{change-at, change-off}
 use Rattle.timewarp.proofs.CallChains.{steps-join}
 

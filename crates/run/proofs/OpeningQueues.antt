@@ -2,15 +2,14 @@
 use mathlib.Core.Path.{_≡_, refl, sym, _∙_, ap, ap₂, subst}
 use Prim.Native.Nat.{ℕ, zero, suc, _+_, _-_, _≤_, _<_}
 use native.Mathlib.Omega.{arith}
-use mathlib.Core.Bool.{Bool, true, false, cond, _&&_, true≢false}
+use mathlib.Core.Bool.{true, false, true≢false}
 use mathlib.Core.List.{List, [], _∷_, _++_, map}
 use lib.Dec.{ltb, eqb}
 use lib.ListN.{length}
 use borrow.Author.Tests.{eq-eqb, lt-ltb}
-use Rattle.routing.specs.Arcs.{_∈_, Ascending, none, more}
+use Rattle.routing.specs.Arcs.{_∈_, Ascending, none}
 use Rattle.model.specs.Messages.{originOf}
 use Rattle.model.specs.declared.Message.{Message}
-use Rattle.model.specs.declared.State.{State}
 use Rattle.frame.specs.Reasons.{reading}
 use Rattle.frame.specs.Limits.{nothingDue}
 use Rattle.memory.specs.Validity.{isPending, isProcessed, isWaiting, equal, later}
@@ -24,7 +23,7 @@ use Rattle.gateway.specs.Taking.{any, upTo, behind}
 use Rattle.gateway.specs.SettingUp.{cutFrames, queued}
 use Rattle.gateway.proofs.Lists.{insert-ascending}
 use Rattle.gateway.proofs.Searches.{pending-member, cut-again, up-to-not-later, behind-later}
-use Rattle.timewarp.specs.Lists.{All, nil, cons, Insert, count}
+use Rattle.timewarp.specs.Lists.{All, nil, cons, count}
 use Rattle.timewarp.specs.Models.{Model, stateAfter}
 use Rattle.timewarp.specs.Gateways.{gatewayOf}
 use Rattle.timewarp.specs.SingleQueue as Theory
@@ -36,11 +35,12 @@ use Rattle.run.specs.Ledger as Ledger
 use Rattle.run.specs.Ledger.{entered}
 use Rattle.run.specs.World.{openingLedger}
 use Rattle.run.proofs.ForecastModel.{forecastModel, openingAt, openingHere, passing, passing-same}
-use Rattle.run.proofs.QueueViews.{doneAfter, waitingOf, viewOf, pending-append, Marked, marked, pending, processed, waiting}
+use Rattle.run.proofs.QueueViews.{waitingOf, viewOf, pending-append, Marked, marked, pending, processed, waiting}
 use Rattle.run.proofs.QueueChanges.{each-all, none-done, saved-none}
 use Rattle.run.proofs.SavedStates.{Saved, stateAt}
-use Rattle.run.proofs.SingleQueues.{Alike, Agree, Inside, recordOf}
-use Rattle.run.proofs.Ledgers.{itemsOf, Follows, entry-follows, all-each}
+use Rattle.run.proofs.SingleQueues.{Alike, Agree, recordOf}
+use Rattle.run.proofs.LedgerItems.{itemsOf}
+use Rattle.run.proofs.Ledgers.{Follows, entry-follows, all-each}
 
 -- every entry is pending
 abbrev pub AllPending : List Entry → Type 0

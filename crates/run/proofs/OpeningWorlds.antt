@@ -1,15 +1,12 @@
 -- N memories just set up are beside the theory's world before its first step.
 use mathlib.Core.Path.{_≡_, refl, sym, _∙_, ap, subst}
-use Prim.Native.Nat.{ℕ, _-_, _≤_, _<_}
+use Prim.Native.Nat.{ℕ, _-_, _<_}
 use native.Mathlib.Omega.{arith}
-use mathlib.Core.Bool.{Bool, true, false, cond}
-use mathlib.Core.List.{List, [], _∷_}
+use mathlib.Core.Bool.{Bool, true, false}
+use mathlib.Core.List.{List, []}
 use lib.Dec.{eqb}
 use lib.ListN.{length}
 use borrow.Author.Tests.{eqb-true, eqb-false}
-use Rattle.buffer.specs.Slice.{Bytes}
-use Rattle.routing.specs.Arcs.{_∈_}
-use Rattle.model.specs.declared.Message.{Message}
 use Rattle.frame.specs.Limits.{nothingDue}
 use Rattle.memory.specs.Records.{Gateway}
 use Rattle.memory.specs.Codec.{decode, encode}
@@ -28,12 +25,12 @@ use Rattle.timewarp.specs.Arcs.{Graph}
 use Rattle.timewarp.specs.RoundSteps as RoundSteps
 use Rattle.timewarp.specs.SingleQueue as Theory
 use Rattle.timewarp.specs.Worlds as Worlds
-use Rattle.run.specs.SingleQueue.{SetUp, openingMessages, wholeRecord}
+use Rattle.run.specs.SingleQueue.{SetUp, openingMessages, openingQueue, steps, turnsFor, wholeRecord}
 use Rattle.run.specs.World.{openingWorld}
 use Rattle.run.specs.Demand3.{Forecast}
 use Rattle.run.proofs.ForecastModel.{forecastModel}
 use Rattle.run.proofs.QueueViews.{viewOf}
-use Rattle.run.proofs.SingleQueues.{recordOf, Settled, whole-record}
+use Rattle.run.proofs.SingleQueues.{recordOf, Settled, steps-end, whole-record}
 use Rattle.run.proofs.Ledgers.{Follows}
 use Rattle.run.proofs.EventsUnderWay.{seenIn}
 use Rattle.run.proofs.EventWorlds.{settingOf}
@@ -63,13 +60,13 @@ module _ (n last : ℕ) (setups : ℕ → SetUp) (lent : ℕ → List ℕ) (fore
     abbrev o : Opening
     o = setups i .opening
 
-    abbrev first : Gateway
+    abbrev pub first : Gateway
     first = opened o (cutFrames (length (setups i .list)) (setups i .list))
 
     set-up : Made o (setups i .list) (lent i)
     set-up = made o (setups i .list) (lent i) (forecast .accepted i h)
 
-    kept : Kept (settingsOf o) first
+    pub kept : Kept (settingsOf o) first
     kept = opened-keeps o (length (lent i)) (setups i .list) (forecast .bytes i h .1) (set-up .not-refused)
 
     laws : WritingLaws first (lent i)
@@ -91,7 +88,7 @@ module _ (n last : ℕ) (setups : ℕ → SetUp) (lent : ℕ → List ℕ) (fore
         lawful-opening n last setups i (settingsOf o) (v .entries) (forecast .numbers i h) (forecast .gateways i h) (v .settings .last)
 
   -- at first
-  pub opening-beside : Beside n last setups G same (openingWorld setups lent) (Worlds.openingWorld (settingOf n last setups G same))
+  unfoldable pub opening-beside : Beside n last setups G same (openingWorld setups lent) (Worlds.openingWorld (settingOf n last setups G same))
   unfolding openingWorld Worlds.openingWorld openingData RoundSteps.opening seenIn recordOf opened openingEntries
   opening-beside =
       record {
@@ -128,3 +125,9 @@ module _ (n last : ℕ) (setups : ℕ → SetUp) (lent : ℕ → List ℕ) (fore
   -- the whole record of the single queue is that of the theory's single queue
   pub single-queue : (i : ℕ) → wholeRecord n last setups i ≡ recordOf n last setups i (Theory.singleHistory (forecastModel n last setups) i)
   single-queue i = whole-record n last setups hours-end settled (opening-agrees n last setups (forecast .some) lawful) i
+
+  -- and that single queue ends
+  pub queue-ends : steps setups (turnsFor last (openingQueue n setups .list)) (openingQueue n setups) .list ≡ []
+  queue-ends =
+      steps-end n last setups hours-end settled (turnsFor last (openingQueue n setups .list)) (openingQueue n setups) (Theory.openingQueue (forecastModel n last setups))
+      (opening-agrees n last setups (forecast .some) lawful) (omega arith)

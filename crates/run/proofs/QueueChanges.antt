@@ -1,9 +1,9 @@
 -- What a call's change of the queue or of what is outstanding is to the theory's lists.
-use mathlib.Core.Path.{_≡_, refl, sym, _∙_, ap, subst}
+use mathlib.Core.Path.{_≡_, refl, sym, _∙_, ap}
 use Prim.Native.Nat.{ℕ}
 use native.Mathlib.Omega.{arith}
 use mathlib.Core.Bool.{Bool, true, false, cond, not, _&&_, _||_, true≢false, false≢true}
-use mathlib.Core.List.{List, [], _∷_, _++_, map, List·Memᴰ·head as member-first, List·Memᴰ·tail as member-rest}
+use mathlib.Core.List.{List, [], _∷_, map, List·Memᴰ·head as member-first, List·Memᴰ·tail as member-rest}
 use Rattle.routing.specs.Arcs.{_∈_, Ascending, none, more}
 use Rattle.model.specs.Doing.{after}
 use Rattle.model.specs.declared.Message.{Message}
@@ -19,7 +19,7 @@ use Rattle.gateway.specs.Working.{pendingOf, processedNext}
 use Rattle.gateway.specs.Taking.{any, withoutFirst, fromLast, isCancelOf, isSent}
 use Rattle.timewarp.specs.Lists.{All, nil, cons, Insert, here, there}
 use Rattle.timewarp.specs.Models.{stateAfter}
-use Rattle.timewarp.specs.Gateways.{Event, plain, cancel}
+use Rattle.timewarp.specs.Gateways.{plain, cancel}
 use Rattle.run.specs.SingleQueue.{SetUp}
 use Rattle.run.proofs.QueueViews.{eventIf, eventFor, doneWith, doneAfter, waitingOf, Marked, marked, pending, processed, waiting}
 use Rattle.run.proofs.SavedStates.{Saved, at-end, entry, saved-more, saved-state, stateAt}

@@ -1,8 +1,7 @@
 -- What the abstract theory sees of a gateway: its queue as three lists of messages, and what is outstanding as events.
-use mathlib.Core.Path.{_≡_, refl, sym, _∙_, ap, subst}
-use Prim.Native.Nat.{ℕ}
+use mathlib.Core.Path.{_≡_, refl, ap}
 use mathlib.Core.Bool.{Bool, true, false, cond}
-use mathlib.Core.List.{List, [], _∷_, _++_, map, append-assoc, append-nil}
+use mathlib.Core.List.{List, [], _∷_, _++_, map}
 use Rattle.model.specs.declared.Message.{Message}
 use Rattle.memory.specs.Validity.{isPending, isProcessed, isWaiting}
 use Rattle.memory.specs.declared.Entry.{Entry}

@@ -1,9 +1,9 @@
 -- The start call, Start, Lvt and Update at a gateway: each is a chain of the theory's steps.
 use mathlib.Core.Path.{_≡_, refl, sym, _∙_, ap, subst}
 use mathlib.Core.Logic.{_≢_}
-use mathlib.Core.Bool.{Bool, true, false, cond, _&&_, true≢false, false≢true}
-use mathlib.Core.List.{List, [], _∷_, _++_, map, append-assoc, append-nil}
-use Prim.Native.Nat.{ℕ, zero, suc, _+_, _*_, _-_, _≤_, _<_, min, max}
+use mathlib.Core.Bool.{true, false, cond, true≢false}
+use mathlib.Core.List.{List, [], _++_, map, append-nil}
+use Prim.Native.Nat.{ℕ, suc, _+_, _-_, _≤_, _<_, min, max}
 use native.Mathlib.Omega.{arith}
 use native.Mathlib.Decide.{ℕ-discrete}
 use lib.Dec.{eqb, eqb→eq}
@@ -12,12 +12,10 @@ use Rattle.routing.specs.Arcs.{from, to}
 use Rattle.model.specs.declared.Kind.the-variants.{Start, Lvt, Update}
 use Rattle.memory.specs.Records.{Gateway}
 use Rattle.memory.specs.declared.Round.{Round}
-use Rattle.memory.specs.declared.Phase.{Phase}
 use Rattle.memory.specs.declared.Phase.the-variants.{Idle, Counting, Stopped}
 use Rattle.gateway.specs.Effects.{Effect, withRound, withAgreed}
 use Rattle.gateway.specs.Rounds.{leastOutstanding, leastQueued, frames, children, finished, begun, oneStart, oneLvt, valueIn, valueAt, bitOf, allBits, isIdle, idle}
 use Rattle.timewarp.specs.Lists.{All, Insert}
-use Rattle.timewarp.specs.Families.{change, put}
 use Rattle.timewarp.specs.Arcs
 use Rattle.timewarp.specs.Models.{Model}
 use Rattle.timewarp.specs.RoundSteps
@@ -26,13 +24,13 @@ use Rattle.timewarp.specs.Worlds.{World}
 use Rattle.timewarp.specs.Worlds
 use Rattle.timewarp.proofs.Joined.{Good}
 use Rattle.timewarp.proofs.ListLaws.{count-nil}
-use Rattle.timewarp.proofs.FamilyLaws.{Same, same, other, same?, Changed, at, off, change?, change-at, change-off}
+use Rattle.timewarp.proofs.FamilyLaws.{Same, same, other, same?, Changed, at, off, change?, change-at}
 use Rattle.timewarp.proofs.RoundCarried.{all-from, all-to}
 use Rattle.timewarp.proofs.RoundInvariants.{in-turn}
 use Rattle.run.specs.World
 use Rattle.run.proofs.FigureGraph.{figureGraph, arcLaws, tells-is, hears-is}
 use Rattle.run.proofs.ArrivalBits.{howMany, AllIn, all-in, not-all, all-in?}
-use Rattle.run.proofs.Standing.{startIn, lvtIn, startBits, lvtBits, StandingAt, Standing, is-idle, is-finished, is-counting, is-stopped, roundOf}
+use Rattle.run.proofs.Standing.{startIn, lvtIn, startBits, lvtBits, StandingAt, is-idle, is-finished, is-counting, is-stopped, roundOf}
 use Rattle.run.proofs.RoundCounters.{Counted, oneMore, same-counted, same-change}
 use Rattle.run.proofs.RoundChains
 use Rattle.run.proofs.RoundsUnderWay.{roundsOf, starts-are, lvts-are, updates-are, same-children}

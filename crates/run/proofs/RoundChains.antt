@@ -1,64 +1,32 @@
 -- What the calls of a round do, as chains of the theory's steps.
 use mathlib.Core.Path.{_≡_, refl, sym, _∙_, ap, subst}
 use mathlib.Core.Logic.{_≢_}
-use mathlib.Core.Bool.{Bool, true, false, cond, true≢false, false≢true}
-use mathlib.Core.List.{List, [], _∷_, _++_, map}
-use Prim.Native.Nat.{ℕ, zero, suc, _+_, _*_, _-_, _≤_, _<_, min, max}
+use mathlib.Core.Bool.{true}
+use mathlib.Core.List.{List}
+use Prim.Native.Nat.{ℕ, zero, suc, _+_, _-_, _≤_, _<_, min, max}
 use native.Mathlib.Omega.{arith}
-use lib.Dec.{eqb, T, eqb→eq, eqb-refl, leb·suc-suc, leb·zero}
+use lib.Dec.{leb·suc-suc, leb·zero}
 use lib.ListN.{length}
 use Rattle.memory.specs.declared.Round.{Round}
-use Rattle.memory.specs.declared.Phase.{Phase}
 use Rattle.memory.specs.declared.Phase.the-variants.{Idle, Counting, Stopped}
-use Rattle.gateway.specs.Rounds.{bitOf, allBits}
-use Rattle.timewarp.specs.Lists.{All, Insert}
+use Rattle.gateway.specs.Rounds.{bitOf}
+use Rattle.timewarp.specs.Lists.{Insert}
 use Rattle.timewarp.specs.Families.{change, put}
-use Rattle.timewarp.specs.Arcs.{Graph, Arc, Child, times, children}
+use Rattle.timewarp.specs.Arcs.{Graph, Arc, times, children}
 use Rattle.timewarp.specs.Models.{Model}
-use Rattle.timewarp.specs.RoundSteps.{
-  Rounds,
-  RoundFrame,
-  start,
-  lvt,
-  update,
-  idle,
-  counting,
-  stopped,
-  finished,
-  begin,
-  hear,
-  stop,
-  takeLvt,
-  finish,
-  close,
-  takeUpdate,
-  Stops,
-  as-it-starts,
-  at-an-lvt,
-  begins,
-  hears,
-  stops,
-  takes-lvt,
-  finishes,
-  closes,
-  takes-update,
-  InTurn,
-  start-in-turn,
-  lvt-in-turn,
-  update-in-turn,
-}
-use Rattle.timewarp.specs.Worlds.{Setting, World, Step, round, Steps, none, then, leastOutstanding, leastWaiting}
+use Rattle.timewarp.specs.RoundSteps.{Rounds, RoundFrame, start, lvt, update, idle, counting, stopped, finished, begin, hear, stop, takeLvt, finish, close, takeUpdate, Stops, begins, hears, stops, takes-lvt, finishes, closes, takes-update, InTurn, start-in-turn, lvt-in-turn}
+use Rattle.timewarp.specs.Worlds.{Setting, World, round, Steps, then, leastOutstanding, leastWaiting}
 use Rattle.timewarp.proofs.ListLaws.{all-taken}
 use Rattle.timewarp.proofs.FamilyLaws.{Same, same, other, same?, Changed, at, off, change?, change-at, change-off}
 use Rattle.timewarp.proofs.RoundArcs.{fresh, begun, back, StateOf, ArcStates}
 use Rattle.timewarp.proofs.RoundReach.{all-done}
-use Rattle.timewarp.proofs.RoundCarried.{of-lvt, all-from, all-to}
+use Rattle.timewarp.proofs.RoundCarried.{of-lvt}
 use Rattle.timewarp.proofs.RoundInvariants.{RoundSound, in-turn}
 use Rattle.timewarp.proofs.Histories.{OutstandingFrom, WaitingFrom}
 use Rattle.timewarp.proofs.Joined.{Good, good-steps}
 use Rattle.run.specs.World
 use Rattle.run.proofs.FigureGraph.{figureGraph}
-use Rattle.run.proofs.Standing.{Standings, StandingAt, Standing, is-idle, is-finished, is-counting, is-stopped, roundOf, begin-standings, stop-standings, finish-standings, close-standings, hear-standings, lvt-standings}
+use Rattle.run.proofs.Standing.{Standings, StandingAt, is-finished, roundOf, begin-standings, stop-standings, finish-standings, close-standings, hear-standings, lvt-standings}
 use Rattle.run.proofs.RoundCounters.{Counted, isOpen, oneMore, open-counted, begin-counted, hear-counted, stop-counted, lvt-counted, own-lvt-counted, finish-counted, close-counted, update-counted}
 
 -- a family changed twice at one place

@@ -1,10 +1,9 @@
 -- What demand 3 claims of the rounds: a completed round took two messages an arc and N − 1 more, below 4N.
-use mathlib.Core.Path.{_≡_, refl, sym, _∙_, ap, subst}
+use mathlib.Core.Path.{_≡_, _∙_, ap, subst}
 use Prim.Native.Nat.{ℕ, suc, _+_, _*_, _-_, _≤_, _<_}
 use mathlib.Core.Bool.{true}
 use native.Mathlib.Omega.{arith}
 use Rattle.routing.specs.Arcs.{arcCount}
-use Rattle.timewarp.specs.Arcs
 use Rattle.timewarp.specs.Models.{Model}
 use Rattle.timewarp.specs.RoundSteps
 use Rattle.timewarp.specs.Worlds

@@ -1,20 +1,20 @@
 -- The rounds as the run counts them, and as the theory does: kept by each step of a round.
 use mathlib.Core.Path.{_≡_, refl, sym, _∙_, ap}
 use mathlib.Core.Logic.{_≢_}
-use mathlib.Core.Bool.{Bool, true, false, cond, true≢false, false≢true}
-use mathlib.Core.List.{List, [], _∷_}
-use Prim.Native.Nat.{ℕ, zero, suc, _+_, _-_, _≤_, _<_, min}
+use mathlib.Core.Bool.{Bool, true, false, false≢true}
+use mathlib.Core.List.{List}
+use Prim.Native.Nat.{ℕ, suc, _+_, _≤_, _<_}
 use native.Mathlib.Omega.{arith}
 use lib.Dec.{eqb, ltb}
 use lib.ListN.{length}
 use Rattle.timewarp.specs.Families.{change, put}
-use Rattle.timewarp.specs.Arcs.{Graph, Arc, times, children}
+use Rattle.timewarp.specs.Arcs.{Graph, Arc, children}
 use Rattle.timewarp.specs.RoundSteps.{idle, counting, stopped, finished, RoundFrame, raise, lower, begin, hear, stop, takeLvt, finish, close, takeUpdate}
 use Rattle.timewarp.specs.RoundSteps
-use Rattle.timewarp.proofs.FamilyLaws.{Same, same, other, same?, Changed, at, off, change?, change-at, change-off, Put, put?, put-at, put-off}
+use Rattle.timewarp.proofs.FamilyLaws.{Changed, at, off, change?, change-at, change-off, Put, put?}
 use Rattle.run.specs.Lines
 use Rattle.run.specs.World.{Rounds, tookMore, opens, closes, accepts}
-use Rattle.run.proofs.ArrivalBits.{oneIf, howMany, alike, one-more, none-in}
+use Rattle.run.proofs.ArrivalBits.{oneIf, howMany, alike, none-in}
 use Rattle.run.proofs.Standing.{lvtIn, lvts-after-start, lvts-elsewhere, lvts-here}
 
 -- the two changes of a family are one

@@ -1,8 +1,8 @@
 -- The frames of a round are read as they were written.
-use mathlib.Core.Path.{_≡_, refl, sym, _∙_, ap}
-use mathlib.Core.Bool.{Bool, true, false, cond, _&&_, _||_}
-use mathlib.Core.List.{List, [], _∷_, map}
-use Prim.Native.Nat.{ℕ, zero, suc, _+_, _<_, _^_}
+use mathlib.Core.Path.{_≡_, refl, _∙_, ap}
+use mathlib.Core.Bool.{Bool, true, _&&_, _||_}
+use mathlib.Core.List.{List, map}
+use Prim.Native.Nat.{ℕ, zero, suc, _<_, _^_}
 use native.Mathlib.Omega.{arith}
 use lib.Dec.{eqb}
 use lib.ListN.{length, getD, replicate}
@@ -30,7 +30,7 @@ zeros (suc k) zero = refl
 zeros (suc k) (suc i) = zeros k i
 
 -- a frame of a round: its kind has no field of its own, and its numbers fit
-round-ranged : (kind : Kind) → originOf kind ≡ 0 → quantityOf kind ≡ 0 → (hour i j : ℕ) → hour < 256 ^ 4 → i < 256 → j < 256
+pub round-ranged : (kind : Kind) → originOf kind ≡ 0 → quantityOf kind ≡ 0 → (hour i j : ℕ) → hour < 256 ^ 4 → i < 256 → j < 256
     → Ranged (roundFrame kind hour i j)
 round-ranged kind o q hour i j h l m =
     record {

@@ -1,22 +1,18 @@
 -- The gateways, the frames under way and the run's counters beside a world of the theory: what a call of a round makes of both.
 use mathlib.Core.Path.{_≡_, refl, sym, _∙_, ap, subst}
 use mathlib.Core.Logic.{_≢_}
-use mathlib.Core.Bool.{Bool, true, false, cond, _&&_, _||_}
-use mathlib.Core.List.{List, [], _∷_, _++_, map}
-use Prim.Native.Nat.{ℕ, zero, suc, _+_, _-_, _≤_, _<_, min, max}
+use mathlib.Core.Bool.{true, cond}
+use mathlib.Core.List.{List, _++_}
+use Prim.Native.Nat.{ℕ, suc, _+_, _-_, _≤_, min, max}
 use native.Mathlib.Omega.{arith}
 use lib.Dec.{eqb}
 use lib.ListN.{length}
-use Rattle.model.specs.Messages.{kindNumber}
-use Rattle.frame.specs.Reasons.{reading}
-use Rattle.frame.specs.Writing.{written}
-use Rattle.frame.specs.declared.Frame.{Frame}
 use Rattle.memory.specs.Records.{Gateway}
 use Rattle.gateway.specs.Effects.{Effect, withAgreed, withRound, noted}
 use Rattle.gateway.specs.Rounds.{begun, oneStart, oneLvt, bitOf, isIdle, valueIn, frames, children}
 use Rattle.model.specs.declared.Kind.the-variants.{Update}
 use Rattle.routing.specs.Arcs.{from, to}
-use Rattle.timewarp.specs.Lists.{All, nil, cons, Insert}
+use Rattle.timewarp.specs.Lists.{Insert}
 use Rattle.timewarp.specs.Families.{change}
 use Rattle.timewarp.specs.Models.{Model}
 use Rattle.timewarp.specs.RoundSteps
@@ -24,16 +20,20 @@ use Rattle.timewarp.specs.RoundSteps.{RoundFrame, start, lvt, update}
 use Rattle.timewarp.specs.Worlds
 use Rattle.timewarp.specs.Worlds.{Steps, none}
 use Rattle.timewarp.proofs.FamilyLaws.{Changed, at, off, change?}
+use Rattle.timewarp.proofs.ListLaws.{all-taken, tally-insert}
+use Rattle.timewarp.proofs.RoundFrames.{startOn, both-is}
+use Rattle.timewarp.proofs.RoundArcs.{StateOf}
+use Rattle.timewarp.proofs.RoundArcs
+use Rattle.timewarp.proofs.RoundCarried.{of-start, of-lvt}
 use Rattle.timewarp.proofs.Joined.{Good}
 use Rattle.run.specs.World
-use Rattle.run.specs.World.{Carried, carry, roundFrames, kindIn}
 use Rattle.run.proofs.FigureGraph.{figureGraph}
 use Rattle.run.proofs.Standing.{Standings, StandingAt, lower-standings}
 use Rattle.run.proofs.RoundCounters.{Counted, lower-counted}
 use Rattle.run.proofs.RoundChains
 use Rattle.run.proofs.RoundChains.{change-same}
 use Rattle.run.proofs.RoundCalls
-use Rattle.run.proofs.RoundsUnderWay.{roundsIn, roundsOf, Readable, rounds-carried}
+use Rattle.run.proofs.RoundsUnderWay.{roundsOf}
 
 -- a family changed at one place, seen through a function
 pub change-seen : {A B : Type 0} (f : A → B) (i : ℕ) (v : A) (fam : ℕ → A) (k : ℕ) → change i (f v) (λ j. f (fam j)) k ≡ f (change i v fam k)
@@ -68,7 +68,7 @@ module _ (n : ℕ) (some : 1 ≤ n) (M : Model) (equal : n - 1 ≡ M .last) wher
     Now = RoundChains.Now n some M equal w k (λ j. gs j .round) (λ j. gs j .agreed) i inside (gs i .round) (gs i .agreed)
 
     -- at the beginning of the call
-    entering : {underWay : List RoundFrame} {c : World.Rounds} → Alike gs underWay c (w .rounds) → Now c (w .rounds)
+    pub entering : {underWay : List RoundFrame} {c : World.Rounds} → Alike gs underWay c (w .rounds) → Now c (w .rounds)
     entering a =
         record {
           steps = none;
@@ -77,6 +77,29 @@ module _ (n : ℕ) (some : 1 ≤ n) (M : Model) (equal : n - 1 ≡ M .last) wher
           counted = a .counted;
           unfinished = a .unfinished;
         }
+
+    -- the round is open while a Start or an Lvt of it is under way
+    module _ {underWay : List RoundFrame} {c : World.Rounds} (h : Alike gs underWay c (w .rounds)) (rest : List RoundFrame) where
+      open-by : (j : ℕ) → j ≤ n - 1 → 1 ≤ w .rounds .status j → c .open? ≡ true
+      open-by = RoundChains.open-by n some M equal w k (λ j. gs j .round) (λ j. gs j .agreed) i inside (entering h)
+
+      pub open-by-start : (j t : ℕ) → Insert (start j i t) rest underWay → c .open? ≡ true
+      unfolding startOn
+      open-by-start j t x =
+          let y = subst (Insert (start j i t) rest) (h .frames) x in
+          let a = of-start (all-taken y (k .rounds-sound .carried)) .0 in
+          open-by j (omega (arith, figureGraph n some .upward j i a)) (begins y (k .rounds-sound .arcs j i a))
+        where
+          begins : Insert (start j i t) rest (w .rounds .frames) → StateOf (figureGraph n some) (w .rounds .status) (w .rounds .mark) (w .rounds .arrived) (w .rounds .frames) j i → 1 ≤ w .rounds .status j
+          begins y (RoundArcs.fresh p) = omega (arith, tally-insert (startOn j i) y, both-is j i j i refl refl)
+          begins y (RoundArcs.begun p) = omega arith
+          begins y (RoundArcs.back p) = omega arith
+
+      pub open-by-lvt : (j t v : ℕ) → Insert (lvt j i t v) rest underWay → c .open? ≡ true
+      open-by-lvt j t v x =
+          let y = subst (Insert (lvt j i t v) rest) (h .frames) x in
+          let (a, s, e, d) = of-lvt (all-taken y (k .rounds-sound .carried)) in
+          open-by j (omega (arith, figureGraph n some .upward i j a)) (omega arith)
 
     -- and at its end
     leaving : {e : Effect} {c : World.Rounds} {underWay : List RoundFrame} {t : ℕ}

@@ -1,10 +1,10 @@
 -- The frames of a round that are under way, as the theory has them.
 use mathlib.Core.Path.{_≡_, refl, sym, _∙_, ap, subst}
 use mathlib.Core.Bool.{Bool, true, false, cond, _||_, false≢true}
-use mathlib.Core.List.{List, [], _∷_, _++_, map, append-assoc, append-nil}
-use Prim.Native.Nat.{ℕ, zero, suc, _+_, _*_, _-_, _≤_, _<_}
+use mathlib.Core.List.{List, [], _∷_, _++_, map, append-assoc}
+use Prim.Native.Nat.{ℕ, suc, _+_, _*_, _-_, _≤_}
 use native.Mathlib.Omega.{arith}
-use lib.Dec.{eqb, leb, ltb, leb·suc-suc}
+use lib.Dec.{leb, ltb, leb·suc-suc}
 use Rattle.model.specs.declared.Message.{Message}
 use Rattle.model.specs.declared.Kind.{Kind}
 use Rattle.model.specs.declared.Kind.the-variants.{Failure, Request, Delivery, Restock, Start, Lvt, Update}
@@ -14,11 +14,12 @@ use Rattle.frame.specs.declared.Frame.{Frame}
 use Rattle.buffer.proofs.Equality.{same-bytes}
 use Rattle.memory.specs.declared.Settings.{Settings}
 use Rattle.gateway.specs.Taking.{any, withoutFirst}
-use Rattle.gateway.specs.Rounds.{roundFrame, frames, children}
+use Rattle.gateway.specs.Rounds.{frames, children}
 use Rattle.timewarp.specs.Lists.{All, nil, cons, Insert, here, there}
 use Rattle.timewarp.specs.Arcs
 use Rattle.timewarp.specs.RoundSteps.{RoundFrame, start, lvt, update}
-use Rattle.run.specs.World.{Carried, isFrame, tagOf, carry}
+use Rattle.timewarp.proofs.ListLaws.{all-append, all-image}
+use Rattle.run.specs.World.{Carried, isFrame, tagOf, carry, kindIn}
 
 -- a frame of round t as a frame of the theory, if it is one of a round
 abbrev pub byKind : ℕ → Message → Kind → List RoundFrame
@@ -130,3 +131,30 @@ round-left frame (c ∷ cs) n = go (isFrame frame c) refl (round-left frame cs n
         let bytes : frame ≡ c .frame = same-bytes frame (c .frame) d in
         rw (← bytes, n (c .tag - 1)) refl
     go false d rest = ap (λ l. roundOf (c .tag - 1) (reading (c .frame) .frame) ++ l) rest
+
+-- a frame of a round has a round's number
+abbrev pub Numbered : Carried → Type 0
+Numbered c = 4 ≤ kindIn (c .frame) → 1 ≤ c .tag
+
+-- what all under way have, the rest have, and with frames that have it all have it
+pub carried-rest : {p : Carried → Type 0} (test : Carried → Bool) {cs : List Carried} → All p cs → All p (withoutFirst test cs)
+unfolding withoutFirst
+carried-rest test nil = nil
+carried-rest {p} test (cons {a = c} {l = cs} h a) = go (test c) (carried-rest test a)
+  where
+    go : (b : Bool) → All p (withoutFirst test cs) → All p (cond b cs (c ∷ withoutFirst test cs))
+    go true rest = a
+    go false rest = cons h rest
+
+pub carried-more : {p : Carried → Type 0} (tag : ℕ) {fs : List Frame} → All (λ f. p (tagged tag (written f))) fs → {cs : List Carried} → All p cs → All p (carry tag (map written fs) cs)
+carried-more tag {fs} a b = all-append b (all-image (tagged tag) (all-image written a))
+
+-- so the oldest equal frame has one
+pub number-found : (frame : List ℕ) → 4 ≤ kindIn frame → {cs : List Carried} → All Numbered cs → any (isFrame frame) cs ≡ true → 1 ≤ tagOf frame cs
+unfolding any tagOf
+number-found frame k nil h = absurd (false≢true h)
+number-found frame k (cons {a = c} {l = cs} n a) h = go (isFrame frame c) refl (number-found frame k a) h
+  where
+    go : (b : Bool) → isFrame frame c ≡ b → (any (isFrame frame) cs ≡ true → 1 ≤ tagOf frame cs) → (b || any (isFrame frame) cs) ≡ true → 1 ≤ cond b (c .tag) (tagOf frame cs)
+    go true d rest e = n (subst (λ f. 4 ≤ kindIn f) (same-bytes frame (c .frame) d) k)
+    go false d rest e = rest e

@@ -1,14 +1,14 @@
 -- The states that a queue has saved are those to which the history led.
-use mathlib.Core.Path.{_≡_, refl, sym, _∙_, ap, subst}
+use mathlib.Core.Path.{_≡_, refl, sym, _∙_}
 use Prim.Native.Nat.{ℕ}
-use mathlib.Core.Bool.{Bool, true, false, cond, true≢false, false≢true}
+use mathlib.Core.Bool.{Bool, true, false, cond, true≢false}
 use mathlib.Core.List.{List, [], _∷_, _++_, map}
 use Rattle.model.specs.declared.Message.{Message}
 use Rattle.model.specs.declared.State.{State}
 use Rattle.memory.specs.Validity.{isProcessed}
 use Rattle.memory.specs.declared.Entry.{Entry}
 use Rattle.gateway.specs.Undoing.{processedOf, undone, restored}
-use Rattle.timewarp.specs.Models.{Model, stateAfter}
+use Rattle.timewarp.specs.Models.{stateAfter}
 use Rattle.run.specs.SingleQueue.{SetUp}
 use Rattle.run.proofs.ForecastModel.{forecastModel}
 use Rattle.run.proofs.QueueViews.{doneWith, doneAfter, Marked, marked, pending, processed, waiting}

@@ -2,10 +2,9 @@
 use mathlib.Core.Path.{_≡_, refl, sym, _∙_, ap, ap₂, subst}
 use Prim.Native.Nat.{ℕ, zero, suc, _+_, _-_, _≤_, _<_}
 use native.Mathlib.Omega.{arith}
-use native.Mathlib.Numerals.{add-one}
-use mathlib.Core.Bool.{Bool, true, false, cond, not, _&&_}
-use mathlib.Core.List.{List, [], _∷_, _++_, map, append-assoc, append-nil}
-use lib.Dec.{ltb, eqb}
+use mathlib.Core.Bool.{Bool, true, false, cond, not}
+use mathlib.Core.List.{List, [], _∷_, _++_, append-assoc, append-nil}
+use lib.Dec.{eqb}
 use lib.ListN.{length}
 use borrow.Author.Tests.{eqb-true}
 use Rattle.model.specs.Doing.{after, sent}
@@ -17,16 +16,15 @@ use Rattle.model.specs.declared.Site.{Site}
 use Rattle.model.proofs.Sending.{sending}
 use Rattle.frame.specs.Limits.{nothingDue}
 use Rattle.memory.specs.Validity.{later, isAfter}
-use Rattle.memory.proofs.Validated.{and-left}
-use Rattle.timewarp.specs.Lists.{All, nil, cons, Insert, tally, count, matches}
+use Rattle.timewarp.specs.Lists.{All, tally, count, matches}
 use Rattle.timewarp.specs.Models.{Model, NotLater, stateAfter, sentBy}
 use Rattle.timewarp.specs.Families as Families
 use Rattle.timewarp.specs.SingleQueue as Theory
 use Rattle.timewarp.proofs.ListLaws.{all-insert, all-rest, all-taken, all-append, all-both, tally-insert, tally-append, matches-same, count-nil, count-cons, count-append, count-insert, all-count}
 use Rattle.timewarp.proofs.OrderLaws.{order-refl, order-antisym, message-eq}
 use Rattle.timewarp.proofs.QueueLaws.{first-taken, first-least, queue-ends}
-use Rattle.run.specs.Lines.{change, together}
-use Rattle.run.specs.SingleQueue.{SetUp, openingMessages, siteFor, Queue, openingQueue, earliest, others, recordFor, doOne, stepOn, steps, turnsFor, wholeRecord}
+use Rattle.run.specs.Lines.{change}
+use Rattle.run.specs.SingleQueue.{SetUp, siteFor, Queue, openingQueue, earliest, others, recordFor, doOne, stepOn, steps, turnsFor, wholeRecord}
 use Rattle.run.proofs.EventOrders.{keys-agree}
 use Rattle.run.proofs.ForecastModel.{forecastModel, siteAt, sendsAt, sends-all-sent, sends-origins}
 use Rattle.run.proofs.SavedStates.{stateAt}
@@ -262,7 +260,7 @@ module _ (n last : ℕ) (setups : ℕ → SetUp) where
     unfolding stepOn turnsFor
     none-left q e = rw e
 
-    steps-end : (turns : ℕ) (q : Queue) (t : Theory.Queue Message) → Agree q t → turnsFor last (q .list) ≤ turns → steps setups turns q .list ≡ []
+    pub steps-end : (turns : ℕ) (q : Queue) (t : Theory.Queue Message) → Agree q t → turnsFor last (q .list) ≤ turns → steps setups turns q .list ≡ []
     unfolding steps
     steps-end zero q t a h = by-case (q .list) h
       where

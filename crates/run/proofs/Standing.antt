@@ -1,9 +1,8 @@
 -- Where the gateways stand in a round: what their memories keep of it, and what the theory says of the same gateways.
 use mathlib.Core.Path.{_≡_, refl, sym, _∙_, ap, subst}
 use mathlib.Core.Logic.{_≢_}
-use mathlib.Core.Bool.{Bool, true, false, cond}
-use mathlib.Core.List.{List, [], _∷_}
-use Prim.Native.Nat.{ℕ, zero, suc, _+_, _*_, _≤_, _<_, min}
+use mathlib.Core.Bool.{Bool}
+use Prim.Native.Nat.{ℕ, suc, _+_, _≤_, _<_, min}
 use native.Mathlib.Omega.{arith}
 use lib.Dec.{eqb}
 use Rattle.memory.specs.declared.Round.{Round}
@@ -12,9 +11,9 @@ use Rattle.memory.specs.declared.Phase.the-variants.{Idle, Counting, Stopped}
 use Rattle.gateway.specs.Rounds.{bitOf}
 use Rattle.gateway.specs.Effects.{loweredIn}
 use Rattle.timewarp.specs.Families.{change, put}
-use Rattle.timewarp.specs.Arcs.{Graph, Arc, times}
+use Rattle.timewarp.specs.Arcs.{Graph, Arc}
 use Rattle.timewarp.specs.RoundSteps.{idle, counting, stopped, finished, noted}
-use Rattle.timewarp.proofs.FamilyLaws.{Same, same, other, same?, Changed, at, off, change?, change-at, change-off, Put, put?, put-at, put-off}
+use Rattle.timewarp.proofs.FamilyLaws.{Changed, at, off, change?, change-at, change-off, Put, put?, put-at, put-off}
 use Rattle.run.proofs.ArrivalBits.{bitsOf, howMany, alike, one-more, none-in}
 
 -- the Starts that have come to i, and the Lvts

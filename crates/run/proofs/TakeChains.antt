@@ -1,22 +1,17 @@
 -- Taking an event or an acknowledgment that is under way: what it comes to, beside the theory's world and the ledger.
-use mathlib.Core.Path.{_≡_, refl, sym, _∙_, ap, subst}
-use Prim.Native.Nat.{ℕ, _-_, _≤_, _<_}
-use mathlib.Core.Bool.{Bool, true, false, cond}
-use mathlib.Core.List.{List, [], _∷_, _++_, map}
+use mathlib.Core.Path.{_≡_, refl, _∙_, ap}
+use Prim.Native.Nat.{ℕ}
+use mathlib.Core.Bool.{Bool, true, false}
+use mathlib.Core.List.{List}
 use Rattle.model.specs.declared.Message.{Message}
-use Rattle.frame.specs.Reasons.{reading}
-use Rattle.frame.specs.Writing.{written}
-use Rattle.frame.specs.declared.Frame.{Frame}
 use Rattle.memory.specs.Records.{Gateway}
-use Rattle.memory.specs.declared.Round.{Round}
 use Rattle.memory.proofs.Validated.{valid-facts}
-use Rattle.gateway.specs.Effects.{bytesOfFrames}
 use Rattle.gateway.specs.Undoing.{processedOf}
 use Rattle.gateway.specs.Taking.{any, behind, fromLast, isCancelOf, isPlain, takePlain, takeCancel}
-use Rattle.gateway.proofs.Maintaining.{Proper, Kept}
+use Rattle.gateway.proofs.Maintaining.{Kept}
 use Rattle.run.specs.SingleQueue.{SetUp}
 use Rattle.run.proofs.SavedStates.{Saved}
-use Rattle.run.proofs.EventCalls.{Stands, notedAll, rolled, plainBack, plain-saved, cancelBack, cancel-saved}
+use Rattle.run.proofs.EventCalls.{Stands, notedAll, rolled, plainBack, cancelBack}
 
 module _ (n last : ℕ) (setups : ℕ → SetUp) (i : ℕ) (c : List Message) (g : Gateway) (st : Stands n last setups i c g) where
   -- a gateway that a call left stands as before

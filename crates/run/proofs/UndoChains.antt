@@ -1,26 +1,24 @@
 -- Undoing is a chain of steps.
-use mathlib.Core.Path.{_≡_, refl, sym, _∙_, ap, subst}
+use mathlib.Core.Path.{_≡_, refl, subst}
 use Prim.Native.Nat.{ℕ, _<_}
-use mathlib.Core.Bool.{Bool, true, false, cond}
 use mathlib.Core.List.{List, [], _∷_, _++_, map, append-assoc, append-nil, map-append}
 use Rattle.model.specs.Doing.{sent}
 use Rattle.model.specs.Messages.{originOf}
 use Rattle.model.specs.declared.Message.{Message}
 use Rattle.model.specs.declared.State.{State}
-use Rattle.memory.specs.Validity.{isProcessed}
 use Rattle.memory.specs.declared.Entry.{Entry}
-use Rattle.gateway.specs.Undoing.{processedOf, undone, sentBack, pendingEntry}
+use Rattle.gateway.specs.Undoing.{processedOf, undone, sentBack}
 use Rattle.gateway.specs.Working.{pendingOf}
-use Rattle.timewarp.specs.Lists.{All, nil, cons, Insert, Inserts}
+use Rattle.timewarp.specs.Lists.{All, cons, Insert, Inserts}
 use Rattle.timewarp.specs.Models.{Model, NotLater, stateAfter, sentBy}
 use Rattle.timewarp.specs.Gateways.{Event, cancel, message, gatewayOf, networkOf}
-use Rattle.timewarp.specs.EventSteps.{EventStep, undoes}
+use Rattle.timewarp.specs.EventSteps.{undoes}
 use Rattle.timewarp.proofs.ListLaws.{insert-between, inserts-back}
 use Rattle.timewarp.proofs.CallChains.{insert-append}
 use Rattle.run.specs.SingleQueue.{SetUp}
-use Rattle.run.proofs.ForecastModel.{forecastModel, siteAt, sendsAt, sends-all-sent}
+use Rattle.run.proofs.ForecastModel.{forecastModel, siteAt, sendsAt}
 use Rattle.run.proofs.QueueViews.{doneWith, doneAfter, Marked, marked, pending, processed, waiting}
-use Rattle.run.proofs.SavedStates.{Saved, at-end, entry}
+use Rattle.run.proofs.SavedStates.{Saved, entry}
 use Rattle.run.proofs.LocalChains.{Chain, none, then}
 
 -- cancels put behind others

@@ -1,13 +1,12 @@
 -- Work is a chain of steps: as many events as it counts, one after another.
-use mathlib.Core.Path.{_≡_, refl, sym, _∙_, ap, ap₂, subst}
-use Prim.Native.Nat.{ℕ, zero, suc, _-_, _≤_, _<_}
+use mathlib.Core.Path.{_≡_, refl, sym, _∙_, ap, subst}
+use Prim.Native.Nat.{ℕ, zero, suc, _-_, _≤_}
 use mathlib.Core.Bool.{Bool, true, false, cond}
 use mathlib.Core.List.{List, [], _∷_, _++_, map, append-assoc, append-nil, map-append, List·Memᴰ·head as member-first}
 use lib.ListN.{length}
 use Rattle.routing.specs.Arcs.{_∈_}
 use Rattle.model.specs.Doing.{sent}
 use Rattle.model.specs.declared.Message.{Message}
-use Rattle.frame.specs.Claims.{OneToOne}
 use Rattle.frame.specs.Writing.{written}
 use Rattle.frame.specs.declared.Frame.{Frame}
 use Rattle.memory.specs.Records.{Gateway, siteOf}
@@ -15,25 +14,26 @@ use Rattle.memory.specs.Validity.{isWaiting}
 use Rattle.memory.specs.declared.Entry.{Entry}
 use Rattle.memory.specs.declared.Round.{Round}
 use Rattle.memory.proofs.Validated.{valid-facts}
-use Rattle.gateway.specs.Effects.{bytesOfFrames, fits, noted, framesFor}
+use Rattle.gateway.specs.Effects.{bytesOfFrames, fits, noted}
 use Rattle.gateway.specs.Working.{Progress, stopped, onceMore, workedBy, worked, done, pendingOf}
 use Rattle.gateway.proofs.Maintaining.{Proper}
-use Rattle.gateway.proofs.Keeps.{WorkEnds, work-keeps}
+use Rattle.gateway.proofs.Keeps.{work-keeps}
 use Rattle.gateway.proofs.Replies.{Good}
 use Rattle.gateway.proofs.Searches.{pending-member}
 use Rattle.timewarp.specs.Lists.{All, nil}
 use Rattle.timewarp.specs.Arcs.{Graph}
 use Rattle.timewarp.specs.Worlds.{World, none, lowerAll}
-use Rattle.timewarp.proofs.ListLaws.{all-append}
+use Rattle.timewarp.proofs.ListLaws.{all-append, all-map}
 use Rattle.run.specs.SingleQueue.{SetUp}
 use Rattle.run.specs.Ledger as Ledger
 use Rattle.run.specs.Ledger.{didOne, didSome}
 use Rattle.run.specs.World.{Carried, carry}
-use Rattle.run.proofs.LocalChains.{Led, led-join, lower-agreed}
+use Rattle.run.proofs.LocalChains.{led-join, lower-agreed}
 use Rattle.run.proofs.EventCalls.{Stands, notedAll, did, done-saved}
 use Rattle.run.proofs.Ledgers.{Follows, did-follows}
-use Rattle.run.proofs.ReadableFrames.{sent-readable}
-use Rattle.run.proofs.EventWorlds.{settingOf, Sees, GoesOn, AllReadable, networkIn, done-goes}
+use Rattle.run.proofs.ReadableFrames.{EventFrame, same-limits, frames-hours, sent-frames}
+use Rattle.run.proofs.EventWorlds.{settingOf, Sees, GoesOn, networkIn, done-goes}
+use Rattle.run.proofs.EventResults.{CallResult}
 
 -- frames put under way in two goes
 pub carry-append : (tag : ℕ) (fs hs : List Frame) (cs : List Carried) → carry tag (map written hs) (carry tag (map written fs) cs) ≡ carry tag (map written (fs ++ hs)) cs
@@ -51,18 +51,10 @@ unfolding notedAll
 noted-append [] ks r = refl
 noted-append (m ∷ ms) ks r = noted-append ms ks (noted (m .hour) r)
 
-module _ (one : OneToOne) (n last : ℕ) (setups : ℕ → SetUp) (G : Graph) (same : G .last ≡ n - 1) (i : ℕ) (inside : i ≤ n - 1) (c : List Message) (tag : ℕ) where
+module _ (n last : ℕ) (setups : ℕ → SetUp) (G : Graph) (same : G .last ≡ n - 1) (i : ℕ) (inside : i ≤ n - 1) (c : List Message) (tag : ℕ) where
   -- what work comes to
-  pub record WorkGoes (w : World (settingOf n last setups G same)) (g : Gateway) (cs : List Carried) (l : Ledger.Ledger) (p : Progress) : Type 1 where
-    pub frames : List Frame
-    pub bytes : bytesOfFrames frames ≡ p .output
-    pub readable : AllReadable frames
-    pub sends : List Message
-    pub goes : GoesOn n last setups G same w i sends c (p .gateway) (carry tag (map written frames) cs)
-    pub stands : Stands n last setups i c (p .gateway)
-    pub follows : Follows n last setups (p .gateway .queue) (didSome (p .count) l)
-    pub round : p .gateway .round ≡ notedAll sends (g .round)
-    pub agreed : p .gateway .agreed ≡ g .agreed
+  abbrev pub WorkGoes : World (settingOf n last setups G same) → Gateway → List Carried → Ledger.Ledger → Progress → Type 1
+  WorkGoes w g cs l p = CallResult n last setups G same i w c g tag cs (p .gateway) (p .output) (didSome (p .count) l)
 
   module _ (w : World (settingOf n last setups G same)) (g : Gateway) (cs : List Carried) (l : Ledger.Ledger) (st : Stands n last setups i c g) (sees : Sees n last setups G same w i c g cs) (follows : Follows n last setups (g .queue) l) where
     -- no event is done
@@ -72,8 +64,9 @@ module _ (one : OneToOne) (n last : ℕ) (setups : ℕ → SetUp) (G : Graph) (s
         record {
           frames = [];
           bytes = refl;
-          readable = nil;
+          are-events = nil;
           sends = [];
+          timely = nil;
           goes = record { world = w; steps = none; here = sees .view; elsewhere = λ j e. refl; network = sees .network ∙ ap networkIn (sym (append-nil cs)); rounds = refl };
           stands = st;
           follows = follows;
@@ -82,17 +75,18 @@ module _ (one : OneToOne) (n last : ℕ) (setups : ℕ → SetUp) (G : Graph) (s
         }
 
     -- one is, and the rest follows
-    more-goes : (m : Message) (ms : List Message) → pendingOf (g .queue) ≡ m ∷ ms → (readable : AllReadable (done m g .frames)) → (first : GoesOn n last setups G same w i (sent (siteOf (g .settings)) (g .state) m) c (done m g .gateway) (carry tag (map written (done m g .frames)) cs)) →
+    more-goes : (m : Message) (ms : List Message) → pendingOf (g .queue) ≡ m ∷ ms → All (EventFrame n last) (done m g .frames) → (first : GoesOn n last setups G same w i (sent (siteOf (g .settings)) (g .state) m) c (done m g .gateway) (carry tag (map written (done m g .frames)) cs)) →
         (p : Progress) → WorkGoes (first .world) (done m g .gateway) (carry tag (map written (done m g .frames)) cs) (record { items = didOne (l .items); cancels = l .cancels }) p →
         WorkGoes w g cs l (onceMore (bytesOfFrames (done m g .frames)) p)
-    unfolding didSome
+    unfolding didSome done
     more-goes m ms k r first p q =
         let t = sent (siteOf (g .settings)) (g .state) m in
         record {
           frames = done m g .frames ++ q .frames;
           bytes = bytes-append (done m g .frames) (q .frames) ∙ ap (λ b. bytesOfFrames (done m g .frames) ++ b) (q .bytes);
-          readable = all-append r (q .readable);
+          are-events = all-append r (q .are-events);
           sends = t ++ q .sends;
+          timely = all-append (frames-hours false t r) (q .timely);
           goes =
               subst (λ d. GoesOn n last setups G same w i (t ++ q .sends) c (p .gateway) d) (carry-append tag (done m g .frames) (q .frames) cs)
               (led-join (settingOf n last setups G same) first (q .goes));
@@ -106,13 +100,14 @@ module _ (one : OneToOne) (n last : ℕ) (setups : ℕ → SetUp) (G : Graph) (s
   held-good : (g : Gateway) → Proper g → (m : Message) (ms : List Message) → pendingOf (g .queue) ≡ m ∷ ms → (e : Entry) × (e ∈ g .queue) × (m ≡ e .message)
   held-good g p m ms k = pending-member (g .queue) m (subst (λ l. m ∈ l) (sym k) (member-first refl))
 
-  done-readable : (g : Gateway) → Proper g → (m : Message) (ms : List Message) → pendingOf (g .queue) ≡ m ∷ ms → AllReadable (done m g .frames)
+  done-frames : (g : Gateway) → Stands n last setups i c g → Proper g → (m : Message) (ms : List Message) → pendingOf (g .queue) ≡ m ∷ ms → All (EventFrame n last) (done m g .frames)
   unfolding done
-  done-readable g p m ms k =
+  done-frames g st p m ms k =
       let v = valid-facts g (p .valid) in
       let r = held-good g p m ms k in
       let good : Good (g .settings) (isWaiting (r .0)) (r .0 .message) = record { storable = v .entries (r .0) (r .1) .message; ranged = p .ranged .queue (r .0) (r .1) .message } in
-      sent-readable one (g .settings) (v .settings) m (subst (Good (g .settings) (isWaiting (r .0))) (sym (r .2)) good) false (g .state)
+      all-map (λ f e. same-limits (st .count) (st .until) e)
+      (sent-frames (g .settings) (v .settings) m (subst (Good (g .settings) (isWaiting (r .0))) (sym (r .2)) good) false (g .state))
 
   -- doing an event is work of one event
   done-once : (g : Gateway) (m : Message) (ms : List Message) → pendingOf (g .queue) ≡ m ∷ ms → (room : ℕ) → fits room (done m g) ≡ true → worked 1 room g .gateway ≡ done m g .gateway
@@ -152,10 +147,10 @@ module _ (one : OneToOne) (n last : ℕ) (setups : ℕ → SetUp) (G : Graph) (s
       once : (m : Message) (ms : List Message) → pendingOf (g .queue) ≡ m ∷ ms → (t : Bool) → fits room (done m g) ≡ t → Again → WorkGoes w g cs l (cond t (rest m) (stopped 5 g))
       once m ms k true h again =
           let proper = done-proper g p m ms k room h in
-          let readable = done-readable g p m ms k in
+          let are-events = done-frames g st p m ms k in
           let d = did n last setups i c g st m in
-          let first = done-goes n last setups G same w i inside c g st cs sees m ms k readable tag in
-          more-goes w g cs l st sees follows m ms k readable first (worked b (room - length (bytesOfFrames (done m g .frames))) (done m g .gateway))
+          let first = done-goes n last setups G same w i inside c g st cs sees m ms k (all-map (λ f e. e .readable) are-events) tag in
+          more-goes w g cs l st sees follows m ms k are-events first (worked b (room - length (bytesOfFrames (done m g .frames))) (done m g .gateway))
           (again (room - length (bytesOfFrames (done m g .frames))) (first .world) (done m g .gateway) (carry tag (map written (done m g .frames)) cs) (record { items = didOne (l .items); cancels = l .cancels })
           proper
           (done-stands g st m ms k proper)

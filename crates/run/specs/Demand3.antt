@@ -1,15 +1,14 @@
 -- Demand 3: one claim about every list of calls and every order and delay of the carrier.
 use mathlib.Core.Path.{_≡_}
-use Prim.Native.Nat.{ℕ, suc, _+_, _*_, _-_, _≤_, _<_}
-use mathlib.Core.Bool.{true, cond}
-use mathlib.Core.List.{List, [], _∷_, _++_, List·Memᴰ}
+use Prim.Native.Nat.{ℕ, _+_, _*_, _-_, _≤_, _<_}
+use mathlib.Core.Bool.{true}
+use mathlib.Core.List.{List, _++_, List·Memᴰ}
 use Rattle.buffer.specs.Slice.{Bytes}
 use Rattle.routing.specs.Arcs.{arcCount}
 use Rattle.model.specs.declared.Message.{Message}
 use Rattle.frame.specs.Limits.{nothingDue}
 use Rattle.frame.specs.Reasons.{reading}
 use Rattle.gateway.specs.Calls.{committed, setUp, agreedTime}
-use Rattle.gateway.specs.declared.Opening.{Opening}
 use Rattle.run.specs.Lines.{Beginning}
 use Rattle.run.specs.SingleQueue.{SetUp, wholeRecord}
 use Rattle.run.specs.Ledger.{waiting}

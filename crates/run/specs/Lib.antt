@@ -4,3 +4,5 @@ pub mod SingleQueue
 pub mod Ledger
 pub mod World
 pub mod Demand3
+pub mod Further
+pub mod ExampleRun

@@ -1,6 +1,6 @@
 -- N gateways, what is under way between them, and what each call does to all of it.
 use mathlib.Core.Path.{_≡_}
-use Prim.Native.Nat.{ℕ, zero, suc, _+_, _<_}
+use Prim.Native.Nat.{ℕ, suc, _+_, _<_}
 use mathlib.Core.Bool.{Bool, true, false, cond, _&&_, _||_}
 use mathlib.Core.List.{List, [], _∷_, _++_, map}
 use lib.Dec.{eqb, leb}
@@ -10,12 +10,11 @@ use Rattle.routing.specs.Arcs.{to}
 use Rattle.model.specs.Messages.{kindNumber}
 use Rattle.model.specs.declared.Message.{Message}
 use Rattle.frame.specs.Reasons.{reading}
-use Rattle.frame.specs.declared.Frame.{Frame}
 use Rattle.frame.specs.declared.Sense.{Sense}
 use Rattle.frame.specs.declared.Sense.the-variants.{Plain, Cancel, Acknowledgment, CancelAcknowledgment}
 use Rattle.gateway.specs.Taking.{any, withoutFirst}
 use Rattle.gateway.specs.SettingUp.{cutFrames}
-use Rattle.gateway.specs.Calls.{taken, started, committed, workedOff, setUp, agreedTime}
+use Rattle.gateway.specs.Calls.{taken, started, committed, workedOff, setUp}
 use Rattle.gateway.specs.declared.Opening.{Opening}
 use Rattle.run.specs.Lines.{change}
 use Rattle.run.specs.SingleQueue.{SetUp, openingMessages}

@@ -10,8 +10,8 @@ returns c = search put-none
 round-frame-requires : tie.Need-round-frame-requires
 round-frame-requires c κs = search needs
 
-put-requires : tie.Need-put-requires
-put-requires c κs = search first-room
+put-frame-requires : tie.Need-put-frame-requires
+put-frame-requires c κs = search first-room
 
 same-length : tie.Need-same-length
 same-length c = search needs
@@ -22,8 +22,8 @@ returns-2 c = search put-one
 round-frame-requires-2 : tie.Need-round-frame-requires-2
 round-frame-requires-2 c κs = search needs
 
-put-requires-2 : tie.Need-put-requires-2
-put-requires-2 c κs = search second-room
+put-frame-requires-2 : tie.Need-put-frame-requires-2
+put-frame-requires-2 c κs = search second-room
 
 same-length-2 : tie.Need-same-length-2
 same-length-2 c = search needs
@@ -37,10 +37,10 @@ put-each-spec =
     (tie.spec
     returns
     round-frame-requires
-    put-requires
+    put-frame-requires
     same-length
     returns-2
     round-frame-requires-2
-    put-requires-2
+    put-frame-requires-2
     same-length-2
     returns-3)

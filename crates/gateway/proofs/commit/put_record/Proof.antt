@@ -10,17 +10,17 @@ perform-requires c κs = search needs
 frame-if-requires : tie.Need-frame-if-requires
 frame-if-requires c κs = search needs
 
-put-requires : tie.Need-put-requires
-put-requires c κs = frame-room (c .before .before .before .before .before .before .before .before .args .entry) (c .before .before .before .before .before .before .before .before .args .output .now) (c .before .before .before .before .before .before .before .before .pre) (c .frame-if .ensures)
+put-frame-requires : tie.Need-put-frame-requires
+put-frame-requires c κs = frame-room (c .before .before .before .before .before .before .before .before .args .entry) (c .before .before .before .before .before .before .before .before .args .output .now) (c .before .before .before .before .before .before .before .before .pre) (c .frame-if .ensures)
 
 write-state-requires : tie.Need-write-state-requires
-write-state-requires c κs = state-room (c .before .before .before .before .before .before .before .before .before .before .before .before .args .entry) (c .before .before .before .before .before .before .before .before .before .before .before .before .args .output .now) (c .before .before .before .before .before .before .before .before .before .before .before .before .pre) (c .before .before .before .before .frame-if .ensures) (c .before .before .before .put .ensures)
+write-state-requires c κs = state-room (c .before .before .before .before .before .before .before .before .before .before .before .before .args .entry) (c .before .before .before .before .before .before .before .before .before .before .before .before .args .output .now) (c .before .before .before .before .before .before .before .before .before .before .before .before .pre) (c .before .before .before .before .frame-if .ensures) (c .before .before .before .put-frame .ensures)
 
 same-length : tie.Need-same-length
 same-length c = search needs
 
 returns : tie.Need-returns
-returns c = record-put (c .before .before .before .before .before .before .before .before .before .before .before .before .before .before .before .args .entry) (c .before .before .before .before .before .before .before .before .before .before .before .before .before .before .before .args .output .now) (c .before .before .before .before .before .before .before .before .before .before .before .before .before .before .before .pre) (c .before .before .before .before .before .before .before .frame-if .ensures) (c .before .before .before .before .before .before .put .ensures) (c .before .before .before .before .before .before .before .before .before .before .perform .ensures) (c .before .before .write-state .ensures)
+returns c = record-put (c .before .before .before .before .before .before .before .before .before .before .before .before .before .before .before .args .entry) (c .before .before .before .before .before .before .before .before .before .before .before .before .before .before .before .args .output .now) (c .before .before .before .before .before .before .before .before .before .before .before .before .before .before .before .pre) (c .before .before .before .before .before .before .before .frame-if .ensures) (c .before .before .before .before .before .before .put-frame .ensures) (c .before .before .before .before .before .before .before .before .before .before .perform .ensures) (c .before .before .write-state .ensures)
 
 pub put-record-spec : {M : Type 1} → statement M
 put-record-spec =
@@ -28,7 +28,7 @@ put-record-spec =
     (tie.spec
     perform-requires
     frame-if-requires
-    put-requires
+    put-frame-requires
     write-state-requires
     same-length
     returns)

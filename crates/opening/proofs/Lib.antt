@@ -1,0 +1,5 @@
+-- Laws and proofs of set up.
+pub mod FramePositions
+pub mod Checking
+pub mod Entering
+pub mod SetUpBranches

@@ -1,0 +1,44 @@
+-- The claims beyond demand 3.
+use mathlib.Core.Path.{_≡_, refl, sym, _∙_}
+use borrow.Author.Tests.{ne-eqb}
+use Rattle.gateway.specs.Calls.{taken, started, committed}
+use Rattle.run.specs.World.{World, Call, works, takes, starts, commits, setsUp, openingWorld, afterCall, afterCalls}
+use Rattle.run.specs.Further.{OnlyForRoom, SameRecords, DoesNothing, NothingChanged, AlwaysSound, SingleQueueEnds}
+use Rattle.run.proofs.FigureGraph.{figureGraph}
+use Rattle.run.proofs.OpeningWorlds.{queue-ends}
+use Rattle.run.proofs.RefusedCalls.{refused-frame, refused-start, refused-commit, refused-set-up, idle-work}
+use Rattle.run.proofs.FramesInTurn.{taken-or-room}
+use Rattle.run.proofs.Theorem.{claimed, reached-both}
+
+-- the records of two runs that are whole
+pub same-records : SameRecords
+same-records n last setups lent lent′ forecast forecast′ calls calls′ h h′ i l due nothing due′ nothing′ =
+    claimed n last setups lent forecast calls h .whole i l due nothing
+    ∙ sym (claimed n last setups lent′ forecast′ calls′ h′ .whole i l due′ nothing′)
+
+-- a call that is refused, or work that does no event
+pub nothing-changed : NothingChanged
+nothing-changed n last setups lent forecast calls h c d = by-call c d
+  where
+    w : World
+    w = afterCalls n (openingWorld setups lent) calls
+
+    by-call : (c : Call) → DoesNothing n w c → afterCall n w c ≡ w
+    by-call (works i b output) d =
+        idle-work n w i b output (reached-both n last setups lent forecast calls h .both .bytes i (d .0)) (d .1)
+    by-call (takes i frame output) d = refused-frame n w i frame output (ne-eqb (taken (w .memories i) frame output .answer .number) 0 d)
+    by-call (starts i output) d = refused-start n w i output (ne-eqb (started (w .memories i) output .answer .number) 0 d)
+    by-call (commits i output) d = refused-commit n w i output (ne-eqb (committed (w .memories i) output .answer .number) 0 d)
+    by-call (setsUp i opening list) d = refused-set-up n w i opening list d
+
+-- a frame under way at its addressee
+pub only-for-room : OnlyForRoom
+only-for-room n last setups lent forecast calls h c under output = taken-or-room n (forecast .some) last setups (reached-both n last setups lent forecast calls h .both) c under output
+
+-- every memory
+pub always-sound : AlwaysSound
+always-sound n last setups lent forecast calls h i l = reached-both n last setups lent forecast calls h .both .bytes i l
+
+-- the single queue
+pub single-queue-ends : SingleQueueEnds
+single-queue-ends n last setups lent forecast = queue-ends n last setups lent forecast (figureGraph n (forecast .some)) refl

@@ -1,0 +1,96 @@
+-- A refused call leaves the world as it was, and so does work that does no event.
+use mathlib.Core.Path.{_≡_, refl, _∙_, ap}
+use Prim.Native.Nat.{ℕ, zero, suc, _-_}
+use native.Mathlib.Omega.{arith}
+use mathlib.Core.Bool.{Bool, true, false, cond}
+use mathlib.Core.List.{List, [], _∷_, append-nil}
+use lib.Dec.{eqb}
+use lib.ListN.{length}
+use Rattle.model.specs.declared.Message.{Message}
+use Rattle.memory.specs.Records.{Gateway}
+use Rattle.memory.specs.Codec.{decode, encode}
+use Rattle.gateway.specs.SettingUp.{setUpRefusal, cutFrames}
+use Rattle.gateway.specs.Effects.{bytesOfFrames, fits}
+use Rattle.gateway.specs.Working.{Progress, stopped, onceMore, workedBy, worked, done, pendingOf}
+use Rattle.gateway.specs.Claims.{SoundBytes}
+use Rattle.gateway.specs.Calls.{setUp, taken, started, committed, workedOff}
+use Rattle.gateway.specs.declared.Opening.{Opening}
+use Rattle.run.specs.Lines.{change}
+use Rattle.run.specs.World.{World, works, takes, starts, commits, setsUp, afterWorking, afterCall}
+use Rattle.run.specs.Ledger.{didSome}
+use Rattle.run.proofs.BesideCalls.{change-self}
+use Rattle.run.proofs.HeldGateways.{held}
+
+-- set up that is refused leaves the memory
+pub set-up-refused : (o : Opening) (list memory : List ℕ) → (setUp o list memory .answer .number ≡ 0 → ⊥) → setUp o list memory .memory ≡ memory
+unfolding setUp
+set-up-refused o list memory h = by-case (eqb (setUpRefusal o (length memory) list) 0) refl
+  where
+    by-case : (t : Bool) → eqb (setUpRefusal o (length memory) list) 0 ≡ t → setUp o list memory .memory ≡ memory
+    by-case true p = absurd (h (rw p))
+    by-case false p = rw p
+
+pub refused-set-up : (n : ℕ) (w : World) (i : ℕ) (o : Opening) (list : List ℕ) → (setUp o list (w .memories i) .answer .number ≡ 0 → ⊥) → afterCall n w (setsUp i o list) ≡ w
+unfolding afterCall
+refused-set-up n w i o list h =
+    ap (λ (f : ℕ → List ℕ). record { memories = f; underWay = w .underWay; records = w .records; ledgers = w .ledgers; rounds = w .rounds })
+    (ap (λ (m : List ℕ). change i m (w .memories)) (set-up-refused o list (w .memories i) h) ∙ change-self i (w .memories))
+
+-- a refused frame, start call or commit
+pub refused-frame : (n : ℕ) (w : World) (i : ℕ) (frame output : List ℕ) → eqb (taken (w .memories i) frame output .answer .number) 0 ≡ false → afterCall n w (takes i frame output) ≡ w
+unfolding afterCall
+refused-frame n w i frame output h = rw h
+
+pub refused-start : (n : ℕ) (w : World) (i : ℕ) (output : List ℕ) → eqb (started (w .memories i) output .answer .number) 0 ≡ false → afterCall n w (starts i output) ≡ w
+unfolding afterCall
+refused-start n w i output h = rw h
+
+pub refused-commit : (n : ℕ) (w : World) (i : ℕ) (output : List ℕ) → eqb (committed (w .memories i) output .answer .number) 0 ≡ false → afterCall n w (commits i output) ≡ w
+unfolding afterCall
+refused-commit n w i output h = rw h
+
+-- work that does no event leaves the gateway and writes nothing
+record NoEvent (g : Gateway) (p : Progress) : Type 0 where
+  gateway : p .gateway ≡ g
+  output : p .output ≡ []
+
+no-event : (b room : ℕ) (g : Gateway) → worked b room g .count ≡ 0 → NoEvent g (worked b room g)
+unfolding worked
+no-event zero room g h = record { gateway = refl; output = refl }
+no-event (suc b) room g h = next (pendingOf (g .queue)) h
+  where
+    rest : Message → Progress
+    rest m = onceMore (bytesOfFrames (done m g .frames)) (worked b (room - length (bytesOfFrames (done m g .frames))) (done m g .gateway))
+
+    once : (m : Message) (t : Bool) → cond t (rest m) (stopped 5 g) .count ≡ 0 → NoEvent g (cond t (rest m) (stopped 5 g))
+    once m true k = absurd (omega arith)
+    once m false k = record { gateway = refl; output = refl }
+
+    next : (ms : List Message) → workedBy ms (stopped 6 g) (λ m. cond (fits room (done m g)) (rest m) (stopped 5 g)) .count ≡ 0
+        → NoEvent g (workedBy ms (stopped 6 g) (λ m. cond (fits room (done m g)) (rest m) (stopped 5 g)))
+    next [] k = record { gateway = refl; output = refl }
+    next (m ∷ ms) k = once m (fits room (done m g)) k
+
+pub idle-work : (n : ℕ) (w : World) (i b : ℕ) (output : List ℕ) → SoundBytes (w .memories i) → workedOff b (w .memories i) output .answer .count ≡ 0 → afterCall n w (works i b output) ≡ w
+unfolding afterCall afterWorking workedOff cutFrames didSome
+idle-work n w i b output s h =
+    rw (s .is-sound, none, ap length (e .output))
+    (λ k. record {
+      memories = (ap (λ (m : List ℕ). change i m (w .memories)) same ∙ change-self i (w .memories)) k;
+      underWay = append-nil (w .underWay) k;
+      records = w .records;
+      ledgers = change-self i (w .ledgers) k;
+      rounds = w .rounds;
+    })
+  where
+    g : Gateway
+    g = decode (w .memories i)
+
+    none : worked b (length output) g .count ≡ 0
+    none = rw (s .is-sound) at h
+
+    e : NoEvent g (worked b (length output) g)
+    e = no-event b (length output) g none
+
+    same : encode (worked b (length output) g .gateway) (w .memories i) ≡ w .memories i
+    same = ap (λ (x : Gateway). encode x (w .memories i)) (e .gateway) ∙ held (w .memories i) s .again

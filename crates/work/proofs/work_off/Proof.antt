@@ -1,0 +1,76 @@
+-- `work::work_off` meets its contract.
+use mathlib.Core.Path.{_≡_, refl}
+use Prim.Native.Nat.{_-_}
+use native.Mathlib.Omega.{arith}
+use lib.ListN.{length}
+use Rattle.gateway.proofs.Changing.{bytes-known}
+use Rattle.work.proofs.SeveralEvents.{Going, at-first, ready, one-more, stops-early, ends}
+use borrow.Author.Needs.{needs}
+use Rattle.work.proofs.work_off.Statement.{statement}
+use Rattle.work.proofs.work_off.Tie as tie
+
+abbrev Inv-loop : tie.InvT-loop
+Inv-loop memory₀ output₀ budget turn₀ count₀ memory output turn count =
+    (length memory ≡ length memory₀) × (length output ≡ length output₀) × Going memory₀ output₀ memory output turn budget count
+
+abbrev μ-loop : tie.MeasureT-loop
+μ-loop memory₀ output₀ budget turn₀ count₀ memory output turn count = budget - count
+
+loop-holds : tie.Need-loop-holds Inv-loop μ-loop
+loop-holds c = (refl, refl, at-first (c .before .before .pre) (bytes-known (c .before .before .args .memory .now) (c .before .slice-known .given)) (c .before .before .args .budget))
+
+work-one-requires : tie.Need-work-one-requires Inv-loop μ-loop
+work-one-requires c κs = ready (c .before .before .before .loop .inv .2)
+
+finish-requires : tie.Need-finish-requires Inv-loop μ-loop
+finish-requires c κs = let z = ready (c .before .before .before .before .before .before .before .before .before .before .before .loop .inv .2) in omega (arith, z .long)
+
+same-length : tie.Need-same-length Inv-loop μ-loop
+same-length c = omega arith
+
+same-length-2 : tie.Need-same-length-2 Inv-loop μ-loop
+same-length-2 c = omega arith
+
+returns : tie.Need-returns Inv-loop μ-loop
+returns c = stops-early (c .before .before .before .before .before .before .before .before .before .before .before .before .before .before .loop .inv .2) (c .before .before .before .before .before .before .before .before .before .before .before .before .before .loop-test .taken) (c .before .before .before .before .before .before .before .before .before .before .work-one .ensures) (c .before .before .before .before .before .before .before .before .before .before .before .before .before .before .before .before .before .pre) (c .before .before .before .before .if1 .taken) (c .before .before .finish .ensures)
+
+add-count : tie.Need-add-count Inv-loop μ-loop
+add-count c = search needs
+
+loop-less : tie.Need-loop-less Inv-loop μ-loop
+loop-less c = search needs
+
+loop-again : tie.Need-loop-again Inv-loop μ-loop
+loop-again c = (omega arith, omega arith, one-more (c .before .before .before .before .before .before .before .before .before .before .loop .inv .2) (c .before .before .before .before .before .before .before .before .before .loop-test .taken) (c .before .before .before .before .before .before .work-one .ensures) (c .if1 .left))
+
+finish-requires-2 : tie.Need-finish-requires-2 Inv-loop μ-loop
+finish-requires-2 c κs = let z = ready (c .before .before .loop .inv .2) in omega (arith, z .long)
+
+same-length-3 : tie.Need-same-length-3 Inv-loop μ-loop
+same-length-3 c = omega arith
+
+same-length-4 : tie.Need-same-length-4 Inv-loop μ-loop
+same-length-4 c = omega arith
+
+returns-2 : tie.Need-returns-2 Inv-loop μ-loop
+returns-2 c = ends (c .before .before .before .before .before .loop .inv .2) (c .before .before .before .before .before .before .before .before .pre) (c .before .before .before .before .loop-test .left) (c .before .before .finish2 .ensures)
+
+pub work-off-spec : {M : Type 1} → statement M
+work-off-spec =
+    tie.close
+    (tie.spec
+    Inv-loop
+    μ-loop
+    loop-holds
+    work-one-requires
+    finish-requires
+    same-length
+    same-length-2
+    returns
+    add-count
+    loop-less
+    loop-again
+    finish-requires-2
+    same-length-3
+    same-length-4
+    returns-2)
