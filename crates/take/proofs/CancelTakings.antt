@@ -1,8 +1,8 @@
 -- A law for each branch of taking a cancel.
-use mathlib.Core.Path.{_≡_, refl, sym, _∙_, ap}
+use mathlib.Core.Path.{_≡_, sym, _∙_}
 use mathlib.Core.Bool.{Bool, true, false, not, _&&_}
-use mathlib.Core.List.{List, [], _∷_, _++_, map, append-nil}
-use Prim.Native.Nat.{ℕ, suc, _+_, _-_, _*_, _≤_, _<_}
+use mathlib.Core.List.{List, [], _∷_, _++_, append-nil}
+use Prim.Native.Nat.{ℕ, _+_, _-_, _*_, _≤_, _<_}
 use native.Mathlib.Nat.{add-zero}
 use native.Mathlib.Omega.{arith}
 use lib.Dec.{leb, lit<}
@@ -17,21 +17,21 @@ use Rattle.frame.specs.Writing.{written, Puts}
 use Rattle.frame.specs.declared.Frame.{Frame}
 use Rattle.memory.specs.Records.{Gateway, siteOf}
 use Rattle.memory.specs.Codec.{placesAt, entryOf, headerFront, headerBack, decode, encode}
-use Rattle.memory.specs.Fits.{MessageFits, EntryFits}
+use Rattle.memory.specs.Fits.{MessageFits}
 use Rattle.memory.specs.declared.Header.{Header}
 use Rattle.memory.specs.declared.Entry.{Entry}
 use Rattle.memory.proofs.Places.{all-back}
 use Rattle.memory.proofs.Validated.{and-left, and-right}
 use Rattle.gateway.specs.Effects.{Effect, bytesOfFrames, fits, settled, withQueue, framesFor}
-use Rattle.gateway.specs.Undoing.{processedOf, undone, sentBack, rolledBack}
-use Rattle.gateway.specs.Taking.{any, beforeLast, fromLast, tailOf, acknowledgment, isPlain, waitingEntry, takeCancel}
+use Rattle.gateway.specs.Undoing.{processedOf, sentBack}
+use Rattle.gateway.specs.Taking.{any, acknowledgment, isPlain, waitingEntry, takeCancel}
 use Rattle.gateway.specs.Calls.{Left, leaving}
 use Rattle.gateway.specs.Premises.{Known}
 use Rattle.gateway.specs.Searching.{firstWhere, pastLast, passes, entriesIn}
 use Rattle.gateway.specs.declared.Answer.{Answer}
 use Rattle.gateway.specs.declared.places.Search.the-variants.{Later}
 use Rattle.gateway.proofs.Positions.{first-bound}
-use Rattle.gateway.proofs.Changing.{Sizes, sizes, queue-places, queue-count, outstanding-count, settings-held}
+use Rattle.gateway.proofs.Changing.{sizes, queue-places, queue-count, outstanding-count, settings-held}
 use Rattle.effects.specs.Placed.{Placed}
 use Rattle.effects.specs.declared.Sending.{Sending}
 use Rattle.effects.proofs.EnteringLaws.{up-to-first, behind-first}

@@ -1,9 +1,9 @@
 -- A law for each branch of the call take: refusals in their order, then what each sense and kind of frame comes to.
-use mathlib.Core.Path.{_≡_, refl, sym, _∙_, ap}
-use mathlib.Core.Bool.{Bool, true, false, cond, not, _&&_}
+use mathlib.Core.Path.{_≡_, refl, sym, _∙_}
+use mathlib.Core.Bool.{Bool, true, false, cond, not}
 use mathlib.Core.List.{List}
 use Prim.Native.Nat.{ℕ, _≤_, _<_}
-use lib.Dec.{eqb, ltb}
+use lib.Dec.{eqb}
 use lib.ListN.{length}
 use borrow.Author.Tests.{eq-eqb, ne-eqb, lt-ltb, le-ltb, not-true, not-false}
 use Rattle.buffer.specs.Slice.{Bytes}
@@ -25,7 +25,7 @@ use Rattle.memory.specs.declared.Header.{Header}
 use Rattle.gateway.specs.Effects.{Outcome, refused, settled}
 use Rattle.gateway.specs.Taking.{takePlain, takeCancel, takeAcknowledgment}
 use Rattle.gateway.specs.Rounds.{takeStart, takeLvt, takeUpdate}
-use Rattle.gateway.specs.Calls.{Left, leaving, unlessBelow, takeByKind, takeBySense, takeFrame, takeBytes, taken, onSound}
+use Rattle.gateway.specs.Calls.{Left, leaving, unlessBelow, takeByKind, takeFrame, takeBytes, taken, onSound}
 use Rattle.gateway.specs.Premises.{Known}
 use Rattle.gateway.specs.declared.Answer.{Answer}
 use Rattle.gateway.proofs.Stepping.{agreed-is, settings-are}

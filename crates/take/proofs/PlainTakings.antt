@@ -1,5 +1,5 @@
 -- A law for each branch of taking a plain message.
-use mathlib.Core.Path.{_≡_, refl, sym, _∙_, ap}
+use mathlib.Core.Path.{_≡_, sym, _∙_}
 use mathlib.Core.Bool.{Bool, true, false, cond, not, _&&_}
 use mathlib.Core.List.{List, [], _∷_, _++_, map, append-nil}
 use Prim.Native.Nat.{ℕ, suc, _+_, _-_, _*_, _^_, _≤_, _<_}
@@ -9,7 +9,7 @@ use lib.ListN.{length, take, drop, length-append, length-take, length-drop, leng
 use lib.Seq.{take-at, drop-at}
 use borrow.Author.Tests.{le-leb, lt-leb, leb-true, not-true, not-false}
 use Rattle.buffer.proofs.Writes.{length-write, write-join}
-use Rattle.buffer.specs.Slice.{Bytes, write}
+use Rattle.buffer.specs.Slice.{Bytes}
 use Rattle.model.specs.declared.Kind.{Kind}
 use Rattle.model.specs.declared.Message.{Message}
 use Rattle.frame.specs.Layout.{wholeLength}
@@ -25,7 +25,7 @@ use Rattle.memory.specs.declared.Entry.{Entry}
 use Rattle.memory.specs.declared.Header.{Header}
 use Rattle.gateway.specs.Effects.{Effect, bytesOfFrames, fits, settled, withQueue, framesFor}
 use Rattle.gateway.specs.Undoing.{processedOf, pendingEntry, undone, sentBack, rolledBack}
-use Rattle.gateway.specs.Taking.{any, withoutFirst, acknowledgment, isCancelOf, takePlain}
+use Rattle.gateway.specs.Taking.{acknowledgment, isCancelOf, takePlain}
 use Rattle.gateway.specs.Calls.{Left, leaving}
 use Rattle.gateway.specs.Premises.{Known}
 use Rattle.gateway.specs.Searching.{firstWhere, passes, entriesIn}

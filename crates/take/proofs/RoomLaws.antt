@@ -2,8 +2,7 @@
 use mathlib.Core.Path.{_≡_, refl, sym, _∙_, ap}
 use mathlib.Core.Bool.{Bool, true, false, cond, not, _&&_}
 use mathlib.Core.List.{List, [], _∷_, _++_}
-use Prim.Native.Nat.{ℕ, suc, _+_, _-_, _*_, _≤_, _<_}
-use native.Mathlib.Nat.{zero-add}
+use Prim.Native.Nat.{ℕ, _+_, _-_, _*_, _≤_, _<_}
 use native.Mathlib.Omega.{arith}
 use lib.Dec.{leb}
 use lib.ListN.{length, take, drop, length-append, take-append-drop}
@@ -14,9 +13,8 @@ use Rattle.model.specs.Doing.{after, sent, Gives}
 use Rattle.model.specs.declared.Message.{Message}
 use Rattle.model.specs.declared.Site.{Site}
 use Rattle.model.specs.declared.event.Outcome.{Outcome}
-use Rattle.frame.specs.declared.Frame.{Frame}
 use Rattle.frame.specs.declared.Sense.the-variants.{Acknowledgment, CancelAcknowledgment}
-use Rattle.memory.specs.Records.{Gateway, siteOf}
+use Rattle.memory.specs.Records.{Gateway}
 use Rattle.memory.specs.Codec.{placesAt, entryOf, entryBytes, headerFront, headerBack, encode}
 use Rattle.memory.specs.Validity.{processedMark}
 use Rattle.memory.specs.declared.Entry.{Entry}
@@ -25,10 +23,9 @@ use Rattle.gateway.specs.Effects.{withQueue}
 use Rattle.gateway.specs.Undoing.{processedOf, sentBack}
 use Rattle.gateway.specs.Taking.{acknowledgment}
 use Rattle.gateway.proofs.Positions.{more}
-use Rattle.effects.proofs.PlacedLaws.{Inside, placed-inside, placed-last, placed-inserted, placed-count}
+use Rattle.effects.proofs.PlacedLaws.{placed-inside, placed-last, placed-inserted, placed-count}
 use Rattle.take.specs.Entering.{MayEnter}
 use Rattle.take.proofs.RollbackLaws.{processed-one, processed-no, back-one, back-more}
-use Rattle.take.proofs.SentMessages.{sent-few}
 
 -- the acknowledgment of a cancel, or of a message
 module _ (m : Message) (cancel : Bool) where

@@ -1,7 +1,7 @@
 -- What an event had sent: at most one message, whose numbers fit their fields, and whose cancel is a frame of twenty-eight bytes.
 use mathlib.Core.Path.{_≡_, refl, _∙_}
 use mathlib.Core.Bool.{Bool, true, false, cond}
-use mathlib.Core.List.{List, [], _∷_, _++_}
+use mathlib.Core.List.{List, [], _∷_}
 use Prim.Native.Nat.{ℕ, suc, _+_, _*_, _≤_, _<_}
 use native.Mathlib.Omega.{arith}
 use lib.Dec.{leb, ltb}
@@ -15,9 +15,8 @@ use Rattle.model.specs.declared.Message.{Message}
 use Rattle.model.specs.declared.State.{State}
 use Rattle.model.specs.declared.Site.{Site}
 use Rattle.frame.specs.Layout.{wholeLength}
-use Rattle.frame.specs.Kinds.{mapOf, mapOfKind, senseNumber}
+use Rattle.frame.specs.Kinds.{mapOf, mapOfKind}
 use Rattle.frame.specs.Writing.{written}
-use Rattle.frame.specs.declared.Frame.{Frame}
 use Rattle.frame.proofs.Output.{whole-size}
 use Rattle.memory.specs.Records.{siteOf}
 use Rattle.memory.specs.Validity.{isProcessed, frameIf}

@@ -1,15 +1,15 @@
 -- What an effect comes to: it is settled where there is room for it, and refused with 5 where there is not.
-use mathlib.Core.Path.{_≡_, refl, sym, _∙_, ap}
-use mathlib.Core.Bool.{Bool, true, false, cond, _&&_}
+use mathlib.Core.Path.{_≡_}
+use mathlib.Core.Bool.{true, false, _&&_}
 use mathlib.Core.List.{List}
-use Prim.Native.Nat.{ℕ, _≤_}
+use Prim.Native.Nat.{ℕ}
 use lib.Dec.{leb}
 use lib.ListN.{length}
 use Rattle.buffer.specs.Slice.{write}
 use Rattle.memory.specs.Codec.{encode}
 use Rattle.memory.specs.Records.{Gateway}
 use Rattle.gateway.specs.Effects.{Effect, bytesOfFrames, fits, settled}
-use Rattle.gateway.specs.Calls.{Left, leaving}
+use Rattle.gateway.specs.Calls.{leaving}
 use Rattle.gateway.specs.declared.Answer.{Answer}
 
 -- the three needs, one after the other

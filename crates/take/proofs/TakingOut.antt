@@ -1,10 +1,10 @@
 -- Laws of an entry that is taken out of the queue: those behind it are moved down and undone, then it is.
-use mathlib.Core.Path.{_≡_, refl, sym, _∙_, ap, subst}
+use mathlib.Core.Path.{_≡_, refl, sym, _∙_, ap}
 use mathlib.Core.Bool.{true}
 use mathlib.Core.List.{List, [], _∷_, _++_, map}
 use Prim.Native.Nat.{ℕ, suc, _+_, _-_, _*_, _≤_, _<_}
 use native.Mathlib.Omega.{arith}
-use lib.ListN.{length, take, drop, length-append, length-take, length-drop, take-append-drop}
+use lib.ListN.{length, take, drop, length-append}
 use lib.Seq.{take-at, drop-at, length-take-le}
 use Rattle.buffer.specs.Slice.{part, write}
 use Rattle.model.specs.declared.Message.{Message}
@@ -12,12 +12,10 @@ use Rattle.memory.specs.Records.{Gateway, siteOf}
 use Rattle.memory.specs.Codec.{entryOf}
 use Rattle.memory.specs.Fits.{EntryFits}
 use Rattle.memory.specs.declared.Entry.{Entry}
-use Rattle.memory.specs.declared.Header.{Header}
 use Rattle.gateway.specs.Effects.{withQueue}
-use Rattle.gateway.specs.Undoing.{processedOf, undone, sentBack, rolledBack}
-use Rattle.effects.specs.Placed.{Placed}
+use Rattle.gateway.specs.Undoing.{processedOf, undone, rolledBack}
 use Rattle.effects.specs.declared.Sending.{Sending}
-use Rattle.effects.proofs.PlacedLaws.{Inside, placed-inside, placed-count, placed-split, placed-fits, placed-removed}
+use Rattle.effects.proofs.PlacedLaws.{placed-inside, placed-count, placed-split, placed-fits, placed-removed}
 use Rattle.take.specs.Undone.{sentByEntries, MaySendBack, SentBack, undoneFrom, takenOut}
 use Rattle.take.proofs.RollbackLaws.{back-more, rolled-more, rolled-settings, rolled-outstanding, rolled-with-queue, bytes-more}
 use Rattle.take.proofs.UndoLaws.{cancelBytes, bytes-left, back-joined}

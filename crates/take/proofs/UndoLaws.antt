@@ -12,23 +12,21 @@ use Rattle.buffer.specs.Slice.{part, write}
 use Rattle.buffer.proofs.Writes.{write-nil, write-join, length-write}
 use Rattle.model.specs.Doing.{after, sent, Gives}
 use Rattle.model.specs.declared.Message.{Message}
-use Rattle.model.specs.declared.Site.{Site}
 use Rattle.model.specs.declared.event.Outcome.{Outcome}
 use Rattle.frame.specs.Writing.{written}
-use Rattle.memory.specs.Records.{Gateway, headerOf, siteOf}
+use Rattle.memory.specs.Records.{Gateway, siteOf}
 use Rattle.memory.specs.Codec.{entryOf, entryBytes}
-use Rattle.memory.specs.Validity.{isProcessed, processedMark, frameIf, noState}
-use Rattle.memory.specs.Ranges.{RangedState}
-use Rattle.memory.specs.Fits.{All, nil, cons, MessageFits, EntryFits}
+use Rattle.memory.specs.Validity.{isProcessed, processedMark, frameIf}
+use Rattle.memory.specs.Fits.{All, cons, MessageFits, EntryFits}
 use Rattle.memory.specs.declared.Entry.{Entry}
 use Rattle.memory.specs.declared.Header.{Header}
 use Rattle.memory.proofs.Places.{all-back}
-use Rattle.gateway.specs.Effects.{bytesOfFrames, framesFor, withQueue, withState, sentOne, sentAll}
+use Rattle.gateway.specs.Effects.{bytesOfFrames, framesFor, withQueue, withState, sentAll}
 use Rattle.gateway.specs.Undoing.{processedOf, pendingEntry, undone, sentBack, rolledBack}
 use Rattle.effects.specs.Placed.{Placed}
 use Rattle.effects.specs.Sending.{MaySend, Sends}
 use Rattle.effects.specs.declared.Sending.{Sending}
-use Rattle.effects.proofs.PlacedLaws.{Inside, placed-inside, placed-count, placed-length, placed-entry, placed-state, placed-sent, placed-replaced}
+use Rattle.effects.proofs.PlacedLaws.{placed-inside, placed-count, placed-entry, placed-state, placed-sent, placed-replaced}
 use Rattle.take.specs.Undone.{sentByEntries, MaySendBack, SentBack, Between, undoneFrom}
 use Rattle.take.proofs.RollbackLaws.{processed-one, processed-no, back-one, back-more, back-append, rolled-none, rolled-one, rolled-more, rolled-settings, rolled-outstanding, rolled-with-queue, bytes-more}
 use Rattle.take.proofs.SentMessages.{Cancelled, sent-cancelled}

@@ -1,9 +1,8 @@
 -- What a message or a cancel does that meets no equal one in the queue, or an equal plain message in a known place.
-use mathlib.Core.Path.{_≡_}
 use Prim.Native.Nat.{ℕ, suc, _≤_}
 use mathlib.Core.Bool.{true, false}
 use mathlib.Core.List.{List, [], _∷_, _++_, map}
-use lib.ListN.{length, take, drop}
+use lib.ListN.{length, drop}
 use Rattle.model.specs.declared.Message.{Message}
 use Rattle.memory.specs.Records.{Gateway, siteOf}
 use Rattle.memory.specs.Fits.{EntryFits}

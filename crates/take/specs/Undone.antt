@@ -2,11 +2,10 @@
 use mathlib.Core.Path.{_≡_}
 use Prim.Native.Nat.{ℕ, suc, _+_, _≤_}
 use mathlib.Core.Bool.{true}
-use mathlib.Core.List.{List, [], _∷_, _++_, map}
+use mathlib.Core.List.{List, _∷_, _++_, map}
 use lib.ListN.{length, take, drop}
 use Rattle.buffer.specs.Slice.{write}
 use Rattle.model.specs.declared.Message.{Message}
-use Rattle.model.specs.declared.Site.{Site}
 use Rattle.memory.specs.Records.{Gateway, siteOf}
 use Rattle.memory.specs.declared.Entry.{Entry}
 use Rattle.gateway.specs.Effects.{bytesOfFrames, framesFor, withQueue}

@@ -1,5 +1,4 @@
 -- `take::undo::undo_place` meets its contract.
-use native.Mathlib.Omega.{arith}
 use Rattle.take.proofs.UndoLaws.{place-inside, place-alone, may-undo, place-undone}
 use borrow.Author.Needs.{needs}
 use Rattle.take.proofs.undo.undo_place.Statement.{statement}
