@@ -6,8 +6,8 @@ use crate::record;
 use crate::round::{self, Least, Round};
 use std::collections::VecDeque;
 
-/// Why a call is turned down, or why work stopped; the numbers are document 01's. 10 does not
-/// arise, as a gateway here is not kept in lent memory.
+/// Why a call is turned down, or why work stopped; the numbers are document 01's. 10 is
+/// `memory::Unsound`, as a gateway here is not kept in lent memory.
 #[derive(Clone, Copy, Debug, PartialEq, Eq)]
 pub enum Refusal {
     Form = 1,
@@ -39,35 +39,35 @@ pub struct Setup {
 
 #[derive(Clone, Debug, PartialEq, Eq)]
 pub struct Gateway {
-    nodes: u8,
-    settings: Settings,
-    queue_places: usize,
-    outstanding_places: usize,
-    state: State,
-    agreed: Hour,
+    pub(crate) nodes: u8,
+    pub(crate) settings: Settings,
+    pub(crate) queue_places: usize,
+    pub(crate) outstanding_places: usize,
+    pub(crate) state: State,
+    pub(crate) agreed: Hour,
     /// The queue's plain messages that are processed, in event order; none is later than a pending one.
-    processed: VecDeque<Processed>,
+    pub(crate) processed: VecDeque<Processed>,
     /// The queue's plain messages that are unprocessed, in event order.
-    pending: Vec<Message>,
+    pub(crate) pending: Vec<Message>,
     /// The queue's waiting cancels.
-    waiting: Vec<Message>,
-    outstanding: Vec<Sent>,
-    round: Round,
+    pub(crate) waiting: Vec<Message>,
+    pub(crate) outstanding: Vec<Sent>,
+    pub(crate) round: Round,
 }
 
 /// A processed event and what undoing it needs.
 #[derive(Clone, Debug, PartialEq, Eq)]
-struct Processed {
-    done: Done,
-    before: State,
-    sent: Option<Message>,
+pub(crate) struct Processed {
+    pub(crate) done: Done,
+    pub(crate) before: State,
+    pub(crate) sent: Option<Message>,
 }
 
 /// A message that no acknowledgment has come for.
 #[derive(Clone, Copy, Debug, PartialEq, Eq)]
-struct Sent {
-    cancel: bool,
-    message: Message,
+pub(crate) struct Sent {
+    pub(crate) cancel: bool,
+    pub(crate) message: Message,
 }
 
 /// The answer of work: the count done, why it stopped (`None` for 0), and the output.

@@ -1,23 +1,6 @@
-//! The second program: the rules of document 01 written again from the papers, for comparison.
+//! The second program: its subcommands.
 
-mod arcs;
-mod carrier;
-mod examples;
-mod forecast;
-mod frame;
-mod gateway;
-mod generator;
-mod model;
-mod queue;
-mod record;
-mod round;
-mod routing;
-mod run;
-mod samples;
-mod stream;
-mod table;
-mod trials;
-
+use peer::{arcs, examples, samples, stream, table, trials};
 use std::io::{self, Read, Write};
 use std::process::ExitCode;
 

@@ -10,13 +10,13 @@ use crate::routing::{self, Neighbours};
 pub struct Round {
     nodes: u8,
     own: u8,
-    from: Vec<u8>,
-    to: Vec<u8>,
-    phase: Phase,
+    pub(crate) from: Vec<u8>,
+    pub(crate) to: Vec<u8>,
+    pub(crate) phase: Phase,
 }
 
 #[derive(Clone, Debug, PartialEq, Eq)]
-enum Phase {
+pub(crate) enum Phase {
     /// Not started: the gateways whose Start has come.
     Ready { arrived: Vec<u8> },
     /// Started and not stopped.

@@ -2,3 +2,4 @@
 pub mod EnteringLaws
 pub mod Stores
 pub mod PlacedLaws
+pub mod ReadMessages

@@ -26,10 +26,11 @@ pub fn send(
     let header = sending.header;
     let settings = header.settings;
     let at = 256 + 64 * (settings.q as usize) + 32 * (header.outstanding as usize);
-    write_sent(memory, at, Sent { message, cancel });
+    let sent = Sent { message, cancel };
+    write_sent(memory, at, sent);
     let written = put_frame(output, sending.written, frame_if(cancel, message));
     let mut next = header;
-    next.round = note(header.round, message.hour);
+    next.round = note(header.round, sent);
     next.outstanding = header.outstanding + 1;
     Sending {
         header: next,
@@ -37,17 +38,18 @@ pub fn send(
     }
 }
 
-// The round after a message or cancel of that hour is sent.
-fn note(round: Round, hour: u32) -> Round
-    ensures { λ r. ⌜ r ≡ noted hour round ⌝ }
+// The round after a message or a cancel is sent.
+fn note(round: Round, sent: Sent) -> Round
+    ensures { λ r. ⌜ r ≡ noted (sent .message .hour) round ⌝ }
 {
     let phase = round.phase;
+    let message = sent.message;
     let mut next = round;
     match phase {
         Phase::Idle => {}
         Phase::Counting => {
-            if hour < round.note {
-                next.note = hour;
+            if message.hour < round.note {
+                next.note = message.hour;
             }
         }
         Phase::Stopped => {}

@@ -9,13 +9,8 @@ use lib.Seq.{length-take-le}
 use Rattle.buffer.specs.Slice.{Bytes, part, write}
 use Rattle.buffer.proofs.Writes.{length-write, write-nil}
 use Rattle.model.specs.declared.Message.{Message}
-use Rattle.frame.specs.Claims.{Ranged}
-use Rattle.frame.specs.Reasons.{reading, formOf, fieldsOf, frameOf, readAs, blank}
-use Rattle.frame.specs.declared.Frame.{Frame}
+use Rattle.frame.specs.Reasons.{reading}
 use Rattle.frame.specs.declared.Reading.{Reading}
-use Rattle.frame.specs.declared.Form.{Form}
-use Rattle.frame.specs.declared.Form.the-variants.{Good, TooShort, WrongMap, WrongLength, WrongSense, WrongLamp, WrongGateways}
-use Rattle.frame.proofs.Laws.{one-to-one}
 use Rattle.memory.specs.Layout.{headerSize, queueAt}
 use Rattle.memory.specs.Codec.{entryBytes, entryOf, placesBytes}
 use Rattle.memory.specs.Fits.{All, nil, cons, MessageFits, EntryFits}
@@ -32,29 +27,10 @@ use Rattle.gateway.specs.Searching.{firstWhere, passes, entriesIn}
 use Rattle.gateway.specs.declared.places.Search.the-variants.{Later}
 use Rattle.gateway.proofs.Openings.{length-entered}
 use Rattle.gateway.proofs.Positions.{first-bound}
+use Rattle.effects.proofs.ReadMessages.{reading-fits}
 use Rattle.effects.proofs.EnteringLaws.{up-to-first, behind-first}
 use Rattle.opening.specs.Frames.{framesFrom, frameEnd, entered}
 use Rattle.opening.proofs.FramePositions.{end-between, frames-none, frames-next}
-
--- what is read from bytes fits its fields, whatever its form
-blank-fits : MessageFits (blank .message)
-blank-fits = record { hour = lit< tt; from = lit< tt; to = lit< tt; origin = lit< tt; quantity = lit< tt; lamp = refl }
-
-fits-read : (form : Form) (f : Frame) → (readAs form f .form ≡ Good → MessageFits (readAs form f .frame .message)) → MessageFits (readAs form f .frame .message)
-fits-read Good f h = h refl
-fits-read TooShort f h = blank-fits
-fits-read WrongMap f h = blank-fits
-fits-read WrongLength f h = blank-fits
-fits-read WrongSense f h = blank-fits
-fits-read WrongLamp f h = blank-fits
-fits-read WrongGateways f h = blank-fits
-
-ranged-fits : (f : Frame) → Ranged f → MessageFits (f .message)
-ranged-fits f r = record { hour = r .hour; from = r .from; to = r .to; origin = r .origin; quantity = r .quantity; lamp = r .lamp }
-
-pub reading-fits : (s : List ℕ) → Bytes s → MessageFits (reading s .frame .message)
-unfolding reading
-reading-fits s bytes = fits-read (formOf s) (frameOf (fieldsOf s)) (λ g. ranged-fits (reading s .frame) (one-to-one .readRanged s bytes g))
 
 -- where a message enters
 pub place-within : (count : ℕ) (m : Message) (memory : List ℕ) {k : ℕ} → k ≡ firstWhere (passes Later m) (entriesIn memory count) → k ≤ count

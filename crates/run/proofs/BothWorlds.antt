@@ -3,7 +3,6 @@ use mathlib.Core.Path.{_≡_, refl, sym, _∙_}
 use Prim.Native.Nat.{ℕ, _≤_, _<_}
 use Rattle.memory.specs.Records.{Gateway}
 use Rattle.memory.specs.Codec.{decode}
-use Rattle.memory.specs.Claims.{ReadingLaws}
 use Rattle.gateway.specs.Claims.{SoundBytes}
 use Rattle.gateway.proofs.Maintaining.{Proper}
 use Rattle.timewarp.specs.Lists.{All}
@@ -21,7 +20,7 @@ use Rattle.run.proofs.RoundsUnderWay.{roundsIn, Numbered}
 use Rattle.run.proofs.RoundWorlds.{Alike}
 use Rattle.run.proofs.PassingFrames.{Passing}
 use Rattle.run.proofs.DueHours.{NoteDue}
-use Rattle.run.proofs.HeldGateways as HeldGateways
+use Rattle.run.proofs.HeldGateways.{held-proper}
 use Rattle.run.proofs.ClaimParts.{Beside}
 
 module _ (n : ℕ) (some : 1 ≤ n) (last : ℕ) (setups : ℕ → SetUp) where
@@ -68,11 +67,8 @@ module _ (n : ℕ) (some : 1 ≤ n) (last : ℕ) (setups : ℕ → SetUp) where
 
     module _ (i : ℕ) (h : i < n) where
       -- what the memory of gateway i holds
-      pub held : ReadingLaws (w .memories i)
-      held = HeldGateways.held (w .memories i) (b .bytes i h)
-
       pub proper : Proper (gatewaysIn w i)
-      proper = HeldGateways.held-proper (w .memories i) (b .bytes i h)
+      proper = held-proper (w .memories i) (b .bytes i h)
 
       -- the theory's world sees it
       pub sees : Sees n last setups (figureGraph n some) refl t i (b .beside .done i) (gatewaysIn w i) (w .underWay)

@@ -58,3 +58,4 @@ pub mod FramesInTurn
 pub mod KeptRelation
 pub mod Theorem
 pub mod Further
+pub mod Example

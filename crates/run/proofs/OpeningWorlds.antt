@@ -25,12 +25,12 @@ use Rattle.timewarp.specs.Arcs.{Graph}
 use Rattle.timewarp.specs.RoundSteps as RoundSteps
 use Rattle.timewarp.specs.SingleQueue as Theory
 use Rattle.timewarp.specs.Worlds as Worlds
-use Rattle.run.specs.SingleQueue.{SetUp, openingMessages, wholeRecord}
+use Rattle.run.specs.SingleQueue.{SetUp, openingMessages, openingQueue, steps, turnsFor, wholeRecord}
 use Rattle.run.specs.World.{openingWorld}
 use Rattle.run.specs.Demand3.{Forecast}
 use Rattle.run.proofs.ForecastModel.{forecastModel}
 use Rattle.run.proofs.QueueViews.{viewOf}
-use Rattle.run.proofs.SingleQueues.{recordOf, Settled, whole-record}
+use Rattle.run.proofs.SingleQueues.{recordOf, Settled, steps-end, whole-record}
 use Rattle.run.proofs.Ledgers.{Follows}
 use Rattle.run.proofs.EventsUnderWay.{seenIn}
 use Rattle.run.proofs.EventWorlds.{settingOf}
@@ -125,3 +125,9 @@ module _ (n last : ℕ) (setups : ℕ → SetUp) (lent : ℕ → List ℕ) (fore
   -- the whole record of the single queue is that of the theory's single queue
   pub single-queue : (i : ℕ) → wholeRecord n last setups i ≡ recordOf n last setups i (Theory.singleHistory (forecastModel n last setups) i)
   single-queue i = whole-record n last setups hours-end settled (opening-agrees n last setups (forecast .some) lawful) i
+
+  -- and that single queue ends
+  pub queue-ends : steps setups (turnsFor last (openingQueue n setups .list)) (openingQueue n setups) .list ≡ []
+  queue-ends =
+      steps-end n last setups hours-end settled (turnsFor last (openingQueue n setups .list)) (openingQueue n setups) (Theory.openingQueue (forecastModel n last setups))
+      (opening-agrees n last setups (forecast .some) lawful) (omega arith)

@@ -260,7 +260,7 @@ module _ (n last : ℕ) (setups : ℕ → SetUp) where
     unfolding stepOn turnsFor
     none-left q e = rw e
 
-    steps-end : (turns : ℕ) (q : Queue) (t : Theory.Queue Message) → Agree q t → turnsFor last (q .list) ≤ turns → steps setups turns q .list ≡ []
+    pub steps-end : (turns : ℕ) (q : Queue) (t : Theory.Queue Message) → Agree q t → turnsFor last (q .list) ≤ turns → steps setups turns q .list ≡ []
     unfolding steps
     steps-end zero q t a h = by-case (q .list) h
       where

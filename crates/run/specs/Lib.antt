@@ -5,3 +5,4 @@ pub mod Ledger
 pub mod World
 pub mod Demand3
 pub mod Further
+pub mod ExampleRun

@@ -1,0 +1,153 @@
+//! Reading frames, and putting them one behind the other into an output.
+
+use crate::message::{Kind, Message, State};
+
+#[derive(Clone, Copy, Debug, PartialEq, Eq)]
+pub enum Sense {
+    Plain,
+    Cancel,
+    Acknowledgment,
+    CancelAcknowledgment,
+}
+
+#[derive(Clone, Copy, Debug)]
+pub struct Frame {
+    pub message: Message,
+    pub sense: Sense,
+}
+
+impl Frame {
+    pub fn addressee(&self) -> u8 {
+        match self.sense {
+            Sense::Plain | Sense::Cancel => self.message.to,
+            Sense::Acknowledgment | Sense::CancelAcknowledgment => self.message.from,
+        }
+    }
+}
+
+/// The one map of each kind.
+const MAPS: [u8; 7] = [63, 63, 63, 79, 7, 15, 15];
+const SENSE_BIT: u8 = 128;
+
+/// The whole length of a frame with each map.
+static LENGTHS: [u8; 256] = lengths();
+
+const fn lengths() -> [u8; 256] {
+    const WIDTHS: [u8; 8] = [1, 1, 1, 4, 1, 18, 2, 1];
+    let mut lengths = [1; 256];
+    let mut map = 0;
+    while map < 256 {
+        let mut bit = 0;
+        while bit < 8 {
+            if map >> bit & 1 == 1 {
+                lengths[map] += WIDTHS[bit];
+            }
+            bit += 1;
+        }
+        map += 1;
+    }
+    lengths
+}
+
+/// The whole length of a frame with this map.
+pub fn length(map: u8) -> usize {
+    LENGTHS[usize::from(map)].into()
+}
+
+/// The bytes of a plain event's frame.
+pub fn plain_length(kind: Kind) -> usize {
+    length(MAPS[kind as usize])
+}
+
+/// The frame that bytes are; `None` if they are not exactly one of the forms.
+pub fn read(bytes: &[u8]) -> Option<Frame> {
+    let (&map, &number) = (bytes.first()?, bytes.get(1)?);
+    let kind = Kind::from_number(number)?;
+    let with_sense = map & SENSE_BIT != 0;
+    if map & !SENSE_BIT != MAPS[kind as usize] || with_sense && !kind.has_lamp() {
+        return None;
+    }
+    if bytes.len() != length(map) {
+        return None;
+    }
+    let hour = match kind {
+        Kind::Start => 0,
+        _ => u32::from_be_bytes(bytes[4..8].try_into().ok()?),
+    };
+    let (mut origin, mut lamp, mut quantity) = (0, [0; 18], 0);
+    if kind.has_lamp() {
+        origin = bytes[8];
+        lamp = bytes[9..27].try_into().ok()?;
+    } else if kind == Kind::Restock {
+        quantity = u16::from_be_bytes([bytes[8], bytes[9]]);
+    }
+    let sense = match (with_sense, bytes.get(27)) {
+        (false, _) => Sense::Plain,
+        (true, Some(1)) => Sense::Cancel,
+        (true, Some(2)) => Sense::Acknowledgment,
+        (true, Some(3)) => Sense::CancelAcknowledgment,
+        _ => return None,
+    };
+    let message = Message { hour, kind, origin, lamp, quantity, from: bytes[2], to: bytes[3] };
+    (message.lamp_fits() && message.gateways_agree()).then_some(Frame { message, sense })
+}
+
+/// Frames one behind the other.
+pub struct Output<'a> {
+    bytes: &'a mut [u8],
+    at: usize,
+}
+
+impl<'a> Output<'a> {
+    pub fn new(bytes: &'a mut [u8]) -> Output<'a> {
+        Output { bytes, at: 0 }
+    }
+
+    pub fn written(&self) -> usize {
+        self.at
+    }
+
+    /// Bytes that are left.
+    pub fn room(&self) -> usize {
+        self.bytes.len() - self.at
+    }
+
+    pub fn put_event(&mut self, sense: Sense, message: &Message) {
+        let map = MAPS[message.kind as usize];
+        self.put_head(map | if sense == Sense::Plain { 0 } else { SENSE_BIT }, message);
+        self.put(&message.hour.to_be_bytes());
+        if message.kind == Kind::Restock {
+            self.put(&message.quantity.to_be_bytes());
+            return;
+        }
+        self.put(&[message.origin]);
+        self.put(&message.lamp);
+        if sense != Sense::Plain {
+            self.put(&[sense as u8]);
+        }
+    }
+
+    pub fn put_round(&mut self, kind: Kind, from: u8, to: u8, hour: u32) {
+        self.put(&[MAPS[kind as usize], kind as u8, from, to]);
+        if kind != Kind::Start {
+            self.put(&hour.to_be_bytes());
+        }
+    }
+
+    pub fn put_state(&mut self, state: &State) {
+        self.put(&state.stock.to_be_bytes());
+        for counter in [state.failed, state.fitted, state.short] {
+            self.put(&counter.to_be_bytes());
+        }
+    }
+
+    fn put_head(&mut self, map: u8, message: &Message) {
+        self.put(&[map, message.kind as u8, message.from, message.to]);
+    }
+
+    fn put(&mut self, bytes: &[u8]) {
+        let end = self.at + bytes.len();
+        self.bytes[self.at..end].copy_from_slice(bytes);
+        self.at = end;
+    }
+}

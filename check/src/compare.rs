@@ -1,0 +1,208 @@
+//! One call made three times, on copies of one memory and one output: all answers, memories and outputs must be equal.
+
+use crate::peer_calls::{Peer, UNSOUND};
+use crate::tally::{Called, Lacking, Tally};
+use crate::Wrong;
+use interface::{ample_output, Answer, Calls, Opening, MOST_PLACES};
+use library::Library;
+use peer::memory;
+use plain::Plain;
+
+/// What unwritten output bytes hold, so that a stray write shows.
+const FILL: u8 = 0xa5;
+
+/// An output length that is enough for every call.
+pub const AMPLE: usize = ample_output(MOST_PLACES);
+
+/// Makes calls and counts them.
+#[derive(Default)]
+pub struct Comparison {
+    pub tally: Tally,
+}
+
+/// What a call left.
+#[derive(PartialEq, Eq)]
+struct Left {
+    answer: Answer,
+    memory: Vec<u8>,
+    output: Vec<u8>,
+}
+
+/// The calls on memory and output.
+#[derive(Clone, Copy, Debug)]
+pub enum Call<'a> {
+    Work { budget: u32 },
+    Take { frame: &'a [u8] },
+    Start,
+    Commit,
+}
+
+impl Call<'_> {
+    fn make(self, calls: &impl Calls, memory: &mut [u8], output: &mut [u8]) -> Answer {
+        match self {
+            Call::Work { budget } => calls.work(memory, output, budget),
+            Call::Take { frame } => calls.take(memory, frame, output),
+            Call::Start => calls.start(memory, output),
+            Call::Commit => calls.commit(memory, output),
+        }
+    }
+
+    fn called(self) -> Called {
+        match self {
+            Call::Work { .. } => Called::Work,
+            Call::Take { frame } => Called::taking(frame),
+            Call::Start => Called::Start,
+            Call::Commit => Called::Commit,
+        }
+    }
+}
+
+impl Comparison {
+    /// Makes a call with an output of `room` bytes; the answer and what was written.
+    pub fn call(
+        &mut self,
+        call: Call,
+        memory: &mut [u8],
+        room: usize,
+    ) -> Result<(Answer, Vec<u8>), Wrong> {
+        let by_library = left(&Library, call, memory, room);
+        let by_plain = left(&Plain, call, memory, room);
+        let by_peer = left(&Peer, call, memory, room);
+        equal(call, "plain Rust", memory, &by_library, &by_plain)?;
+        equal(call, "the second implementation", memory, &by_library, &by_peer)?;
+        check_promises(call, memory, &by_library)?;
+
+        self.tally.count(call.called(), by_library.answer.number);
+        self.count_reason(call, memory, &by_library.answer);
+        let Left { answer, memory: after, output } = by_library;
+        memory.copy_from_slice(&after);
+        Ok((answer, output[..answer.written].to_vec()))
+    }
+
+    pub fn set_up(
+        &mut self,
+        memory: &mut [u8],
+        list: &[u8],
+        opening: &Opening,
+    ) -> Result<u32, Wrong> {
+        let before = memory.to_vec();
+        let number = Library.set_up(memory, list, opening);
+        let others: [(&str, &dyn Calls); 2] =
+            [("plain Rust", &Plain), ("the second implementation", &Peer)];
+        for (name, other) in others {
+            let mut copy = before.clone();
+            let other_number = other.set_up(&mut copy, list, opening);
+            if number != other_number {
+                return Err(format!("set up {opening:?}: {number}, by {name} {other_number}"));
+            }
+            if let Some(at) = first_difference(memory, &copy) {
+                return Err(format!("set up {opening:?}: memory differs from {name} at {at}"));
+            }
+        }
+        if number != 0 && before != memory {
+            return Err(format!("set up refused with {number} changed the memory"));
+        }
+        self.tally.count(Called::SetUp, number);
+        if number == 5 {
+            self.tally.count_lacking(Lacking::QueuePlaces);
+        }
+        Ok(number)
+    }
+
+    pub fn agreed_time(&mut self, memory: &[u8]) -> Result<u32, Wrong> {
+        let time = Library.agreed_time(memory);
+        for other in [Plain.agreed_time(memory), Peer.agreed_time(memory)] {
+            if time != other {
+                return Err(format!("agreed time: {time:?}, by another {other:?}"));
+            }
+        }
+        self.tally.count(Called::AgreedTime, time.number);
+        Ok(time.hour)
+    }
+
+    pub fn route(&mut self, gateways: u32, own: u32, count: usize) -> Result<(), Wrong> {
+        let answer = |calls: &dyn Calls| {
+            let mut neighbours = vec![u16::from(FILL); count];
+            let number = calls.route(gateways, own, &mut neighbours);
+            (number, neighbours)
+        };
+        let found = answer(&Library);
+        for other in [answer(&Plain), answer(&Peer)] {
+            if found != other {
+                return Err(format!("route of {own} of {gateways}: {found:?}, other {other:?}"));
+            }
+        }
+        self.tally.count(Called::Route, found.0);
+        Ok(())
+    }
+
+    /// Counts why memory was not sound, or what was too little.
+    fn count_reason(&mut self, call: Call, before: &[u8], answer: &Answer) {
+        if answer.number == UNSOUND {
+            if let Err(reason) = memory::read(before) {
+                self.tally.count_unsound(reason);
+            }
+        }
+        if answer.number == 5 {
+            self.tally.count_lacking(lacking(call, before));
+        }
+    }
+}
+
+/// What a call that was refused with 5 lacked: output bytes where an ample output helps it on.
+fn lacking(call: Call, before: &[u8]) -> Lacking {
+    let enough = left(&Plain, call, before, AMPLE);
+    if enough.answer.number != 5 {
+        return Lacking::OutputBytes;
+    }
+    let takes_place = matches!(call, Call::Take { .. }) && before[6..8] == before[10..12];
+    if takes_place {
+        Lacking::QueuePlaces
+    } else {
+        Lacking::OutstandingPlaces
+    }
+}
+
+fn left(calls: &impl Calls, call: Call, memory: &[u8], room: usize) -> Left {
+    let mut memory = memory.to_vec();
+    let mut output = vec![FILL; room];
+    let answer = call.make(calls, &mut memory, &mut output);
+    Left { answer, memory, output }
+}
+
+fn equal(call: Call, name: &str, before: &[u8], one: &Left, other: &Left) -> Result<(), Wrong> {
+    if one.answer != other.answer {
+        return Err(format!("{call:?}: {:?}, by {name} {:?}", one.answer, other.answer));
+    }
+    if let Some(at) = first_difference(&one.output, &other.output) {
+        return Err(format!("{call:?}: output differs from {name} at {at}"));
+    }
+    match first_difference(&one.memory, &other.memory) {
+        Some(at) if !note_unused(before, at, &one.memory) => {
+            Err(format!("{call:?}: memory differs from {name} at {at}"))
+        }
+        _ => Ok(()),
+    }
+}
+
+/// A note that is not looked at, since no round is open before and after: the second implementation has none.
+fn note_unused(before: &[u8], at: usize, after: &[u8]) -> bool {
+    memory::NOTE.contains(&at) && before[3] == 0 && after[3] == 0
+}
+
+/// A refusal writes nothing, and bytes past the written ones stay.
+fn check_promises(call: Call, before: &[u8], left: &Left) -> Result<(), Wrong> {
+    let Answer { number, written, .. } = left.answer;
+    let refused = number != 0 && !matches!(call, Call::Work { .. });
+    if refused && (written != 0 || left.memory != before) {
+        return Err(format!("{call:?} refused with {number} changed something"));
+    }
+    if left.output[written..].iter().any(|&byte| byte != FILL) {
+        return Err(format!("{call:?} wrote past its {written} bytes"));
+    }
+    Ok(())
+}
+
+fn first_difference(one: &[u8], other: &[u8]) -> Option<usize> {
+    one.iter().zip(other).position(|(a, b)| a != b)
+}

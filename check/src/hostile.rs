@@ -1,0 +1,83 @@
+//! Hostile input: damaged frames and lists, and memories with bytes changed.
+
+use peer::generator::Generator;
+
+/// Bytes with one thing wrong, or none left, or more of them.
+pub fn damaged(generator: &mut Generator, bytes: &[u8]) -> Vec<u8> {
+    let mut bytes = bytes.to_vec();
+    match generator.below(6) {
+        0 => bytes.truncate(usize::from(generator.half()) % (bytes.len() + 1)),
+        1 => bytes.push(generator.byte()),
+        2 => bytes.iter_mut().for_each(|byte| *byte = generator.byte()),
+        3 if !bytes.is_empty() => bytes[0] ^= 1 << generator.below(8),
+        _ if !bytes.is_empty() => {
+            let at = usize::from(generator.half()) % bytes.len();
+            bytes[at] = generator.byte();
+        }
+        _ => {}
+    }
+    bytes
+}
+
+/// Memory with one thing changed. It may still be sound.
+pub fn spoiled(generator: &mut Generator, memory: &[u8]) -> Vec<u8> {
+    let mut memory = memory.to_vec();
+    let queued = half(&memory, 10);
+    let sent_at = 256 + 64 * half(&memory, 6);
+    match generator.below(14) {
+        0 => memory.truncate(usize::from(generator.half()) % (memory.len() + 1)),
+        1 => memory[usize::from(generator.below(40))] = generator.byte(),
+        2 => memory[usize::from(generator.below(40))] ^= 1 << generator.below(8),
+        3 => memory[3] = generator.below(4),
+        4 => memory[4] = generator.below(4),
+        5 => (memory[3], memory[4]) = (generator.below(3), generator.below(4)),
+        6 => memory[11] = memory[11].wrapping_add(1),
+        7 => memory[13] = memory[13].wrapping_add(1),
+        8 if queued > 1 => swap_neighbours(generator, &mut memory, queued),
+        9 if queued > 1 => copy_neighbour(generator, &mut memory, queued),
+        10 if queued > 0 => {
+            let place = usize::from(generator.half()) % queued;
+            memory[256 + 64 * place] = generator.below(4);
+        }
+        11 if half(&memory, 12) > 0 => {
+            let place = usize::from(generator.half()) % half(&memory, 12);
+            change_place(generator, &mut memory[sent_at + 32 * place..][..32]);
+        }
+        _ if queued > 0 => {
+            let place = usize::from(generator.half()) % queued;
+            change_place(generator, &mut memory[256 + 64 * place..][..64]);
+        }
+        _ => {}
+    }
+    memory
+}
+
+/// Changes a byte of a place, often the hour's first or a gateway's number.
+fn change_place(generator: &mut Generator, place: &mut [u8]) {
+    match generator.below(4) {
+        0 => place[4] = 255,
+        1 => place[generator.pick(&[2, 3, 8])] = generator.byte(),
+        _ => {
+            let at = usize::from(generator.half()) % place.len();
+            place[at] = generator.byte();
+        }
+    }
+}
+
+fn swap_neighbours(generator: &mut Generator, memory: &mut [u8], queued: usize) {
+    let at = 256 + 64 * (usize::from(generator.half()) % (queued - 1));
+    let (one, other) = memory[at..at + 128].split_at_mut(64);
+    one.swap_with_slice(other);
+}
+
+/// Makes a place equal to its neighbour, but for the mark.
+fn copy_neighbour(generator: &mut Generator, memory: &mut [u8], queued: usize) {
+    let at = 256 + 64 * (usize::from(generator.half()) % (queued - 1));
+    memory.copy_within(at..at + 64, at + 64);
+    memory[at + 64] = generator.below(3);
+    memory[at + 64 + 30..at + 128].fill(0);
+}
+
+fn half(bytes: &[u8], at: usize) -> usize {
+    u16::from_be_bytes([bytes[at], bytes[at + 1]]).into()
+}

@@ -1,0 +1,14 @@
+//! Compares the proved library with plain Rust and the second implementation, call by call, over random and
+//! hostile input, and checks the claim of demand 3 after each call of a run.
+
+pub mod compare;
+pub mod draw;
+pub mod hostile;
+pub mod ledger;
+pub mod peer_calls;
+pub mod runs;
+pub mod tally;
+pub mod world;
+
+/// What went wrong.
+pub type Wrong = String;

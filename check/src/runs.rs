@@ -1,0 +1,360 @@
+//! The runs: forecasts with random carriers, single gateways that are told anything, set-ups and routing.
+
+use crate::compare::{Call, Comparison, AMPLE};
+use crate::draw::{self, Site};
+use crate::hostile;
+use crate::world::{opening, World};
+use crate::Wrong;
+use interface::{memory_length, Opening, MOST_PLACES};
+use peer::forecast;
+use peer::frame::Frame;
+use peer::generator::Generator;
+use peer::model::NOTHING_DUE;
+
+/// Output lengths to choose from, with those just too short for one, two or three frames.
+const ROOMS: [&[usize]; 2] =
+    [&[AMPLE], &[AMPLE, AMPLE, AMPLE, 0, 3, 4, 7, 8, 15, 16, 27, 28, 40, 41, 54, 56, 84, 90]];
+
+/// Turns after which a run that does not go on is left.
+const PATIENCE: usize = 60;
+
+/// All runs of one seed.
+pub fn all(seed: u32, comparison: &mut Comparison) -> Result<(), Wrong> {
+    let mut generator = Generator::new(seed);
+    forecast_run(&mut generator, comparison, 600)?;
+    single_gateway(&mut generator, comparison, 600)?;
+    set_ups(&mut generator, comparison, 60)?;
+    for _ in 0..20 {
+        let gateways = generator.word() % 70_000;
+        let own = generator.word() % (gateways + 2);
+        comparison.route(gateways, own, generator.below(7).into())?;
+    }
+    Ok(())
+}
+
+/// Every gateway's neighbours for all numbers of gateways up to a limit.
+pub fn routes(limit: u32, comparison: &mut Comparison) -> Result<(), Wrong> {
+    for gateways in (0..=limit).chain([65_534, 65_535, 65_536, u32::MAX]) {
+        let numbers = if gateways <= limit { gateways + 1 } else { 40 };
+        for own in 0..=numbers {
+            comparison.route(gateways, own, 4)?;
+        }
+        comparison.route(gateways, gateways.saturating_sub(1), 5)?;
+        comparison.route(gateways, u32::MAX, 4)?;
+    }
+    Ok(())
+}
+
+/// A random forecast: random calls, then turns until every record is whole or too few places stop it. Between the calls
+/// hostile ones are made on copies of the memories.
+pub fn forecast_run(
+    generator: &mut Generator,
+    comparison: &mut Comparison,
+    calls: usize,
+) -> Result<(), Wrong> {
+    let setups = forecast::draw(generator);
+    let Some(mut world) = World::new(&setups, comparison)? else {
+        return Err("a drawn set-up was refused".into());
+    };
+    let habits = Habits::draw(generator);
+    for _ in 0..calls {
+        random_call(&mut world, &habits, generator, comparison)?;
+        comparison
+            .tally
+            .count_other("calls with a cancel waiting", u64::from(world.waiting_cancels() > 0));
+        let own = generator.below(world.gateways());
+        probe(&world.memories[usize::from(own)], generator, comparison)?;
+    }
+    let whole = finish(&mut world, comparison)?;
+    comparison.tally.count_other(if whole { "forecasts whole" } else { "forecasts stuck" }, 1);
+    Ok(())
+}
+
+/// What a random carrier prefers.
+struct Habits {
+    /// How often work, bringing, the start call and commit are chosen, one after the other.
+    weights: [u8; 4],
+    newest: bool,
+    /// Whether frames of rounds, or all others, are seldom brought.
+    slow_rounds: Option<bool>,
+    rooms: &'static [usize],
+}
+
+impl Habits {
+    fn draw(generator: &mut Generator) -> Habits {
+        let weights = [8, 12, 3, 3].map(|most| 1 + generator.below(most));
+        Habits {
+            weights,
+            newest: generator.below(4) == 0,
+            slow_rounds: generator.pick(&[None, Some(true), Some(true), Some(false)]),
+            rooms: generator.pick(&ROOMS),
+        }
+    }
+}
+
+fn random_call(
+    world: &mut World,
+    habits: &Habits,
+    generator: &mut Generator,
+    comparison: &mut Comparison,
+) -> Result<(), Wrong> {
+    let own = generator.below(world.gateways());
+    let room = generator.pick(habits.rooms);
+    let mut chosen = generator.below(habits.weights.iter().sum());
+    let mut call = 0;
+    while chosen >= habits.weights[call] {
+        chosen -= habits.weights[call];
+        call += 1;
+    }
+    match call {
+        0 => world.work(comparison, own, generator.below(4).into(), room),
+        1 => bring(world, habits, generator, comparison, room),
+        2 => {
+            let own = generator.pick(&[0, own]);
+            world.start(comparison, own, room)
+        }
+        _ => world.commit(comparison, own, room).map(|_| ()),
+    }
+}
+
+fn bring(
+    world: &mut World,
+    habits: &Habits,
+    generator: &mut Generator,
+    comparison: &mut Comparison,
+    room: usize,
+) -> Result<(), Wrong> {
+    let count = world.frames_under_way();
+    if count == 0 {
+        return Ok(());
+    }
+    let place = if habits.newest { count - 1 } else { usize::from(generator.half()) % count };
+    let is_round = !matches!(world.frame(place).0, Frame::Event { .. });
+    if habits.slow_rounds == Some(is_round) && generator.below(12) != 0 {
+        return Ok(());
+    }
+    world.bring(comparison, place, room)
+}
+
+/// Turns: every gateway works, every frame then under way is brought, gateway 0 starts a round, every gateway commits.
+/// Whether every record became whole.
+fn finish(world: &mut World, comparison: &mut Comparison) -> Result<bool, Wrong> {
+    let mut progress = world.progress();
+    let mut idle = 0;
+    while idle < PATIENCE {
+        if world.is_whole(comparison)? {
+            return Ok(true);
+        }
+        for own in 0..world.gateways() {
+            world.work(comparison, own, 4, AMPLE)?;
+        }
+        for _ in 0..world.frames_under_way() {
+            world.bring(comparison, 0, AMPLE)?;
+        }
+        if world.agreed(0) != NOTHING_DUE {
+            world.start(comparison, 0, AMPLE)?;
+        }
+        for own in 0..world.gateways() {
+            while world.commit(comparison, own, AMPLE)? {}
+        }
+        let now = world.progress();
+        idle = if now == progress { idle + 1 } else { 0 };
+        progress = now;
+    }
+    Ok(false)
+}
+
+/// A hostile call on a copy of a memory: a frame out of nowhere, or damaged, or a memory with something changed.
+fn probe(
+    memory: &[u8],
+    generator: &mut Generator,
+    comparison: &mut Comparison,
+) -> Result<(), Wrong> {
+    let site = Site::of(memory);
+    let frame = draw::frame(generator, &site);
+    if generator.below(2) == 0 {
+        let frame =
+            if generator.below(3) == 0 { hostile::damaged(generator, &frame) } else { frame };
+        let room = generator.pick(&[AMPLE, AMPLE, 0, 8, 28, 56]);
+        comparison.call(Call::Take { frame: &frame }, &mut memory.to_vec(), room)?;
+        return Ok(());
+    }
+    let mut spoiled = hostile::spoiled(generator, memory);
+    comparison.agreed_time(&spoiled)?;
+    let call = match generator.below(8) {
+        0 | 1 => Call::Work { budget: generator.below(5).into() },
+        2 => Call::Start,
+        3 => Call::Commit,
+        _ => Call::Take { frame: &frame },
+    };
+    comparison.call(call, &mut spoiled, AMPLE)?;
+    Ok(())
+}
+
+/// One gateway of a few that is told anything, and keeps what it accepts: states that no run comes to.
+pub fn single_gateway(
+    generator: &mut Generator,
+    comparison: &mut Comparison,
+    calls: usize,
+) -> Result<(), Wrong> {
+    let most = generator.pick(&[1, 2, 4, 4, 7, 12, 254]);
+    let gateways = 1 + generator.below(most);
+    let own = if generator.below(3) == 0 { 0 } else { generator.below(gateways) };
+    let opening = Opening {
+        gateways: gateways.into(),
+        own: own.into(),
+        supplier: generator.below(gateways).into(),
+        stock: generator.below(4).into(),
+        last_hour: draw::last_hour(generator),
+        queue_places: draw::places(generator),
+        outstanding_places: draw::places(generator),
+    };
+    let mut memory =
+        vec![generator.byte(); memory_length(opening.queue_places, opening.outstanding_places)];
+    comparison.set_up(&mut memory, &[], &opening)?;
+    let site = Site::of(&memory);
+    let rooms = generator.pick(&ROOMS);
+    let mut sent: Vec<Vec<u8>> = Vec::new();
+    for _ in 0..calls {
+        let room = generator.pick(rooms);
+        let frame = told(generator, &site, &sent);
+        let call = match generator.below(16) {
+            0..=2 => Call::Work { budget: generator.below(6).into() },
+            3 => Call::Start,
+            4 => Call::Commit,
+            _ => Call::Take { frame: &frame },
+        };
+        let (_, output) = comparison.call(call, &mut memory, room)?;
+        remember(&mut sent, &output);
+        comparison.agreed_time(&memory)?;
+        if generator.below(4) == 0 {
+            probe(&memory, generator, comparison)?;
+        }
+    }
+    Ok(())
+}
+
+/// A drawn frame, or the acknowledgment of something that the gateway sent.
+fn told(generator: &mut Generator, site: &Site, sent: &[Vec<u8>]) -> Vec<u8> {
+    if sent.is_empty() || generator.below(3) != 0 {
+        return draw::frame(generator, site);
+    }
+    let mut frame = sent[usize::from(generator.half()) % sent.len()].clone();
+    let sense = if frame[0] & 128 == 0 { 2 } else { 3 };
+    frame.resize(27, 0);
+    frame[0] |= 128;
+    frame.push(sense);
+    frame
+}
+
+/// Keeps some of the messages and cancels that a gateway sent.
+fn remember(sent: &mut Vec<Vec<u8>>, output: &[u8]) {
+    for frame in peer::frame::list(output).into_iter().flatten() {
+        let bytes = peer::frame::write(&frame);
+        if matches!(bytes.last(), Some(1)) && bytes.len() == 28 || bytes.len() == 27 {
+            sent.push(bytes);
+        }
+    }
+    if sent.len() > 40 {
+        sent.drain(..20);
+    }
+}
+
+/// Set-ups with settings in and out of their ranges, and opening lists whole, damaged, cut and too long.
+pub fn set_ups(
+    generator: &mut Generator,
+    comparison: &mut Comparison,
+    count: usize,
+) -> Result<(), Wrong> {
+    for _ in 0..count {
+        let setups = forecast::draw(generator);
+        let setup = &setups[usize::from(generator.half()) % setups.len()];
+        let mut opening = opening(setup);
+        let mut list = setup.opening.clone();
+        if generator.below(4) == 0 {
+            let site = Site {
+                gateways: opening.gateways as u8,
+                own: opening.own as u8,
+                last_hour: opening.last_hour,
+            };
+            list.extend(draw::frame(generator, &site));
+        }
+        if generator.below(3) == 0 {
+            list = hostile::damaged(generator, &list);
+        }
+        if generator.below(4) == 0 {
+            list = list.repeat(usize::from(generator.below(12)));
+        }
+        if generator.below(3) == 0 {
+            change_setting(generator, &mut opening);
+        }
+        let mut length =
+            memory_length(opening.queue_places.min(600), opening.outstanding_places.min(600));
+        if generator.below(6) == 0 {
+            length = length.saturating_sub(1 + usize::from(generator.below(3)));
+        }
+        let mut memory = vec![generator.byte(); length];
+        comparison.set_up(&mut memory, &list, &opening)?;
+    }
+    Ok(())
+}
+
+fn change_setting(generator: &mut Generator, opening: &mut Opening) {
+    let odd = generator.pick(&[0, 1, 2, 255, 256, 511, 512, 513, 65_535, 65_536, NOTHING_DUE]);
+    let settings = [
+        &mut opening.gateways,
+        &mut opening.own,
+        &mut opening.supplier,
+        &mut opening.stock,
+        &mut opening.last_hour,
+        &mut opening.queue_places,
+        &mut opening.outstanding_places,
+    ];
+    let chosen = usize::from(generator.below(7));
+    *settings.into_iter().nth(chosen).expect("one of seven") = odd;
+}
+
+/// A gateway with all 512 places in use: long work, long undoing, and what no longer fits.
+pub fn most_places(comparison: &mut Comparison) -> Result<(), Wrong> {
+    for (stock, outstanding_places) in [(0, MOST_PLACES), (65_535, MOST_PLACES), (100, 300)] {
+        let opening = Opening {
+            gateways: 2,
+            own: 1,
+            supplier: 0,
+            stock,
+            last_hour: 100_000,
+            queue_places: MOST_PLACES,
+            outstanding_places,
+        };
+        let mut memory = vec![0; memory_length(MOST_PLACES, outstanding_places)];
+        comparison.set_up(&mut memory, &[], &opening)?;
+        for number in 0..511u32 {
+            comparison.call(
+                Call::Take { frame: &request(1000 - number % 100, number) },
+                &mut memory,
+                AMPLE,
+            )?;
+        }
+        let (_, output) = comparison.call(Call::Work { budget: 600 }, &mut memory, AMPLE)?;
+        let first = request(1, 7);
+        comparison.call(Call::Take { frame: &first }, &mut memory.clone(), 28 * 512 - 1)?;
+        comparison.call(Call::Take { frame: &first }, &mut memory, AMPLE)?;
+        for frame in output.chunks(27) {
+            let acknowledgment = [&[191], &frame[1..], &[2]].concat();
+            comparison.call(Call::Take { frame: &acknowledgment }, &mut memory, 0)?;
+        }
+        comparison.call(Call::Take { frame: &first }, &mut memory.clone(), 28 * 512 - 1)?;
+        comparison.call(Call::Take { frame: &first }, &mut memory, AMPLE)?;
+        comparison.call(Call::Take { frame: &first }, &mut memory, AMPLE)?;
+        let cancel = [&[191], &first[1..], &[1]].concat();
+        comparison.call(Call::Work { budget: 600 }, &mut memory, AMPLE)?;
+        comparison.call(Call::Take { frame: &cancel }, &mut memory, AMPLE)?;
+    }
+    Ok(())
+}
+
+/// A Request from gateway 0 to gateway 1.
+fn request(hour: u32, lamp: u32) -> Vec<u8> {
+    let head = [&[63, 1, 0, 1][..], &hour.to_be_bytes(), &[0]].concat();
+    [head, format!("L{lamp:017}").into_bytes()].concat()
+}

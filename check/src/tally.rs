@@ -1,0 +1,173 @@
+//! How many calls of each kind were made, with which answers, and which answers are still missing.
+
+use peer::frame::{self, Frame, Sense};
+use peer::memory::{Unsound, REASONS};
+use peer::model::Kind;
+use std::collections::BTreeMap;
+use std::fmt;
+
+/// What a call was, as finely as refusals are told apart.
+#[derive(Clone, Copy, Debug, PartialEq, Eq, PartialOrd, Ord)]
+pub enum Called {
+    Route,
+    SetUp,
+    Work,
+    TakeFailure,
+    TakeRequest,
+    TakeDelivery,
+    TakeCancel,
+    TakeAcknowledgment,
+    TakeAcknowledgmentOfCancel,
+    TakeStart,
+    TakeLvt,
+    TakeUpdate,
+    TakeOtherBytes,
+    Start,
+    Commit,
+    AgreedTime,
+}
+
+/// Every kind of call with the numbers that it can answer.
+const ANSWERS: [(Called, &[u32]); 16] = [
+    (Called::Route, &[0, 5, 8]),
+    (Called::SetUp, &[0, 1, 2, 3, 5, 8]),
+    (Called::Work, &[0, 5, 6, 10]),
+    (Called::TakeFailure, &[0, 2, 3, 5, 9, 10]),
+    (Called::TakeRequest, &[0, 2, 3, 5, 9, 10]),
+    (Called::TakeDelivery, &[0, 2, 3, 5, 9, 10]),
+    (Called::TakeCancel, &[0, 2, 3, 5, 9, 10]),
+    (Called::TakeAcknowledgment, &[0, 2, 3, 7, 10]),
+    (Called::TakeAcknowledgmentOfCancel, &[0, 2, 3, 7, 10]),
+    (Called::TakeStart, &[0, 2, 4, 5, 10]),
+    (Called::TakeLvt, &[0, 2, 3, 4, 5, 9, 10]),
+    (Called::TakeUpdate, &[0, 2, 3, 4, 5, 10]),
+    (Called::TakeOtherBytes, &[1, 10]),
+    (Called::Start, &[0, 4, 5, 10]),
+    (Called::Commit, &[0, 5, 6, 10]),
+    (Called::AgreedTime, &[0, 10]),
+];
+
+/// Why there was no room.
+#[derive(Clone, Copy, Debug, PartialEq, Eq, PartialOrd, Ord)]
+pub enum Lacking {
+    QueuePlaces,
+    OutstandingPlaces,
+    OutputBytes,
+}
+
+const LACKING: [Lacking; 3] =
+    [Lacking::QueuePlaces, Lacking::OutstandingPlaces, Lacking::OutputBytes];
+
+#[derive(Clone, Debug, Default)]
+pub struct Tally {
+    answers: BTreeMap<(Called, u32), u64>,
+    unsound: BTreeMap<Unsound, u64>,
+    lacking: BTreeMap<Lacking, u64>,
+    others: BTreeMap<&'static str, u64>,
+}
+
+impl Called {
+    /// What taking these bytes is.
+    pub fn taking(bytes: &[u8]) -> Called {
+        match frame::read(bytes) {
+            Some(Frame::Event { sense: Sense::Plain, message }) => match message.kind {
+                Kind::Failure => Called::TakeFailure,
+                Kind::Request => Called::TakeRequest,
+                Kind::Delivery => Called::TakeDelivery,
+                Kind::Restock => Called::TakeOtherBytes,
+            },
+            Some(Frame::Event { sense: Sense::Cancel, .. }) => Called::TakeCancel,
+            Some(Frame::Event { sense: Sense::Acknowledgment, .. }) => Called::TakeAcknowledgment,
+            Some(Frame::Event { sense: Sense::AcknowledgmentOfCancel, .. }) => {
+                Called::TakeAcknowledgmentOfCancel
+            }
+            Some(Frame::Start { .. }) => Called::TakeStart,
+            Some(Frame::Lvt { .. }) => Called::TakeLvt,
+            Some(Frame::Update { .. }) => Called::TakeUpdate,
+            None => Called::TakeOtherBytes,
+        }
+    }
+}
+
+impl Tally {
+    pub fn count(&mut self, called: Called, number: u32) {
+        *self.answers.entry((called, number)).or_default() += 1;
+    }
+
+    pub fn count_unsound(&mut self, reason: Unsound) {
+        *self.unsound.entry(reason).or_default() += 1;
+    }
+
+    pub fn count_lacking(&mut self, lacking: Lacking) {
+        *self.lacking.entry(lacking).or_default() += 1;
+    }
+
+    /// Counts something else that is worth knowing.
+    pub fn count_other(&mut self, what: &'static str, times: u64) {
+        *self.others.entry(what).or_default() += times;
+    }
+
+    pub fn calls(&self) -> u64 {
+        self.answers.values().sum()
+    }
+
+    /// How often calls of that kind had that answer.
+    pub fn times(&self, called: Called, number: u32) -> u64 {
+        self.answers.get(&(called, number)).copied().unwrap_or(0)
+    }
+
+    /// Answers and reasons that can be and were never met.
+    pub fn gaps(&self) -> Vec<String> {
+        let mut gaps = Vec::new();
+        for (called, numbers) in ANSWERS {
+            for &number in numbers.iter().filter(|&&number| self.times(called, number) == 0) {
+                gaps.push(format!("{called:?} was never answered with {number}"));
+            }
+        }
+        for reason in REASONS.iter().filter(|reason| !self.unsound.contains_key(reason)) {
+            gaps.push(format!("memory was never unsound for {reason:?}"));
+        }
+        for lacking in LACKING.iter().filter(|lacking| !self.lacking.contains_key(lacking)) {
+            gaps.push(format!("5 was never answered for too few {lacking:?}"));
+        }
+        gaps
+    }
+
+    /// Answers that were met and cannot be.
+    pub fn impossible(&self) -> Vec<String> {
+        let possible = |called, number| {
+            ANSWERS.iter().any(|&(row, numbers)| row == called && numbers.contains(&number))
+        };
+        let met = self.answers.keys().filter(|&&(called, number)| !possible(called, number));
+        met.map(|(called, number)| format!("{called:?} was answered with {number}")).collect()
+    }
+}
+
+impl fmt::Display for Tally {
+    fn fmt(&self, formatter: &mut fmt::Formatter) -> fmt::Result {
+        write!(formatter, "{:28}", "calls answered with")?;
+        for number in 0..=10 {
+            write!(formatter, "{number:>9}")?;
+        }
+        writeln!(formatter)?;
+        for (called, numbers) in ANSWERS {
+            write!(formatter, "{:28}", format!("{called:?}"))?;
+            for number in 0..=10 {
+                let times = self.times(called, number);
+                let shown = times > 0 || numbers.contains(&number);
+                write!(formatter, "{:>9}", if shown { times.to_string() } else { "-".into() })?;
+            }
+            writeln!(formatter)?;
+        }
+        for (reason, times) in &self.unsound {
+            writeln!(formatter, "10 for {reason:?}: {times}")?;
+        }
+        for (lacking, times) in &self.lacking {
+            writeln!(formatter, "5 for too few {lacking:?}: {times}")?;
+        }
+        for (what, times) in &self.others {
+            writeln!(formatter, "{what}: {times}")?;
+        }
+        writeln!(formatter, "{} calls", self.calls())
+    }
+}

@@ -1,0 +1,65 @@
+-- The lengths of the frames that calls put out: none has more than twenty-eight bytes.
+use mathlib.Core.Path.{_≡_, refl}
+use mathlib.Core.Bool.{Bool, true, false, cond}
+use mathlib.Core.List.{List, [], _∷_, _++_}
+use Prim.Native.Nat.{ℕ, _+_, _*_, _≤_}
+use native.Mathlib.Omega.{arith}
+use lib.Dec.{leb}
+use lib.ListN.{length, length-append}
+use Rattle.routing.specs.Arcs.{_∈_}
+use mathlib.Core.List.{List·Memᴰ·head as here, List·Memᴰ·tail as there}
+use Rattle.model.specs.Messages.{kindNumber}
+use Rattle.model.specs.declared.Message.{Message}
+use Rattle.model.specs.declared.Kind.{Kind}
+use Rattle.model.specs.declared.Kind.the-variants.{Failure, Request, Delivery, Restock, Start, Lvt, Update}
+use Rattle.frame.specs.Layout.{wholeLength}
+use Rattle.frame.specs.Kinds.{mapOf, mapOfKind, senseNumber}
+use Rattle.frame.specs.Writing.{written}
+use Rattle.frame.specs.declared.Frame.{Frame}
+use Rattle.frame.proofs.Output.{whole-size}
+use Rattle.memory.specs.Records.{Gateway}
+use Rattle.memory.specs.Validity.{frameIf}
+use Rattle.gateway.specs.Effects.{bytesOfFrames, framesFor, sentOne, sentAll}
+use Rattle.gateway.specs.Rounds.{roundFrame, frames}
+
+kind-small : (b : Bool) (kind : Kind) → wholeLength (cond b (mapOfKind (kindNumber kind) + 128) (mapOfKind (kindNumber kind))) ≤ 28
+unfolding wholeLength mapOfKind
+kind-small true (Failure origin) = omega arith
+kind-small true (Request origin) = omega arith
+kind-small true (Delivery origin) = omega arith
+kind-small true (Restock quantity) = omega arith
+kind-small true Start = omega arith
+kind-small true Lvt = omega arith
+kind-small true Update = omega arith
+kind-small false (Failure origin) = omega arith
+kind-small false (Request origin) = omega arith
+kind-small false (Delivery origin) = omega arith
+kind-small false (Restock quantity) = omega arith
+kind-small false Start = omega arith
+kind-small false Lvt = omega arith
+kind-small false Update = omega arith
+
+pub frame-small : (f : Frame) → length (f .message .lamp) ≡ 18 → length (written f) ≤ 28
+unfolding mapOf
+frame-small f lamp = rw (whole-size f lamp) (kind-small (leb 1 (senseNumber (f .sense))) (f .message .kind))
+
+-- the frames of some messages or cancels
+pub messages-small : (cancel : Bool) (ms : List Message) → ((m : Message) → m ∈ ms → length (m .lamp) ≡ 18) → length (bytesOfFrames (framesFor cancel ms)) ≤ 28 * length ms
+unfolding bytesOfFrames
+messages-small cancel [] h = omega arith
+messages-small cancel (m ∷ ms) h =
+    rw length-append
+    (omega (arith, frame-small (frameIf cancel m) (h m (here refl)), messages-small cancel ms (λ x n. h x (there n))))
+
+-- the frames of a round
+pub round-small : (kind : Kind) (hour own : ℕ) (receivers : List ℕ) → length (bytesOfFrames (frames kind hour own receivers)) ≤ 28 * length receivers
+unfolding bytesOfFrames
+round-small kind hour own [] = omega arith
+round-small kind hour own (to ∷ receivers) =
+    rw length-append (omega (arith, frame-small (roundFrame kind hour own to) refl, round-small kind hour own receivers))
+
+-- each message sent takes an outstanding place
+pub places-taken : (cancel : Bool) (ms : List Message) (g : Gateway) → length (sentAll cancel ms g .outstanding) ≡ length (g .outstanding) + length ms
+unfolding sentAll sentOne
+places-taken cancel [] g = omega arith
+places-taken cancel (m ∷ ms) g = let rest = rw length-append at (places-taken cancel ms (sentOne cancel m g)) in omega arith

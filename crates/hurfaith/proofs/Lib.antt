@@ -1,0 +1,6 @@
+-- Laws and proofs of the exported functions.
+pub mod FrameSizes
+pub mod WrittenSizes
+pub mod TakenSizes
+pub mod Packing
+pub mod Routing

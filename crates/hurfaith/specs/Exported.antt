@@ -1,0 +1,60 @@
+-- The answers of the exported functions: the numbers of an answer packed into one, and a gateway's neighbours in an array.
+use mathlib.Core.Path.{_≡_}
+use Prim.Native.Nat.{ℕ, _+_, _*_, _/_, _%_}
+use mathlib.Core.Bool.{cond}
+use mathlib.Core.List.{List, _∷_}
+use lib.Dec.{leb, ltb, eqb}
+use lib.ListN.{length, getD, drop}
+use Rattle.routing.specs.Answers.{neighboursOf}
+use Rattle.routing.specs.declared.Gateways.{Gateways}
+use Rattle.routing.specs.declared.Neighbours.{Neighbours}
+use Rattle.gateway.specs.Calls.{Left}
+use Rattle.gateway.specs.declared.Answer.{Answer}
+use Rattle.gateway.specs.declared.Worked.{Worked}
+use Rattle.gateway.specs.declared.AgreedTime.{AgreedTime}
+
+-- a number below 256, the bytes written, below 16,777,216, and a count below 4,294,967,296 in one number of 64 bits
+unfoldable pub packed : ℕ → ℕ → ℕ → ℕ
+packed number written count = number + 256 * written + 4294967296 * count
+
+-- each part is read back from a packed answer, as a C program does it
+pub record ReadBack (n w c : ℕ) : Type 0 where
+  pub number : packed n w c % 256 ≡ n
+  pub written : packed n w c / 256 % 16777216 ≡ w
+  pub count : packed n w c / 4294967296 ≡ c
+
+-- what taking a frame, the start call and commit leave, with the answer packed: the count is 0
+abbrev pub packedAnswer : Left Answer → Left ℕ
+packedAnswer l = record { answer = packed (l .answer .number) (l .answer .written) 0; memory = l .memory; output = l .output }
+
+-- what work leaves, with the answer packed: why it stopped, the bytes written and the events done
+abbrev pub packedWork : Left Worked → Left ℕ
+packedWork l = record { answer = packed (l .answer .why) (l .answer .written) (l .answer .count); memory = l .memory; output = l .output }
+
+-- what set up leaves, with the answer's number alone: it writes no output
+abbrev pub numberAlone : Left Answer → Left ℕ
+numberAlone l = record { answer = l .answer .number; memory = l .memory; output = l .output }
+
+-- the agreed time's number and hour
+abbrev pub packedTime : AgreedTime → ℕ
+packedTime t = packed (t .number) 0 (t .hour)
+
+-- the gateway of that index, 65,535 where there is none
+abbrev pub numberAt : Gateways → ℕ → ℕ
+numberAt g i = cond (ltb i (g .count)) (getD (g .number) i 0) 65535
+
+-- what the call of routing leaves: its number, and the array
+pub record Routed : Type 0 where
+  pub answer : ℕ
+  pub neighbours : List ℕ
+
+-- the two that a gateway hears from and the two that it tells at the array's front; 8 for a number outside its range, then 5 for
+-- an array of less than four
+unfoldable pub routed : ℕ → ℕ → List ℕ → Routed
+unfolding neighboursOf
+routed N own neighbours =
+    let r = neighboursOf N own in
+    let front = numberAt (r .from) 0 ∷ numberAt (r .from) 1 ∷ numberAt (r .to) 0 ∷ numberAt (r .to) 1 ∷ drop 4 neighbours in
+    cond (eqb (r .answer) 0)
+    (cond (leb 4 (length neighbours)) (record { answer = 0; neighbours = front }) (record { answer = 5; neighbours = neighbours }))
+    (record { answer = r .answer; neighbours = neighbours })

@@ -1,0 +1,2 @@
+-- The answers of the exported functions.
+pub mod Exported

@@ -1,0 +1,145 @@
+// The calls for programs in C and other languages. Each promises what the call below it promises; an answer of several numbers
+// comes packed into one. include/hurfaith.h is their C side.
+use gateway::Opening;
+use gateway::agreed::agreed_time;
+use gateway::commit::commit;
+use gateway::start::start;
+use opening::set_up::set_up;
+use routing::Gateways;
+use routing::neighbours_of;
+use take::take::take;
+use work::work;
+ghost use mathlib.Core.Path.{_≡_};
+ghost use mathlib.Core.List.{[], _∷_};
+ghost use Prim.Native.Nat.{_<_, _≤_};
+ghost use lib.ListN.{getD, length, drop};
+ghost use Rattle.gateway.specs.Calls.{setUp, workedOff, taken, started, committed, agreedTime};
+ghost use Rattle.hurfaith.specs.Exported as Exported;
+ghost use Rattle.hurfaith.specs.Exported.{packedAnswer, packedWork, numberAlone, packedTime, numberAt, routed};
+
+// The neighbours of a gateway: the two that it hears from and the two that it tells, 65,535 where there is none.
+#[no_mangle]
+pub extern "C" fn hurfaith_route(gateways: u32, own: u32, neighbours: &mut [u16]) -> u32
+    ensures { λ r. ⌜ record { answer = r; neighbours = now (neighbours .exit) } ≡ routed gateways own (now (neighbours .entry)) ⌝ }
+{
+    let around = neighbours_of(gateways, own);
+    if around.answer != 0 {
+        return around.answer as u32;
+    }
+    if neighbours.len() < 4 {
+        return 5;
+    }
+    let from = around.from;
+    let to = around.to;
+    put_four(
+        neighbours,
+        number_at(from, 0),
+        number_at(from, 1),
+        number_at(to, 0),
+        number_at(to, 1),
+    );
+    0
+}
+
+// The gateway of that index, 65,535 where there is none.
+fn number_at(among: Gateways, i: usize) -> u16
+    requires { ⌜ (i < 2) × (getD (among .number) i 0 < 65536) ⌝ }
+    ensures { λ r. ⌜ r ≡ numberAt among i ⌝ }
+{
+    if i >= among.count {
+        return 65535;
+    }
+    let number = among.number;
+    number[i] as u16
+}
+
+fn put_four(neighbours: &mut [u16], first: u16, second: u16, third: u16, fourth: u16)
+    requires { ⌜ 4 ≤ length (now neighbours) ⌝ }
+    ensures { λ _. ⌜ now (neighbours .exit) ≡ first ∷ second ∷ third ∷ fourth ∷ drop 4 (now (neighbours .entry)) ⌝ }
+{
+    neighbours[0] = first;
+    neighbours[1] = second;
+    neighbours[2] = third;
+    neighbours[3] = fourth;
+}
+
+// Set up.
+#[no_mangle]
+pub extern "C" fn hurfaith_set_up(
+    memory: &mut [u8],
+    list: &[u8],
+    gateways: u32,
+    own: u32,
+    supplier: u32,
+    stock: u32,
+    last_hour: u32,
+    queue_places: u32,
+    outstanding_places: u32,
+) -> u32
+    ensures { λ r. ⌜ record { answer = r; memory = now (memory .exit); output = [] } ≡ numberAlone (setUp (record { n = gateways; own = own; supplier = supplier; stock = stock; last = «last_hour»; q = «queue_places»; u = «outstanding_places» }) (now (list .entry)) (now (memory .entry))) ⌝ }
+{
+    let opening = Opening {
+        n: gateways,
+        own,
+        supplier,
+        stock,
+        last: last_hour,
+        q: queue_places,
+        u: outstanding_places,
+    };
+    let answer = set_up(memory, opening, list);
+    answer.number as u32
+}
+
+// Work: up to budget events.
+#[no_mangle]
+pub extern "C" fn hurfaith_work(memory: &mut [u8], output: &mut [u8], budget: u32) -> u64
+    ensures { λ r. ⌜ record { answer = r; memory = now (memory .exit); output = now (output .exit) } ≡ packedWork (workedOff budget (now (memory .entry)) (now (output .entry))) ⌝ }
+{
+    let worked = work(memory, output, budget);
+    packed(worked.why, worked.written, worked.count)
+}
+
+// Taking a frame.
+#[no_mangle]
+pub extern "C" fn hurfaith_take(memory: &mut [u8], frame: &[u8], output: &mut [u8]) -> u64
+    ensures { λ r. ⌜ record { answer = r; memory = now (memory .exit); output = now (output .exit) } ≡ packedAnswer (taken (now (memory .entry)) (now (frame .entry)) (now (output .entry))) ⌝ }
+{
+    let answer = take(memory, frame, output);
+    packed(answer.number, answer.written, 0)
+}
+
+// The start call.
+#[no_mangle]
+pub extern "C" fn hurfaith_start(memory: &mut [u8], output: &mut [u8]) -> u64
+    ensures { λ r. ⌜ record { answer = r; memory = now (memory .exit); output = now (output .exit) } ≡ packedAnswer (started (now (memory .entry)) (now (output .entry))) ⌝ }
+{
+    let answer = start(memory, output);
+    packed(answer.number, answer.written, 0)
+}
+
+// Commit.
+#[no_mangle]
+pub extern "C" fn hurfaith_commit(memory: &mut [u8], output: &mut [u8]) -> u64
+    ensures { λ r. ⌜ record { answer = r; memory = now (memory .exit); output = now (output .exit) } ≡ packedAnswer (committed (now (memory .entry)) (now (output .entry))) ⌝ }
+{
+    let answer = commit(memory, output);
+    packed(answer.number, answer.written, 0)
+}
+
+// Reading the agreed time.
+#[no_mangle]
+pub extern "C" fn hurfaith_agreed_time(memory: &[u8]) -> u64
+    ensures { λ r. ⌜ r ≡ packedTime (agreedTime (now (memory .entry))) ⌝ }
+{
+    let time = agreed_time(memory);
+    packed(time.number, 0, time.hour)
+}
+
+// A number, the bytes written and a count in one number.
+fn packed(number: u8, written: usize, count: u32) -> u64
+    requires { ⌜ written < 16777216 ⌝ }
+    ensures { λ r. ⌜ r ≡ Exported.packed number written count ⌝ }
+{
+    number as u64 + 256 * (written as u64) + 4294967296 * (count as u64)
+}

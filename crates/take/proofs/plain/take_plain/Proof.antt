@@ -1,0 +1,61 @@
+-- `take::plain::take_plain` meets its contract.
+use native.Mathlib.Omega.{arith}
+use Rattle.gateway.proofs.Changing.{sizes}
+use Rattle.take.proofs.Dispatching.{below, not-below}
+use Rattle.take.proofs.PlainTakings.{meets, enters}
+use borrow.Author.Needs.{needs}
+use Rattle.take.proofs.plain.take_plain.Statement.{statement}
+use Rattle.take.proofs.plain.take_plain.Tie as tie
+
+refused-requires : tie.Need-refused-requires
+refused-requires c κs = search needs
+
+returns : tie.Need-returns
+returns c = below _ _ _ (c .before .before .before .before .before .before .pre .0) _ _ (c .before .if1 .taken) (c .refused .ensures)
+
+cast-queued : tie.Need-cast-queued
+cast-queued c = search needs
+
+find-requires : tie.Need-find-requires
+find-requires c κs = let z = sizes _ _ (c .before .before .before .before .before .before .before .pre .0) in omega (arith, z .long, z .queued)
+
+meet-cancel-requires : tie.Need-meet-cancel-requires
+meet-cancel-requires c κs = (c .before .before .before .before .before .before .before .before .before .before .before .pre .0, c .before .before .if2 .taken, c .before .before .before .before .before .before .before .before .before .before .before .pre .1 .lamp)
+
+same-length : tie.Need-same-length
+same-length c = search needs
+
+same-length-2 : tie.Need-same-length-2
+same-length-2 c = search needs
+
+returns-2 : tie.Need-returns-2
+returns-2 c = not-below (c .before .before .before .before .before .before .before .before .before .before .before .before .before .before .before .before .args .memory .now) (c .before .before .before .before .before .before .before .before .before .before .before .before .before .before .before .before .args .output .now) _ (c .before .before .before .before .before .before .before .before .before .before .before .before .before .before .before .before .pre .0) _ _ (c .before .before .before .before .before .before .before .before .before .before .before .if1 .left) (meets (c .before .before .before .before .before .before .before .before .before .before .before .before .before .before .before .before .args .memory .now) (c .before .before .before .before .before .before .before .before .before .before .before .before .before .before .before .before .args .output .now) _ (c .before .before .before .before .before .before .before .before .before .before .before .before .before .before .before .before .pre .0) _ _ (c .before .before .before .before .before .before .before .before .find .ensures) (c .before .before .before .before .before .before .before .if2 .taken) (c .before .before .before .before .meet-cancel .ensures))
+
+enter-plain-requires : tie.Need-enter-plain-requires
+enter-plain-requires c κs = search needs
+
+same-length-3 : tie.Need-same-length-3
+same-length-3 c = search needs
+
+same-length-4 : tie.Need-same-length-4
+same-length-4 c = search needs
+
+returns-3 : tie.Need-returns-3
+returns-3 c = not-below (c .before .before .before .before .before .before .before .before .before .before .before .before .before .before .before .before .args .memory .now) (c .before .before .before .before .before .before .before .before .before .before .before .before .before .before .before .before .args .output .now) _ (c .before .before .before .before .before .before .before .before .before .before .before .before .before .before .before .before .pre .0) _ _ (c .before .before .before .before .before .before .before .before .before .before .before .if1 .left) (enters (c .before .before .before .before .before .before .before .before .before .before .before .before .before .before .before .before .args .memory .now) (c .before .before .before .before .before .before .before .before .before .before .before .before .before .before .before .before .args .output .now) _ (c .before .before .before .before .before .before .before .before .before .before .before .before .before .before .before .before .pre .0) _ _ (c .before .before .before .before .before .before .before .before .find .ensures) (c .before .before .before .before .before .before .before .if2 .left) (c .before .before .before .before .enter-plain .ensures))
+
+pub take-plain-spec : {M : Type 1} → statement M
+take-plain-spec =
+    tie.close
+    (tie.spec
+    refused-requires
+    returns
+    cast-queued
+    find-requires
+    meet-cancel-requires
+    same-length
+    same-length-2
+    returns-2
+    enter-plain-requires
+    same-length-3
+    same-length-4
+    returns-3)

@@ -1,0 +1,327 @@
+//! The carrier: runs all gateways of a forecast in one process until every record is whole.
+//!
+//! Time goes in windows. In a window the gateways work off what is due up to the horizon, the agreed time and the
+//! window's length behind it, and frames are brought until nothing more moves; then a round finds the new agreed time, and
+//! what lies below it is committed. Messages past the horizon wait at the carrier while their gateway's queue is more than
+//! half full. A window in which places run out is taken back, from a copy of all memories, and done again with half its length;
+//! so a forecast stops for want of places only where it would stop hour by hour.
+
+use crate::frame::{frames, Frame};
+use crate::places::{due, Places};
+use crate::scenario::{more_places, Scenario};
+use interface::{ample_output, memory_length, Answer, Calls, MOST_PLACES, NOTHING_DUE};
+use std::collections::VecDeque;
+use std::fmt;
+
+const NO_ROOM: u32 = 5;
+const NOTHING: u32 = 6;
+
+/// The longest window, in hours. In a longer one gateways run so far ahead that they undo more than they gain.
+const LONGEST_WINDOW: u32 = 32;
+
+/// A forecast under way.
+pub struct Forecast<C> {
+    calls: C,
+    /// A gateway's memory is all that there is of it.
+    memories: Vec<Vec<u8>>,
+    /// Written for the carrier and not yet accepted, oldest first.
+    under_way: VecDeque<Frame>,
+    agreed: u32,
+    window: u32,
+    output: Vec<u8>,
+    progress: Progress,
+    /// The most places that each gateway has used.
+    most: Vec<Places>,
+}
+
+/// What has happened so far.
+#[derive(Clone, Copy, Debug, Default, PartialEq, Eq)]
+pub struct Progress {
+    pub agreed: u32,
+    /// Events that were worked off, those that were undone again included.
+    pub worked: u64,
+    pub committed: u64,
+    pub frames: u64,
+    pub rounds: u64,
+    /// Windows that were taken back for want of places.
+    pub taken_back: u64,
+}
+
+/// Why a forecast cannot go on.
+#[derive(Clone, Debug, PartialEq, Eq)]
+pub enum Stopped {
+    /// A call answered what it never should: the memory or a frame was damaged.
+    Refused { gateway: usize, call: &'static str, number: u32 },
+    /// Places are too few.
+    WantOfPlaces(Vec<Want>),
+}
+
+/// The places that a gateway has too few of.
+#[derive(Clone, Copy, Debug, PartialEq, Eq)]
+pub struct Want {
+    pub gateway: usize,
+    pub outstanding: bool,
+    pub places: u32,
+    /// The hour that could not be passed.
+    pub hour: u32,
+}
+
+impl fmt::Display for Stopped {
+    fn fmt(&self, formatter: &mut fmt::Formatter) -> fmt::Result {
+        match self {
+            Stopped::Refused { gateway, call, number } => {
+                write!(formatter, "gateway {gateway} answered {number} to {call}")
+            }
+            Stopped::WantOfPlaces(wants) => {
+                write!(formatter, "the forecast cannot go on for want of places")?;
+                for want in wants {
+                    let setting = if want.outstanding { "outstanding" } else { "queue" };
+                    let Want { gateway, places, hour, .. } = want;
+                    let advice = more_places(setting, *places);
+                    write!(
+                        formatter,
+                        "\n  gateway {gateway}: {places} {setting} places are too few at hour {hour}; {advice}"
+                    )?;
+                }
+                Ok(())
+            }
+        }
+    }
+}
+
+/// What is put back when a window is taken back.
+struct Copied {
+    memories: Vec<Vec<u8>>,
+    under_way: VecDeque<Frame>,
+}
+
+impl<C: Calls> Forecast<C> {
+    /// Sets up every gateway of a scenario.
+    pub fn new(calls: C, scenario: &Scenario) -> Result<Forecast<C>, Stopped> {
+        let mut memories = Vec::new();
+        for (gateway, plan) in scenario.gateways.iter().enumerate() {
+            let opening = scenario.opening(gateway);
+            let mut memory = vec![0; memory_length(plan.queue_places, plan.outstanding_places)];
+            match calls.set_up(&mut memory, &plan.list, &opening) {
+                0 => memories.push(memory),
+                number => return Err(Stopped::Refused { gateway, call: "set up", number }),
+            }
+        }
+        Ok(Forecast {
+            calls,
+            under_way: VecDeque::new(),
+            agreed: 0,
+            window: LONGEST_WINDOW,
+            output: vec![0; ample_output(MOST_PLACES)],
+            progress: Progress::default(),
+            most: memories.iter().map(|memory| Places::of(memory)).collect(),
+            memories,
+        })
+    }
+
+    /// Runs until every record is whole. `record` is given each gateway's committed bytes, event by event, and `show` is called
+    /// after each window.
+    pub fn run(
+        &mut self,
+        mut record: impl FnMut(usize, &[u8]),
+        mut show: impl FnMut(&Progress),
+    ) -> Result<Progress, Stopped> {
+        while self.agreed != NOTHING_DUE {
+            self.pass_window()?;
+            self.commit(&mut record)?;
+            self.progress.agreed = self.agreed;
+            show(&self.progress);
+        }
+        Ok(self.progress)
+    }
+
+    /// The places of each gateway, with the most that were used at the end of a step of work or of bringing.
+    pub fn most_places(&self) -> &[Places] {
+        &self.most
+    }
+
+    /// One window, taken back and shortened as often as places run out.
+    fn pass_window(&mut self) -> Result<(), Stopped> {
+        loop {
+            let copied =
+                Copied { memories: self.memories.clone(), under_way: self.under_way.clone() };
+            let horizon = self.agreed.saturating_add(self.window);
+            self.settle(horizon, horizon)?;
+            if self.wants(horizon, horizon).is_empty() {
+                self.window = (2 * self.window).clamp(1, LONGEST_WINDOW);
+                return self.round();
+            }
+            if self.window == 0 {
+                return self.pass_hour();
+            }
+            self.memories = copied.memories;
+            self.under_way = copied.under_way;
+            self.window /= 2;
+            self.progress.taken_back += 1;
+        }
+    }
+
+    /// With no window left to shorten: nothing waits at the carrier any more, as a message that waits there takes an outstanding
+    /// place, and a round may let something be committed. If it does not, the forecast cannot go on.
+    fn pass_hour(&mut self) -> Result<(), Stopped> {
+        let hour = self.agreed;
+        self.settle(hour, NOTHING_DUE)?;
+        let wants = self.wants(hour, NOTHING_DUE);
+        self.round()?;
+        if !wants.is_empty() && self.agreed == hour {
+            return Err(Stopped::WantOfPlaces(wants));
+        }
+        Ok(())
+    }
+
+    /// Work up to one hour and bringing up to another in turn, until nothing more moves.
+    fn settle(&mut self, work: u32, carry: u32) -> Result<(), Stopped> {
+        loop {
+            let worked = self.work(work)?;
+            self.note_places();
+            let brought = self.bring(carry)?;
+            self.note_places();
+            if !worked && !brought {
+                return Ok(());
+            }
+        }
+    }
+
+    fn note_places(&mut self) {
+        for (most, memory) in self.most.iter_mut().zip(&self.memories) {
+            let Places { queue_used, outstanding_used, .. } = Places::of(memory);
+            most.queue_used = most.queue_used.max(queue_used);
+            most.outstanding_used = most.outstanding_used.max(outstanding_used);
+        }
+    }
+
+    /// Every gateway works off what is due; whether one did.
+    fn work(&mut self, horizon: u32) -> Result<bool, Stopped> {
+        let mut worked = false;
+        for gateway in 0..self.memories.len() {
+            let budget = due(&self.memories[gateway], horizon);
+            if budget == 0 {
+                continue;
+            }
+            let memory = &mut self.memories[gateway];
+            let answer = self.calls.work(memory, &mut self.output, budget);
+            self.expect(gateway, "work", answer, &[0, NO_ROOM, NOTHING])?;
+            self.write(answer);
+            self.progress.worked += u64::from(answer.events);
+            worked |= answer.events > 0;
+        }
+        Ok(worked)
+    }
+
+    /// Brings every frame that is now under way, oldest first; whether one was accepted. A refused one goes to the end of
+    /// the line.
+    fn bring(&mut self, horizon: u32) -> Result<bool, Stopped> {
+        let mut accepted = false;
+        for _ in 0..self.under_way.len() {
+            let Some(frame) = self.under_way.pop_front() else { break };
+            if self.is_held(&frame, horizon) || self.take(&frame)? == NO_ROOM {
+                self.under_way.push_back(frame);
+            } else {
+                accepted = true;
+            }
+        }
+        Ok(accepted)
+    }
+
+    /// A message past the horizon waits while the queue of its gateway is more than half full.
+    fn is_held(&self, frame: &Frame, horizon: u32) -> bool {
+        let Some(hour) = frame.plain_hour() else { return false };
+        let places = Places::of(&self.memories[frame.addressee()]);
+        hour > horizon && 2 * places.queue_used >= places.queue
+    }
+
+    fn take(&mut self, frame: &Frame) -> Result<u32, Stopped> {
+        let gateway = frame.addressee();
+        let memory = &mut self.memories[gateway];
+        let answer = self.calls.take(memory, frame.bytes(), &mut self.output);
+        self.expect(gateway, "a frame", answer, &[0, NO_ROOM])?;
+        self.write(answer);
+        Ok(answer.number)
+    }
+
+    /// A whole round: the start call, and its frames until none is left.
+    fn round(&mut self) -> Result<(), Stopped> {
+        let answer = self.calls.start(&mut self.memories[0], &mut self.output);
+        self.expect(0, "the start call", answer, &[0])?;
+        let before = self.under_way.len();
+        self.write(answer);
+        while self.under_way.len() > before {
+            let Some(frame) = self.under_way.pop_back() else { break };
+            self.take(&frame)?;
+        }
+        self.progress.rounds += 1;
+        self.agreed = NOTHING_DUE;
+        for memory in &self.memories {
+            self.agreed = self.agreed.min(self.calls.agreed_time(memory).hour);
+        }
+        Ok(())
+    }
+
+    fn commit(&mut self, record: &mut impl FnMut(usize, &[u8])) -> Result<(), Stopped> {
+        for gateway in 0..self.memories.len() {
+            loop {
+                let memory = &mut self.memories[gateway];
+                let answer = self.calls.commit(memory, &mut self.output);
+                self.expect(gateway, "commit", answer, &[0, NOTHING])?;
+                if answer.number == NOTHING {
+                    break;
+                }
+                record(gateway, &self.output[..answer.written]);
+                self.progress.committed += 1;
+            }
+        }
+        Ok(())
+    }
+
+    /// The places that are lacking where nothing moves any more and something is still due.
+    fn wants(&self, work: u32, carry: u32) -> Vec<Want> {
+        let mut wants = Vec::new();
+        for (gateway, memory) in self.memories.iter().enumerate() {
+            if due(memory, work) > 0 {
+                let places = Places::of(memory);
+                let (outstanding, places) = (true, places.outstanding as u32);
+                wants.push(Want { gateway, outstanding, places, hour: self.agreed });
+            }
+        }
+        for frame in &self.under_way {
+            if self.is_held(frame, carry) {
+                continue;
+            }
+            let gateway = frame.addressee();
+            let places = Places::of(&self.memories[gateway]);
+            let outstanding = places.queue_used < places.queue;
+            let places = if outstanding { places.outstanding } else { places.queue } as u32;
+            let want = Want { gateway, outstanding, places, hour: self.agreed };
+            if !wants.contains(&want) {
+                wants.push(want);
+            }
+        }
+        wants
+    }
+
+    /// What a call put out is under way.
+    fn write(&mut self, answer: Answer) {
+        for frame in frames(&self.output[..answer.written]) {
+            self.under_way.push_back(frame);
+            self.progress.frames += 1;
+        }
+    }
+
+    fn expect(
+        &self,
+        gateway: usize,
+        call: &'static str,
+        answer: Answer,
+        expected: &[u32],
+    ) -> Result<(), Stopped> {
+        if expected.contains(&answer.number) {
+            return Ok(());
+        }
+        Err(Stopped::Refused { gateway, call, number: answer.number })
+    }
+}

@@ -1,0 +1,295 @@
+//! Scenarios: the gateways of a forecast, their opening events and the last hour, as plain text.
+//!
+//! A line is empty, a comment that begins with `#`, or words with blanks between them:
+//!
+//! ```text
+//! last-hour HOUR
+//! gateway NUMBER supplier NUMBER stock QUANTITY [queue PLACES] [outstanding PLACES]
+//! failure GATEWAY HOUR LAMP
+//! restock GATEWAY HOUR QUANTITY
+//! ```
+//!
+//! The last hour comes first, once; then the gateways, 0, 1 and so on; then failures and restocks in any order.
+
+use crate::frame;
+use interface::{Opening, MOST_PLACES, NOTHING_DUE};
+use std::fmt;
+
+/// The most gateways of a forecast.
+const MOST_GATEWAYS: usize = 255;
+
+/// A gateway and its opening events.
+#[derive(Clone, Debug, PartialEq, Eq)]
+pub struct Gateway {
+    pub supplier: u8,
+    pub stock: u16,
+    pub queue_places: u32,
+    pub outstanding_places: u32,
+    /// Whole frames, one behind the other.
+    pub list: Vec<u8>,
+    /// How many frames those are.
+    pub events: u32,
+    line: usize,
+}
+
+#[derive(Clone, Debug, PartialEq, Eq)]
+pub struct Scenario {
+    pub last_hour: u32,
+    pub gateways: Vec<Gateway>,
+}
+
+/// What is wrong with a scenario, and in which line.
+#[derive(Clone, Debug, PartialEq, Eq)]
+pub struct Bad {
+    pub line: usize,
+    pub what: String,
+}
+
+impl fmt::Display for Bad {
+    fn fmt(&self, formatter: &mut fmt::Formatter) -> fmt::Result {
+        write!(formatter, "{}: {}", self.line, self.what)
+    }
+}
+
+impl Scenario {
+    /// Reads a scenario.
+    pub fn parse(text: &str) -> Result<Scenario, Bad> {
+        let mut reader = Reader { last_hour: None, gateways: Vec::new() };
+        let mut last_line = 1;
+        for (line, text) in (1..).zip(text.lines()) {
+            reader.read(line, text).map_err(|what| Bad { line, what })?;
+            last_line = line;
+        }
+        reader.finish(last_line)
+    }
+
+    /// The settings that gateway `own` is set up with.
+    pub fn opening(&self, own: usize) -> Opening {
+        let gateway = &self.gateways[own];
+        Opening {
+            gateways: self.gateways.len() as u32,
+            own: own as u32,
+            supplier: gateway.supplier.into(),
+            stock: gateway.stock.into(),
+            last_hour: self.last_hour,
+            queue_places: gateway.queue_places,
+            outstanding_places: gateway.outstanding_places,
+        }
+    }
+}
+
+struct Reader {
+    last_hour: Option<u32>,
+    gateways: Vec<Gateway>,
+}
+
+impl Reader {
+    fn read(&mut self, line: usize, text: &str) -> Result<(), String> {
+        if text.starts_with('#') {
+            return Ok(());
+        }
+        let words: Vec<&str> = text.split_ascii_whitespace().collect();
+        match words[..] {
+            [] => Ok(()),
+            ["last-hour", hour] => self.last_hour(hour),
+            ["gateway", number, ref settings @ ..] => self.gateway(line, number, settings),
+            ["failure", own, hour, lamp] => self.failure(own, hour, lamp),
+            ["restock", own, hour, quantity] => self.restock(own, hour, quantity),
+            [word @ ("last-hour" | "failure" | "restock"), ..] => {
+                Err(format!("{word} has {} words behind it, not {}", words.len() - 1, wanted(word)))
+            }
+            [word, ..] => Err(format!(
+                "unknown word \"{word}\": a line begins with last-hour, gateway, failure, restock or #"
+            )),
+        }
+    }
+
+    fn last_hour(&mut self, hour: &str) -> Result<(), String> {
+        if self.last_hour.is_some() {
+            return Err("a second last-hour".into());
+        }
+        self.last_hour = Some(number("the last hour", hour, 0, NOTHING_DUE - 1)?);
+        Ok(())
+    }
+
+    fn gateway(&mut self, line: usize, name: &str, settings: &[&str]) -> Result<(), String> {
+        self.known_last_hour()?;
+        let next = self.gateways.len();
+        if next == MOST_GATEWAYS {
+            return Err(format!("more than {MOST_GATEWAYS} gateways"));
+        }
+        if name != next.to_string() {
+            return Err(format!("gateway {name} where gateway {next} is next"));
+        }
+        let (mut supplier, mut stock) = (None, None);
+        let (mut queue_places, mut outstanding_places) = (MOST_PLACES, MOST_PLACES);
+        for pair in settings.chunks(2) {
+            let [name, value] = *pair else {
+                return Err(format!("no number behind \"{}\"", pair[0]));
+            };
+            match name {
+                "supplier" => supplier = Some(number("a supplier", value, 0, 254)? as u8),
+                "stock" => stock = Some(number("the stock", value, 0, 65_535)? as u16),
+                "queue" => queue_places = number("queue places", value, 1, MOST_PLACES)?,
+                "outstanding" => {
+                    outstanding_places = number("outstanding places", value, 1, MOST_PLACES)?;
+                }
+                _ => {
+                    return Err(format!(
+                    "unknown setting \"{name}\": there are supplier, stock, queue and outstanding"
+                ))
+                }
+            }
+        }
+        self.gateways.push(Gateway {
+            supplier: supplier.ok_or("no supplier")?,
+            stock: stock.ok_or("no stock")?,
+            queue_places,
+            outstanding_places,
+            list: Vec::new(),
+            events: 0,
+            line,
+        });
+        Ok(())
+    }
+
+    fn failure(&mut self, own: &str, hour: &str, lamp: &str) -> Result<(), String> {
+        let (own, hour) = self.place(own, hour)?;
+        let bytes = lamp.bytes().map(|byte| (33..=126).contains(&byte).then_some(byte));
+        let bytes: Option<Vec<u8>> = bytes.collect();
+        let lamp: [u8; 18] = bytes.and_then(|bytes| bytes.try_into().ok()).ok_or_else(|| {
+            format!("a lamp has eighteen characters from ! to ~, \"{lamp}\" has {}", lamp.len())
+        })?;
+        self.enter(own, frame::failure(own, hour, &lamp))
+    }
+
+    fn restock(&mut self, own: &str, hour: &str, quantity: &str) -> Result<(), String> {
+        let (own, hour) = self.place(own, hour)?;
+        let quantity = number("a quantity", quantity, 0, 65_535)? as u16;
+        self.enter(own, frame::restock(own, hour, quantity))
+    }
+
+    /// The gateway and the hour of an opening event.
+    fn place(&self, own: &str, hour: &str) -> Result<(u8, u32), String> {
+        let last_hour = self.known_last_hour()?;
+        let own = number("a gateway", own, 0, 254)?;
+        if own as usize >= self.gateways.len() {
+            return Err(format!("there is no gateway {own} above this line"));
+        }
+        Ok((own as u8, number("the hour", hour, 0, last_hour)?))
+    }
+
+    fn enter(&mut self, own: u8, frame: Vec<u8>) -> Result<(), String> {
+        let gateway = &mut self.gateways[usize::from(own)];
+        gateway.list.extend(frame);
+        gateway.events += 1;
+        if gateway.events > gateway.queue_places {
+            return Err(format!(
+                "gateway {own} has more opening events than queue places ({}); {}",
+                gateway.queue_places,
+                more_places("queue", gateway.queue_places)
+            ));
+        }
+        Ok(())
+    }
+
+    fn known_last_hour(&self) -> Result<u32, String> {
+        self.last_hour.ok_or_else(|| "no last-hour above this line".into())
+    }
+
+    fn finish(self, last_line: usize) -> Result<Scenario, Bad> {
+        let missing = |what: &str| Bad { line: last_line, what: what.into() };
+        let last_hour = self.last_hour.ok_or_else(|| missing("no last-hour"))?;
+        if self.gateways.is_empty() {
+            return Err(missing("no gateway"));
+        }
+        let count = self.gateways.len();
+        for gateway in &self.gateways {
+            if usize::from(gateway.supplier) >= count {
+                let what = format!("there is no gateway {}, the supplier", gateway.supplier);
+                return Err(Bad { line: gateway.line, what });
+            }
+        }
+        Ok(Scenario { last_hour, gateways: self.gateways })
+    }
+}
+
+/// What to set where places are too few.
+pub fn more_places(setting: &str, places: u32) -> String {
+    if places < MOST_PLACES {
+        let more = (2 * places).min(MOST_PLACES);
+        return format!("set `{setting} {more}` in its line of the scenario");
+    }
+    format!("{MOST_PLACES} is the most: give some of its events or customers to another gateway")
+}
+
+fn wanted(word: &str) -> usize {
+    if word == "last-hour" {
+        1
+    } else {
+        3
+    }
+}
+
+/// A number in decimal within its range.
+fn number(what: &str, word: &str, least: u32, most: u32) -> Result<u32, String> {
+    let digits = !word.is_empty() && word.bytes().all(|byte| byte.is_ascii_digit());
+    let value = if digits { word.parse::<u32>().ok() } else { None };
+    value
+        .filter(|value| (least..=most).contains(value))
+        .ok_or_else(|| format!("{what} is {least} to {most}, not \"{word}\""))
+}
+
+#[cfg(test)]
+mod tests {
+    use super::*;
+
+    const GOOD: &str = "# an example\n\nlast-hour 100\ngateway 0 supplier 1 stock 0 queue 4\n\
+                        gateway 1 supplier 1 stock 1\nfailure 0 10 L00000000000000001\n\
+                        restock 1 50 7\n";
+
+    fn bad(text: &str) -> String {
+        Scenario::parse(text).expect_err("a bad scenario").to_string()
+    }
+
+    #[test]
+    fn a_scenario_is_read() {
+        let scenario = Scenario::parse(GOOD).unwrap();
+        assert_eq!((scenario.last_hour, scenario.gateways.len()), (100, 2));
+        let opening = scenario.opening(0);
+        assert_eq!((opening.supplier, opening.queue_places), (1, 4));
+        assert_eq!(opening.outstanding_places, 512);
+        assert_eq!(scenario.gateways[0].list, frame::failure(0, 10, b"L00000000000000001"));
+        assert_eq!(scenario.gateways[1].list, frame::restock(1, 50, 7));
+    }
+
+    #[test]
+    fn a_bad_line_is_named() {
+        let with = |line: &str| bad(&format!("{GOOD}{line}\n"));
+        assert_eq!(with("fail 0 1 x"), "8: unknown word \"fail\": a line begins with last-hour, gateway, failure, restock or #");
+        assert_eq!(with("failure 0 10"), "8: failure has 2 words behind it, not 3");
+        assert_eq!(
+            with("failure 2 10 L00000000000000001"),
+            "8: there is no gateway 2 above this line"
+        );
+        assert_eq!(
+            with("failure 0 101 L00000000000000001"),
+            "8: the hour is 0 to 100, not \"101\""
+        );
+        assert_eq!(
+            with("failure 0 10 L1"),
+            "8: a lamp has eighteen characters from ! to ~, \"L1\" has 2"
+        );
+        assert_eq!(with("restock 1 5 65536"), "8: a quantity is 0 to 65535, not \"65536\"");
+        assert_eq!(with("gateway 3 supplier 0 stock 0"), "8: gateway 3 where gateway 2 is next");
+        assert_eq!(with("gateway 2 supplier 0"), "8: no stock");
+        assert_eq!(with("gateway 2 supplier 3 stock 0"), "8: there is no gateway 3, the supplier");
+        assert_eq!(with("last-hour 7"), "8: a second last-hour");
+        let many = "restock 0 1 1\n".repeat(4);
+        assert!(
+            with(&many).starts_with("11: gateway 0 has more opening events than queue places (4)")
+        );
+        assert_eq!(bad(""), "1: no last-hour");
+        assert_eq!(bad("gateway 0 supplier 0 stock 0"), "1: no last-hour above this line");
+    }
+}

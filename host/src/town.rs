@@ -1,0 +1,71 @@
+//! Prints the scenario of examples/town: 22 gateways, five years by the hour and about 10,400 failures.
+//!
+//! Gateways 0 to 17 are districts, which order from one of the area stores 18 to 20; these order from the depot, 21,
+//! which is restocked each month and otherwise asks itself again an hour later. Lamps fail more often in winter. Lamps are numbered
+//! through in a district, so that neighbours are alike in sixteen characters.
+
+use std::io::{self, BufWriter, Write};
+
+const LAST_HOUR: u32 = 43_800;
+const DEPOT: u32 = 21;
+const FIRST_STORE: u32 = 18;
+const MONTH: u32 = 730;
+
+/// Drivers that the depot is sent each month, and in the last one, when they run out.
+const RESTOCK: u32 = 171;
+const LAST_RESTOCK: u32 = 110;
+
+/// Failures of a district, of a store and of the depot.
+const FAILURES: [u32; 3] = [505, 430, 20];
+
+fn main() -> io::Result<()> {
+    let mut out = BufWriter::new(io::stdout().lock());
+    writeln!(out, "# A town: 18 districts, 3 area stores (18 to 20) and a depot (21); made by the program town")?;
+    writeln!(out, "last-hour {LAST_HOUR}")?;
+    for gateway in 0..=DEPOT {
+        let (supplier, stock) = match gateway {
+            DEPOT => (DEPOT, 200),
+            FIRST_STORE.. => (DEPOT, 40),
+            _ => (FIRST_STORE + gateway % 3, 0),
+        };
+        writeln!(out, "gateway {gateway} supplier {supplier} stock {stock}")?;
+    }
+    for month in 1..60 {
+        let quantity = if month == 59 { LAST_RESTOCK } else { RESTOCK };
+        writeln!(out, "restock {DEPOT} {} {quantity}", month * MONTH)?;
+    }
+    let mut generator = Generator(22);
+    for gateway in 0..=DEPOT {
+        let failures = match gateway {
+            DEPOT => FAILURES[2],
+            FIRST_STORE.. => FAILURES[1],
+            _ => FAILURES[0],
+        };
+        for number in 0..failures {
+            let hour = generator.failure_hour();
+            writeln!(out, "failure {gateway} {hour} D{gateway:02}-POLE-{number:09}")?;
+        }
+    }
+    out.flush()
+}
+
+/// A linear congruential generator, so that the scenario is the same everywhere.
+struct Generator(u64);
+
+impl Generator {
+    fn below(&mut self, limit: u32) -> u32 {
+        self.0 =
+            self.0.wrapping_mul(6_364_136_223_846_793_005).wrapping_add(1_442_695_040_888_963_407);
+        ((self.0 >> 33) % u64::from(limit)) as u32
+    }
+
+    /// An hour of the five years; one in the summer half of a year is drawn once more in one of three cases.
+    fn failure_hour(&mut self) -> u32 {
+        let hour = 1 + self.below(LAST_HOUR);
+        let summer = (3 * MONTH..9 * MONTH).contains(&(hour % (12 * MONTH)));
+        if summer && self.below(6) == 0 {
+            return 1 + self.below(LAST_HOUR);
+        }
+        hour
+    }
+}

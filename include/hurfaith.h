@@ -1,0 +1,104 @@
+/* hurfaith.h: a gateway of the spares forecast, for C. Link with libhurfaith.a.
+ *
+ * Memory. A gateway is the bytes of `memory` and nothing else. The library keeps nothing between calls, allocates nothing and does
+ * no input or output. The caller owns `memory`, sets it up once by hurfaith_set_up, and hands the same bytes, unchanged, to every
+ * later call of that gateway; it may move, copy, store and bring back the bytes between calls. It takes at least
+ * 256 + 64 * queue_places + 32 * outstanding_places bytes; bytes past that are never written.
+ *
+ * Pointers. No pointer is null, even where its length is 0, and each points to as many elements as its length says. Parts of one
+ * call may not overlap. `memory`, `out`, `list` and `frame` need no alignment; `neighbours` has that of uint16_t.
+ *
+ * Threads. There are none, and no global state. Calls on different memories may run at once; calls on one memory may not.
+ *
+ * What is written. A call that is refused writes nothing, neither to `memory` nor to `out`. One that is accepted writes its bytes to
+ * the front of `out`; the bytes of `out` behind them stay as they were. What hurfaith_work, hurfaith_take and hurfaith_start write
+ * are frames for the carrier, one behind the other; what hurfaith_commit writes is the record of one event and is never carried.
+ *
+ * Numbers. Every call answers one of these:
+ */
+#ifndef HURFAITH_H
+#define HURFAITH_H
+
+#include <stddef.h>
+#include <stdint.h>
+
+#ifdef __cplusplus
+extern "C" {
+#endif
+
+enum {
+    /* Accepted. For work: all the events asked for are done. */
+    HURFAITH_DONE = 0,
+    /* The bytes are not exactly one of the forms of a frame, or are a frame that this call does not take: a Restock by the carrier;
+     * in an opening list all but plain Failure and Restock. */
+    HURFAITH_NO_FRAME = 1,
+    /* A gateway number of N or more, or a frame that is addressed elsewhere. */
+    HURFAITH_WRONG_GATEWAY = 2,
+    /* An hour past the last hour. (Lvt and Update may say nothing due, 4,294,967,295.) */
+    HURFAITH_PAST_LAST_HOUR = 3,
+    /* A step of the round out of turn: the start call at another gateway than 0 or in an open round; a Start or Lvt twice, in the
+     * wrong half of the round, or not from its arc; an Update not from the parent. */
+    HURFAITH_OUT_OF_TURN = 4,
+    /* Too few queue places, outstanding places or bytes of output for all that the call would do. The same call may be made again
+     * once there is more room: an acknowledgment frees an outstanding place, commit a queue place. */
+    HURFAITH_NO_ROOM = 5,
+    /* Work: no unprocessed message. Commit: nothing to commit. */
+    HURFAITH_NOTHING_TO_DO = 6,
+    /* An acknowledgment that is equal to nothing outstanding. */
+    HURFAITH_NOT_OUTSTANDING = 7,
+    /* A setting, a routing number or, at set up, the length of the memory is outside its range. */
+    HURFAITH_OUT_OF_RANGE = 8,
+    /* A plain message, a cancel or an Lvt below this gateway's agreed time. */
+    HURFAITH_BELOW_AGREED_TIME = 9,
+    /* The memory is not sound: too short for its settings, or settings, counts, phase or arrivals impossible, the queue not in
+     * order, a processed message behind an unprocessed plain one, a waiting cancel beside an equal plain message, or a stored message
+     * of no valid form, number or hour. No call answers 10 to memory that set up made and the other calls left. */
+    HURFAITH_NOT_SOUND = 10
+};
+
+/* The 64-bit answers hold three numbers. They never overlap: no call writes more than 14,364 bytes. For hurfaith_agreed_time the
+ * third number is the hour, and no bytes are written. */
+static inline uint32_t hurfaith_number(uint64_t answer) { return (uint32_t)(answer & 0xff); }
+static inline uint32_t hurfaith_written(uint64_t answer) { return (uint32_t)(answer >> 8 & 0xffffff); }
+static inline uint32_t hurfaith_count(uint64_t answer) { return (uint32_t)(answer >> 32); }
+
+/* The gateway of that place among the neighbours is none. */
+#define HURFAITH_NONE 65535
+
+/* The gateways around gateway `own` of `gateways` (1 to 65,535): the two that it hears from in a round and the two that it tells, in
+ * neighbours[0], [1] and [2], [3], HURFAITH_NONE where there is none. Elements behind these four stay as they were.
+ * Answers 0, 8, or 5 where count is below 4. */
+uint32_t hurfaith_route(uint32_t gateways, uint32_t own, uint16_t *neighbours, size_t count);
+
+/* Makes a gateway of `memory`, whatever it held. `gateways` is N, 1 to 255; `own` and `supplier` are below N; `stock` is at most
+ * 65,535; `last_hour` at most 4,294,967,294; queue_places and outstanding_places are 1 to 512. `list` is the opening list: whole
+ * frames, one behind the other, plain Failure and Restock only, from and to this gateway; it may be empty. The agreed time is 0.
+ * Answers 0; or 8; or the first frame's 1, 2 or 3; or 5 where the list has more frames than there are queue places. */
+uint32_t hurfaith_set_up(uint8_t *memory, size_t memory_len, const uint8_t *list, size_t list_len,
+    uint32_t gateways, uint32_t own, uint32_t supplier, uint32_t stock, uint32_t last_hour,
+    uint32_t queue_places, uint32_t outstanding_places);
+
+/* Does up to `budget` events, the earliest unprocessed message first. hurfaith_count says how many were done, hurfaith_number why
+ * it stopped: 0 after `budget` events, 6 or 5 before the next one, or 10. What the counted events did stands, also after 5 and 6. */
+uint64_t hurfaith_work(uint8_t *memory, size_t memory_len, uint8_t *out, size_t out_len, uint32_t budget);
+
+/* Takes one frame that the carrier brought. What it writes are the acknowledgment and cancels, or the frames that go on with the
+ * round. Answers 0, or 10, 1, 2, 3, 9, 4 or 7, 5, looked for in that order. After 5 the frame may be brought again. */
+uint64_t hurfaith_take(uint8_t *memory, size_t memory_len, const uint8_t *frame, size_t frame_len, uint8_t *out, size_t out_len);
+
+/* Opens a round at gateway 0. Writes at most two frames. Answers 0, or 10, 4, 5. */
+uint64_t hurfaith_start(uint8_t *memory, size_t memory_len, uint8_t *out, size_t out_len);
+
+/* Commits the oldest processed event if its hour is below the agreed time: it leaves the queue, and its record is written, its frame
+ * and then the state after it (stock 2 bytes; failed, fitted and short 4 each; high byte first). At most 42 bytes.
+ * Answers 0, or 10, 6, 5. */
+uint64_t hurfaith_commit(uint8_t *memory, size_t memory_len, uint8_t *out, size_t out_len);
+
+/* The agreed time: hurfaith_number is 0 and hurfaith_count the hour, or hurfaith_number is 10. `memory` is only read. */
+uint64_t hurfaith_agreed_time(const uint8_t *memory, size_t memory_len);
+
+#ifdef __cplusplus
+}
+#endif
+
+#endif

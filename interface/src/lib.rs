@@ -1,0 +1,105 @@
+//! The calls of the executive as a host sees them: what they are given and what they answer.
+//!
+//! The proved library, plain Rust and the second implementation all implement [`Calls`], so that a
+//! host, a comparison and a measurement are written once for all of them.
+#![no_std]
+
+/// The hour that means nothing due.
+pub const NOTHING_DUE: u32 = u32::MAX;
+
+/// What `route` puts where there is no neighbour.
+pub const NO_NEIGHBOUR: u16 = u16::MAX;
+
+/// The most queue places, and the most outstanding places, that set up takes.
+pub const MOST_PLACES: u32 = 512;
+
+/// An output of this length is enough for every call at a gateway with that many outstanding places:
+/// an acknowledgment, and a cancel in each outstanding place.
+pub const fn ample_output(outstanding_places: u32) -> usize {
+    let cancels = 28 * (1 + outstanding_places as usize);
+    if cancels < LONGEST_RECORD {
+        LONGEST_RECORD
+    } else {
+        cancels
+    }
+}
+
+/// The most bytes that a commit writes: a frame of 27 bytes and the state.
+pub const LONGEST_RECORD: usize = 41;
+
+/// The least length of the memory that set up is lent.
+pub const fn memory_length(queue_places: u32, outstanding_places: u32) -> usize {
+    256 + 64 * queue_places as usize + 32 * outstanding_places as usize
+}
+
+/// The settings of set up. They are wider than their ranges; a value outside is answered with 8.
+#[derive(Clone, Copy, Debug, PartialEq, Eq)]
+pub struct Opening {
+    /// Gateways of the forecast.
+    pub gateways: u32,
+    pub own: u32,
+    pub supplier: u32,
+    pub stock: u32,
+    pub last_hour: u32,
+    pub queue_places: u32,
+    pub outstanding_places: u32,
+}
+
+/// What a call answers: document 01's number (of work: why it stopped), 0 where nothing is refused.
+#[derive(Clone, Copy, Debug, Default, PartialEq, Eq)]
+pub struct Answer {
+    pub number: u32,
+    /// Bytes written to the output.
+    pub written: usize,
+    /// Events done; of work alone.
+    pub events: u32,
+}
+
+impl Answer {
+    /// The number, 256 times the bytes written and 2^32 times the events done, taken apart.
+    pub const fn unpacked(packed: u64) -> Answer {
+        Answer {
+            number: packed as u32 & 0xff,
+            written: (packed as u32 >> 8) as usize,
+            events: (packed >> 32) as u32,
+        }
+    }
+}
+
+/// The agreed time of a gateway: 0 and the hour, or a refusal's number and 0.
+#[derive(Clone, Copy, Debug, Default, PartialEq, Eq)]
+pub struct AgreedTime {
+    pub number: u32,
+    pub hour: u32,
+}
+
+impl AgreedTime {
+    /// The number and 2^32 times the hour, taken apart.
+    pub const fn unpacked(packed: u64) -> AgreedTime {
+        AgreedTime { number: packed as u32, hour: (packed >> 32) as u32 }
+    }
+}
+
+/// The calls. Memory is lent for the time of a call; a refusal leaves memory and output as they were.
+pub trait Calls {
+    /// The neighbours of gateway `own`: two that it hears, then two that it tells, with
+    /// [`NO_NEIGHBOUR`] where there is none. 0, 8, or 5 where fewer than four numbers are lent.
+    fn route(&self, gateways: u32, own: u32, neighbours: &mut [u16]) -> u32;
+
+    /// Makes the memory a gateway's; `list` holds its opening messages, whole frames one behind the other.
+    fn set_up(&self, memory: &mut [u8], list: &[u8], opening: &Opening) -> u32;
+
+    /// Works off up to `budget` events.
+    fn work(&self, memory: &mut [u8], output: &mut [u8], budget: u32) -> Answer;
+
+    /// Takes a frame that the carrier brings.
+    fn take(&self, memory: &mut [u8], frame: &[u8], output: &mut [u8]) -> Answer;
+
+    /// Opens a round at gateway 0.
+    fn start(&self, memory: &mut [u8], output: &mut [u8]) -> Answer;
+
+    /// Writes the record of the oldest processed event below the agreed time, which leaves the queue.
+    fn commit(&self, memory: &mut [u8], output: &mut [u8]) -> Answer;
+
+    fn agreed_time(&self, memory: &[u8]) -> AgreedTime;
+}

@@ -1,0 +1,20 @@
+//! The rules of document 01 written again from the papers, for comparison.
+
+pub mod arcs;
+pub mod carrier;
+pub mod examples;
+pub mod forecast;
+pub mod frame;
+pub mod gateway;
+pub mod generator;
+pub mod memory;
+pub mod model;
+pub mod queue;
+pub mod record;
+pub mod round;
+pub mod routing;
+pub mod run;
+pub mod samples;
+pub mod stream;
+pub mod table;
+pub mod trials;

@@ -1,0 +1,328 @@
+//! A gateway in lent memory: its bytes (the layout is that of docs/ARCHITECTURE.md), and when they are sound.
+
+use crate::frame::{self, Frame, Sense};
+use crate::gateway::{self, Gateway, Processed, Sent};
+use crate::model::{self, Done, Hour, Kind, Message, Settings, State, MAX_LAST_HOUR};
+use crate::round::{Phase, Round};
+use std::ops::Range;
+
+const HEADER: usize = 256;
+const QUEUE_PLACE: usize = 64;
+const OUTSTANDING_PLACE: usize = 32;
+
+/// Where the note stands in the header; it is not looked at while no round is open.
+pub const NOTE: Range<usize> = 24..28;
+
+/// Why memory is not sound: refusal 10's reasons, in the order in which they are looked for.
+#[derive(Clone, Copy, Debug, PartialEq, Eq, PartialOrd, Ord, Hash)]
+pub enum Unsound {
+    TooShort,
+    Settings,
+    Counts,
+    Phase,
+    Arrivals,
+    Form,
+    Number,
+    LastHour,
+    Order,
+    ProcessedBehindUnprocessed,
+    CancelBesidePlain,
+}
+
+pub const REASONS: [Unsound; 11] = [
+    Unsound::TooShort,
+    Unsound::Settings,
+    Unsound::Counts,
+    Unsound::Phase,
+    Unsound::Arrivals,
+    Unsound::Form,
+    Unsound::Number,
+    Unsound::LastHour,
+    Unsound::Order,
+    Unsound::ProcessedBehindUnprocessed,
+    Unsound::CancelBesidePlain,
+];
+
+/// What a queue place holds.
+#[derive(Clone, Copy, Debug, PartialEq, Eq)]
+enum Mark {
+    Pending,
+    Processed,
+    Waiting,
+}
+
+struct Entry {
+    mark: Mark,
+    message: Message,
+    before: State,
+}
+
+/// The gateway that sound memory holds.
+pub fn read(memory: &[u8]) -> Result<Gateway, Unsound> {
+    if memory.len() < HEADER {
+        return Err(Unsound::TooShort);
+    }
+    let (nodes, own, supplier) = (memory[0], memory[1], memory[2]);
+    let places: [usize; 4] = [6, 8, 10, 12].map(|at| number(&memory[at..at + 2]) as usize);
+    let [queue_places, outstanding_places, queued, sent] = places;
+    let last_hour = number(&memory[16..20]);
+    let in_range = |places| (1..=512).contains(&places);
+    if nodes == 0
+        || own >= nodes
+        || supplier >= nodes
+        || last_hour > MAX_LAST_HOUR
+        || !in_range(queue_places)
+        || !in_range(outstanding_places)
+    {
+        return Err(Unsound::Settings);
+    }
+    if memory.len() < gateway::memory_needed(queue_places as u32, outstanding_places as u32) {
+        return Err(Unsound::TooShort);
+    }
+    if queued > queue_places || sent > outstanding_places {
+        return Err(Unsound::Counts);
+    }
+    let mut round = Round::new(nodes, own);
+    round.phase = phase(&round, memory[3], memory[4], number(&memory[NOTE]))?;
+
+    let settings = Settings { own, supplier, last_hour };
+    let check = |message: Message, here: u8| check_message(message, nodes, &settings, here);
+    let mut entries = Vec::new();
+    for place in memory[HEADER..].chunks(QUEUE_PLACE).take(queued) {
+        let entry = entry(place).ok_or(Unsound::Form)?;
+        check(entry.message, entry.message.to)?;
+        entries.push(entry);
+    }
+    let mut outstanding = Vec::new();
+    let start = HEADER + QUEUE_PLACE * queue_places;
+    for place in memory[start..].chunks(OUTSTANDING_PLACE).take(sent) {
+        let sent = outstanding_place(place).ok_or(Unsound::Form)?;
+        check(sent.message, sent.message.from)?;
+        outstanding.push(sent);
+    }
+    check_queue(&entries)?;
+
+    let state = state(memory[14..16].iter().chain(&memory[28..40]));
+    let of_mark = |mark| entries.iter().filter(move |entry| entry.mark == mark);
+    Ok(Gateway {
+        nodes,
+        settings,
+        queue_places,
+        outstanding_places,
+        state,
+        agreed: number(&memory[20..24]),
+        processed: of_mark(Mark::Processed).map(|entry| processed(settings, entry)).collect(),
+        pending: of_mark(Mark::Pending).map(|entry| entry.message).collect(),
+        waiting: of_mark(Mark::Waiting).map(|entry| entry.message).collect(),
+        outstanding,
+        round,
+    })
+}
+
+/// Writes a gateway over its memory: header and used places; every other byte stays.
+pub fn write(gateway: &Gateway, memory: &mut [u8]) {
+    let entries = entries(gateway);
+    let State { stock, failed, fitted, short } = gateway.state;
+    let (phase, arrivals, note) = phase_numbers(&gateway.round);
+    let Settings { own, supplier, last_hour } = gateway.settings;
+    memory[..5].copy_from_slice(&[gateway.nodes, own, supplier, phase, arrivals]);
+    let halves = [
+        gateway.queue_places as u16,
+        gateway.outstanding_places as u16,
+        entries.len() as u16,
+        gateway.outstanding.len() as u16,
+        stock,
+    ];
+    let words = [last_hour, gateway.agreed, note, failed, fitted, short];
+    let mut numbers: Vec<u8> = halves.iter().flat_map(|half| half.to_be_bytes()).collect();
+    numbers.extend(words.iter().flat_map(|word| word.to_be_bytes()));
+    memory[6..40].copy_from_slice(&numbers);
+
+    for (place, entry) in memory[HEADER..].chunks_mut(QUEUE_PLACE).zip(&entries) {
+        place.copy_from_slice(&entry_bytes(entry));
+    }
+    let start = HEADER + QUEUE_PLACE * gateway.queue_places;
+    let places = memory[start..].chunks_mut(OUTSTANDING_PLACE);
+    for (place, sent) in places.zip(&gateway.outstanding) {
+        place.copy_from_slice(&sent_bytes(sent));
+    }
+}
+
+/// The queue in event order: of equal messages the processed ones first.
+fn entries(gateway: &Gateway) -> Vec<Entry> {
+    let processed = gateway.processed.iter().map(|event| Entry {
+        mark: Mark::Processed,
+        message: event.done.message,
+        before: event.before,
+    });
+    let others = |mark| move |&message: &Message| Entry { mark, message, before: State::default() };
+    let mut entries: Vec<Entry> = processed
+        .chain(gateway.pending.iter().map(others(Mark::Pending)))
+        .chain(gateway.waiting.iter().map(others(Mark::Waiting)))
+        .collect();
+    entries.sort_by_key(|entry| entry.message);
+    entries
+}
+
+fn processed(settings: Settings, entry: &Entry) -> Processed {
+    let &Entry { message, before, .. } = entry;
+    let (after, sent) = model::perform(settings, before, &message);
+    Processed { done: Done { message, after }, before, sent }
+}
+
+/// The gateways of a list whose bits stand.
+fn arrived(arcs: &[u8], arrivals: u8) -> Vec<u8> {
+    let stands = |place: &usize| arrivals >> place & 1 == 1;
+    (0..arcs.len()).filter(stands).map(|place| arcs[place]).collect()
+}
+
+/// The phase, if the arrivals can be in it: never all, as the last one ends it.
+fn phase(round: &Round, number: u8, arrivals: u8, note: Hour) -> Result<Phase, Unsound> {
+    let some_of = |arcs: &[u8]| arrivals < (1 << arcs.len()) - 1 || arrivals == 0;
+    let (phase, possible) = match number {
+        0 => (Phase::Ready { arrived: arrived(&round.from, arrivals) }, some_of(&round.from)),
+        1 => (Phase::Noting { note }, arrivals == 0 && !round.to.is_empty()),
+        2 => {
+            let arrived = arrived(&round.to, arrivals);
+            (Phase::Stopped { value: note, arrived }, arrivals != 0 && some_of(&round.to))
+        }
+        _ => return Err(Unsound::Phase),
+    };
+    if possible {
+        Ok(phase)
+    } else {
+        Err(Unsound::Arrivals)
+    }
+}
+
+/// Phase, arrivals and note as numbers.
+fn phase_numbers(round: &Round) -> (u8, u8, Hour) {
+    let bits = |arcs: &[u8], arrived: &[u8]| {
+        let place = |gateway| arcs.iter().position(|arc| arc == gateway);
+        arrived.iter().filter_map(place).map(|place| 1 << place).sum()
+    };
+    match &round.phase {
+        Phase::Ready { arrived } => (0, bits(&round.from, arrived), 0),
+        Phase::Noting { note } => (1, 0, *note),
+        Phase::Stopped { value, arrived } => (2, bits(&round.to, arrived), *value),
+    }
+}
+
+/// The entry of a queue place, if the place holds just its bytes and its message is of a valid form.
+fn entry(place: &[u8]) -> Option<Entry> {
+    let mark = match place[0] {
+        0 => Mark::Pending,
+        1 => Mark::Processed,
+        2 => Mark::Waiting,
+        _ => return None,
+    };
+    let sense = if mark == Mark::Waiting { Sense::Cancel } else { Sense::Plain };
+    let entry = Entry { mark, message: message(place, sense)?, before: state(&place[30..44]) };
+    let state_allowed = mark == Mark::Processed || entry.before == State::default();
+    (state_allowed && entry_bytes(&entry) == place).then_some(entry)
+}
+
+fn outstanding_place(place: &[u8]) -> Option<Sent> {
+    let cancel = place[0] == 1;
+    let sense = if cancel { Sense::Cancel } else { Sense::Plain };
+    let sent = Sent { cancel, message: message(place, sense)? };
+    let is_sent = sent.message.kind != Kind::Restock;
+    (is_sent && sent_bytes(&sent) == place).then_some(sent)
+}
+
+/// The message of a place, if a frame of that sense can hold it.
+fn message(place: &[u8], sense: Sense) -> Option<Message> {
+    let kind = match place[1] {
+        0 => Kind::Failure,
+        1 => Kind::Request,
+        2 => Kind::Delivery,
+        3 => Kind::Restock,
+        _ => return None,
+    };
+    let message = Message {
+        hour: number(&place[4..8]),
+        kind,
+        origin: place[8],
+        lamp: place[12..30].try_into().ok()?,
+        quantity: number(&place[10..12]) as u16,
+        from: place[2],
+        to: place[3],
+    };
+    let frame = Frame::Event { sense, message };
+    (frame::read(&frame::write(&frame)) == Some(frame)).then_some(message)
+}
+
+/// A stored message's numbers and hour; `here` is its gateway that must be this one.
+fn check_message(
+    message: Message,
+    nodes: u8,
+    settings: &Settings,
+    here: u8,
+) -> Result<(), Unsound> {
+    let frame = Frame::Event { sense: Sense::Plain, message };
+    if frame.largest_number() >= nodes || here != settings.own {
+        return Err(Unsound::Number);
+    }
+    if message.hour > settings.last_hour {
+        return Err(Unsound::LastHour);
+    }
+    Ok(())
+}
+
+fn check_queue(entries: &[Entry]) -> Result<(), Unsound> {
+    if !entries.is_sorted_by_key(|entry| entry.message) {
+        return Err(Unsound::Order);
+    }
+    let first_pending = entries.iter().position(|entry| entry.mark == Mark::Pending);
+    let last_processed = entries.iter().rposition(|entry| entry.mark == Mark::Processed);
+    if let (Some(pending), Some(processed)) = (first_pending, last_processed) {
+        if pending < processed {
+            return Err(Unsound::ProcessedBehindUnprocessed);
+        }
+    }
+    let meet = |pair: &[Entry]| {
+        let waits = pair.iter().filter(|entry| entry.mark == Mark::Waiting).count();
+        pair[0].message == pair[1].message && waits == 1
+    };
+    if entries.windows(2).any(meet) {
+        return Err(Unsound::CancelBesidePlain);
+    }
+    Ok(())
+}
+
+fn message_bytes(mark: u8, message: &Message) -> Vec<u8> {
+    let Message { hour, kind, origin, lamp, quantity, from, to } = *message;
+    let head = [mark, kind as u8, from, to];
+    [&head[..], &hour.to_be_bytes(), &[origin, 0], &quantity.to_be_bytes(), &lamp].concat()
+}
+
+fn entry_bytes(entry: &Entry) -> Vec<u8> {
+    let State { stock, failed, fitted, short } = entry.before;
+    let mut bytes = message_bytes(entry.mark as u8, &entry.message);
+    bytes.extend(stock.to_be_bytes());
+    bytes.extend([failed, fitted, short].iter().flat_map(|counter| counter.to_be_bytes()));
+    bytes.resize(QUEUE_PLACE, 0);
+    bytes
+}
+
+fn sent_bytes(sent: &Sent) -> Vec<u8> {
+    let mut bytes = message_bytes(sent.cancel.into(), &sent.message);
+    bytes.resize(OUTSTANDING_PLACE, 0);
+    bytes
+}
+
+/// The state in fourteen bytes: stock, failed, fitted and short.
+fn state<'a>(bytes: impl IntoIterator<Item = &'a u8>) -> State {
+    let bytes: Vec<u8> = bytes.into_iter().copied().collect();
+    State {
+        stock: number(&bytes[..2]) as u16,
+        failed: number(&bytes[2..6]),
+        fitted: number(&bytes[6..10]),
+        short: number(&bytes[10..14]),
+    }
+}
+
+/// The number that bytes give, high byte first.
+fn number(bytes: &[u8]) -> u32 {
+    bytes.iter().fold(0, |value, &byte| value << 8 | u32::from(byte))
+}
