@@ -1,0 +1,224 @@
+// The single queue of document 01 for the last example. Its messages stand in event order in a lent queue, 64 bytes each from position
+// 256 on, as in a gateway's memory. A message that is done stays: what it sends is later, so the next is always the one behind it.
+use crate::carrier::Ends;
+use crate::carrier::append;
+use crate::carrier::size_at;
+use crate::opening_list::put_plain;
+use effects::insert::insert_place;
+use frame::reader::read;
+use gateway::places::Search;
+use gateway::places::find;
+use memory::Entry;
+use memory::Mark;
+use memory::place::read_entry;
+use memory::place::write_state;
+use model::Message;
+use model::Site;
+use model::State;
+use model::event::Outcome;
+use model::event::perform;
+ghost use mathlib.Core.Path.{_≡_};
+ghost use Prim.Native.Nat.{_+_, _*_, _≤_, _<_};
+ghost use lib.ListN.{length};
+
+// The states of the two gateways, where their records end, and the number of messages.
+struct Machine {
+    state0: State,
+    state1: State,
+    end0: usize,
+    end1: usize,
+    count: usize,
+}
+
+// Feeds the queue the opening list, and does its messages, at most 1000. Answers where the records end.
+pub fn run(
+    list: &[u8],
+    queue: &mut [u8],
+    output: &mut [u8],
+    record0: &mut [u8],
+    record1: &mut [u8],
+) -> Ends
+    requires { ⌜ 256 ≤ length (now queue) ⌝ }
+    ensures { λ r. ⌜ (r .first ≤ length (now (record0 .entry))) × (r .second ≤ length (now (record1 .entry))) ⌝ }
+{
+    let mut machine = machine_of(enter_list(list, queue));
+    let mut k = 0;
+    while k < 1000 {
+        if k >= machine.count {
+            break;
+        }
+        machine = step(queue, output, record0, record1, machine, k);
+        k += 1;
+    }
+    Ends {
+        first: machine.end0,
+        second: machine.end1,
+    }
+}
+
+// Both gateways as they are set up, with stock 0 and 1, and so many messages in the queue.
+fn machine_of(count: usize) -> Machine
+    ensures { λ r. ⌜ (r .count ≡ count) × (r .end0 ≡ 0) × (r .end1 ≡ 0) ⌝ }
+{
+    Machine {
+        state0: state_with(0),
+        state1: state_with(1),
+        end0: 0,
+        end1: 0,
+        count,
+    }
+}
+
+fn state_with(stock: u16) -> State {
+    State {
+        stock,
+        failed: 0,
+        fitted: 0,
+        short: 0,
+    }
+}
+
+// Enters each message of the list, and answers how many the queue then has.
+fn enter_list(list: &[u8], queue: &mut [u8]) -> usize
+    requires { ⌜ 256 ≤ length (now queue) ⌝ }
+    ensures { λ r. ⌜ 256 + 64 * r ≤ length (now (queue .entry)) ⌝ }
+{
+    let mut count = 0;
+    let mut at = 0;
+    while at < list.len() {
+        let end = at + size_at(list, at);
+        let reading = read(&list[at..end]);
+        let frame = reading.frame;
+        let message = frame.message;
+        count = enter(queue, count, message);
+        at = end;
+    }
+    count
+}
+
+// Enters a message behind those of so many that are not later, and answers how many there then are.
+fn enter(queue: &mut [u8], count: usize, message: Message) -> usize
+    requires { ⌜ 256 + 64 * count ≤ length (now queue) ⌝ }
+    ensures { λ r. ⌜ (count ≤ r) × (256 + 64 * r ≤ length (now (queue .entry))) ⌝ }
+{
+    if queue.len() - 64 * count < 320 {
+        return count;
+    }
+    let k = find(queue, count, Search::Later, message);
+    let entry = Entry {
+        message,
+        mark: Mark::Pending,
+        before: state_with(0),
+    };
+    insert_place(queue, count, k, entry);
+    count + 1
+}
+
+// The gateway that message k is to does it.
+fn step(
+    queue: &mut [u8],
+    output: &mut [u8],
+    record0: &mut [u8],
+    record1: &mut [u8],
+    machine: Machine,
+    k: usize,
+) -> Machine
+    requires { ⌜ (k < machine .count) × (256 + 64 * machine .count ≤ length (now queue)) × (machine .end0 ≤ length (now record0)) × (machine .end1 ≤ length (now record1)) ⌝ }
+    ensures { λ r. ⌜ (256 + 64 * r .count ≤ length (now (queue .entry))) × (r .end0 ≤ length (now (record0 .entry))) × (r .end1 ≤ length (now (record1 .entry))) ⌝ }
+{
+    let entry = read_entry(queue, 256 + 64 * k);
+    let message = entry.message;
+    let outcome = do_message(machine, message);
+    finish(queue, output, record0, record1, machine, message, outcome)
+}
+
+// Enters what a message sent, and puts the message at the end of its gateway's record.
+fn finish(
+    queue: &mut [u8],
+    output: &mut [u8],
+    record0: &mut [u8],
+    record1: &mut [u8],
+    machine: Machine,
+    message: Message,
+    outcome: Outcome,
+) -> Machine
+    requires { ⌜ (256 + 64 * machine .count ≤ length (now queue)) × (machine .end0 ≤ length (now record0)) × (machine .end1 ≤ length (now record1)) ⌝ }
+    ensures { λ r. ⌜ (256 + 64 * r .count ≤ length (now (queue .entry))) × (r .end0 ≤ length (now (record0 .entry))) × (r .end1 ≤ length (now (record1 .entry))) ⌝ }
+{
+    let state = outcome.state;
+    let count = enter_sent(queue, machine.count, outcome);
+    let mut next = put_event(output, record0, record1, machine, message, state);
+    next.count = count;
+    next
+}
+
+// The machine with the state after a message, which is put at the end of its gateway's record.
+fn put_event(
+    output: &mut [u8],
+    record0: &mut [u8],
+    record1: &mut [u8],
+    machine: Machine,
+    message: Message,
+    state: State,
+) -> Machine
+    requires { ⌜ (machine .end0 ≤ length (now record0)) × (machine .end1 ≤ length (now record1)) ⌝ }
+    ensures { λ r. ⌜ (r .end0 ≤ length (now (record0 .entry))) × (r .end1 ≤ length (now (record1 .entry))) ⌝ }
+{
+    let mut next = machine;
+    if message.to == 0 {
+        next.state0 = state;
+        next.end0 = put_done(output, record0, machine.end0, message, state);
+        return next;
+    }
+    next.state1 = state;
+    next.end1 = put_done(output, record1, machine.end1, message, state);
+    next
+}
+
+// Does a message by the lamp model, at the gateway that it is to. Supplier of both is gateway 1, and the last hour is 100.
+fn do_message(machine: Machine, message: Message) -> Outcome {
+    let site = Site {
+        own: message.to,
+        supplier: 1,
+        last: 100,
+    };
+    if message.to == 0 {
+        let state = machine.state0;
+        return perform(site, state, message);
+    }
+    let state = machine.state1;
+    perform(site, state, message)
+}
+
+fn enter_sent(queue: &mut [u8], count: usize, outcome: Outcome) -> usize
+    requires { ⌜ 256 + 64 * count ≤ length (now queue) ⌝ }
+    ensures { λ r. ⌜ (count ≤ r) × (256 + 64 * r ≤ length (now (queue .entry))) ⌝ }
+{
+    if !outcome.sends {
+        return count;
+    }
+    let message = outcome.sent;
+    enter(queue, count, message)
+}
+
+// Puts a message's frame and the state after it at the end of a record.
+fn put_done(
+    output: &mut [u8],
+    events: &mut [u8],
+    end: usize,
+    message: Message,
+    state: State,
+) -> usize
+    requires { ⌜ end ≤ length (now events) ⌝ }
+    ensures { λ r. ⌜ (end ≤ r) × (r ≤ length (now (events .entry))) ⌝ }
+{
+    let size = put_plain(output, message);
+    if output.len() < 14 {
+        return end;
+    }
+    if output.len() - 14 < size {
+        return end;
+    }
+    write_state(output, size, state);
+    append(events, end, output, size + 14)
+}
