@@ -1,7 +1,7 @@
 -- Laws of packed answers: the parts fit, each is read back, and what a call leaves is what its packed answer says.
 use mathlib.Core.Path.{_≡_, refl, _∙_, ap}
 use mathlib.Core.List.{List}
-use Prim.Native.Nat.{ℕ, _+_, _*_, _/_, _%_, _≤_, _<_}
+use Prim.Native.Nat.{ℕ, _+_, _*_, _<_}
 use native.Mathlib.Omega.{arith}
 use Rattle.buffer.specs.Slice.{Bytes}
 use Rattle.gateway.specs.Calls.{Left, workedOff, taken, started, committed}

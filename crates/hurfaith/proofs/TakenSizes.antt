@@ -1,9 +1,9 @@
 -- How many bytes taking a frame writes at most: the acknowledgment, and a cancel for each outstanding place that it takes.
-use mathlib.Core.Path.{_≡_, refl, sym, _∙_, ap, subst}
+use mathlib.Core.Path.{_≡_, refl, subst}
 use mathlib.Core.Logic.{⊎-elim}
 use mathlib.Core.Bool.{Bool, true, false, cond, not, _&&_}
-use mathlib.Core.List.{List, [], _∷_, _++_, List·Memᴰ·head as here, List·Memᴰ·tail as there, List·Memᴰ·not-nil, List·Memᴰ·append-cases, Memᴰ·append-right}
-use Prim.Native.Nat.{ℕ, _+_, _*_, _-_, _/_, _≤_, _<_, min}
+use mathlib.Core.List.{List, [], _∷_, List·Memᴰ·head as here, List·Memᴰ·tail as there, List·Memᴰ·not-nil, List·Memᴰ·append-cases, Memᴰ·append-right}
+use Prim.Native.Nat.{ℕ, _+_, _*_, _-_, _/_, _≤_, min}
 use native.Mathlib.Omega.{arith}
 use lib.Dec.{leb, ltb, eqb}
 use lib.ListN.{length, length-append}
@@ -22,11 +22,10 @@ use Rattle.frame.specs.declared.Frame.{Frame}
 use Rattle.frame.specs.declared.Sense.{Sense}
 use Rattle.frame.specs.declared.Sense.the-variants.{Plain, Cancel, Acknowledgment, CancelAcknowledgment}
 use Rattle.memory.specs.Records.{Gateway, siteOf}
-use Rattle.memory.specs.Codec.{decode}
 use Rattle.memory.specs.declared.Entry.{Entry}
 use Rattle.memory.specs.declared.Settings.{Settings}
-use Rattle.memory.proofs.Validated.{and-left, and-right, valid-facts}
-use Rattle.gateway.specs.Effects.{Effect, Outcome, bytesOfFrames, fits, settled, refused, framesFor, withState, withQueue}
+use Rattle.memory.proofs.Validated.{and-left, valid-facts}
+use Rattle.gateway.specs.Effects.{Effect, Outcome, bytesOfFrames, fits, settled, refused, framesFor, withState}
 use Rattle.gateway.specs.Undoing.{processedOf, restored, sentBack, rolledBack}
 use Rattle.gateway.specs.Taking.{any, fromLast, behind, upTo, isCancelOf, isPlain, isSent, acknowledgment, takePlain, takeCancel, takeAcknowledgment}
 use Rattle.gateway.specs.Rounds.{children, isIdle, bitOf, allBits, awaited, valueIn, oneStart, takeStart, oneLvt, takeLvt, frames, takeUpdate}

@@ -1,12 +1,11 @@
 -- How many bytes the calls write at most: far less than a packed answer has place for.
-use mathlib.Core.Path.{_≡_, refl, sym, _∙_, ap, subst}
+use mathlib.Core.Path.{_≡_, refl, sym, subst}
 use mathlib.Core.Bool.{Bool, true, false, cond, _&&_}
-use mathlib.Core.List.{List, [], _∷_, _++_, List·Memᴰ·head as here}
-use Prim.Native.Nat.{ℕ, zero, suc, _+_, _*_, _-_, _≤_, _<_}
+use mathlib.Core.List.{List, [], _∷_, List·Memᴰ·head as here}
+use Prim.Native.Nat.{ℕ, zero, suc, _+_, _*_, _-_, _≤_}
 use native.Mathlib.Omega.{arith}
 use lib.Dec.{leb, ltb, eqb}
 use lib.ListN.{length, length-append}
-use borrow.Author.Tests.{leb-true}
 use Rattle.routing.specs.Arcs.{_∈_, from, to}
 use Rattle.buffer.specs.Slice.{Bytes, write}
 use Rattle.model.specs.Doing.{after, sent}
@@ -20,7 +19,7 @@ use Rattle.memory.specs.declared.Settings.{Settings}
 use Rattle.memory.proofs.SoundMemory.{codec-laws}
 use Rattle.memory.proofs.Validated.{valid-facts}
 use Rattle.model.specs.declared.Kind.the-variants.{Start, Lvt, Update}
-use Rattle.gateway.specs.Effects.{Effect, Outcome, bytesOfFrames, fits, settled, refused, withState, withQueue}
+use Rattle.gateway.specs.Effects.{Effect, Outcome, bytesOfFrames, fits, settled, withState, withQueue}
 use Rattle.gateway.specs.Rounds.{children, ifBelow, finished, valueAt, leastOutstanding, begun, isIdle, start}
 use Rattle.gateway.specs.Undoing.{processedOf}
 use Rattle.gateway.specs.Committing.{recordOf, commitOldest, commit}
@@ -31,7 +30,7 @@ use Rattle.gateway.specs.declared.Worked.{Worked}
 use Rattle.gateway.proofs.Searches.{pending-member, processed-member}
 use Rattle.gateway.proofs.Replies.{Good, sent-good}
 use Rattle.gateway.proofs.Neighbours.{from-few, to-few}
-use Rattle.gateway.proofs.Maintaining.{Proper, Standing, standing, fitting}
+use Rattle.gateway.proofs.Maintaining.{Proper, standing, fitting}
 use Rattle.gateway.proofs.Takings.{done-stands}
 use Rattle.gateway.proofs.Keeps.{work-keeps}
 use Rattle.memory.proofs.Stored.{length-state}

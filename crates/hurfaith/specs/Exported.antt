@@ -7,7 +7,6 @@ use lib.Dec.{leb, ltb, eqb}
 use lib.ListN.{length, getD, drop}
 use Rattle.routing.specs.Answers.{neighboursOf}
 use Rattle.routing.specs.declared.Gateways.{Gateways}
-use Rattle.routing.specs.declared.Neighbours.{Neighbours}
 use Rattle.buffer.specs.Slice.{Bytes}
 use Rattle.gateway.specs.Calls.{Left, taken, started, committed, workedOff}
 use Rattle.gateway.specs.declared.Answer.{Answer}
