@@ -36,7 +36,8 @@ fn main() {
     );
 }
 
-// Prints whether n gateways share a bottom row: whether more than one gateway is in both trees.
+// Prints whether n gateways share a bottom row: whether more than one gateway is in both trees. (With n one less than a power of two the
+// shared row is a single gateway, and this would not tell; 22 and 23 are no such numbers.)
 fn print_sharing(n: u32)
     requires { ⌜ (1 ≤ n) × (n ≤ 65535) ⌝ }
 {
@@ -49,7 +50,8 @@ fn print_sharing(n: u32)
     }
 }
 
-// Prints the records that the gateways commit, with a carrier between them.
+// Prints the records that the gateways commit, with a carrier between them, then whether the single queue gives the same. The memories,
+// the line of frames under way and the output are lent; a memory with 512 places of each kind has 49,408 bytes.
 fn print_example(
     first: &mut [u8; 65536],
     second: &mut [u8; 65536],
