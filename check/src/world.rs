@@ -25,6 +25,8 @@ pub struct World {
 struct UnderWay {
     bytes: Vec<u8>,
     frame: Frame,
+    /// The hour of a message, cancel or acknowledgment; nothing due for the frames of a round.
+    hour: Hour,
     /// Counts what was written in the run: the smaller, the older.
     number: usize,
     /// For the frames of a round, which one.
@@ -235,7 +237,11 @@ impl World {
                 self.rounds[round].messages += 1;
             }
             let bytes = frame::write(&frame);
-            self.under_way.push(UnderWay { bytes, frame, number: self.written, round });
+            let hour = match frame {
+                Frame::Event { message, .. } => message.hour,
+                _ => NOTHING_DUE,
+            };
+            self.under_way.push(UnderWay { bytes, frame, hour, number: self.written, round });
             self.written += 1;
         }
         if closes {
@@ -266,11 +272,8 @@ impl World {
 
     /// No agreed time has fallen, and none is past an hour that waits or is under way.
     fn check(&mut self, comparison: &mut Comparison) -> Result<(), Wrong> {
-        let carried = |carried: &UnderWay| match carried.frame {
-            Frame::Event { message, .. } => message.hour,
-            _ => NOTHING_DUE,
-        };
-        let under_way = self.under_way.iter().map(carried).min().unwrap_or(NOTHING_DUE);
+        let under_way = self.under_way.iter().map(|carried| carried.hour).min();
+        let under_way = under_way.unwrap_or(NOTHING_DUE);
         let waiting = self.ledgers.iter().map(Ledger::least).min().unwrap_or(NOTHING_DUE);
         for (own, memory) in self.memories.iter().enumerate() {
             let (before, agreed) = (self.agreed[own], comparison.agreed_time(memory)?);
