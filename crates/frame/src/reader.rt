@@ -7,6 +7,7 @@ use crate::rules::gateways_agree;
 use crate::rules::lamp_fits;
 use crate::tables::map_of_kind;
 use crate::tables::whole_length;
+use crate::tables::width_of;
 use buffer::read16;
 use buffer::read32;
 use model::Kind;
@@ -23,9 +24,6 @@ ghost use Rattle.frame.specs.Kinds.{senseOf};
 ghost use Rattle.frame.specs.Reasons.{reading, readAs, refusedAs, fieldsForm, fieldsOf, frameOf, mapFits, senseFits};
 ghost use Rattle.frame.specs.Lamps.{isGood, carriesLamp, IsLamp};
 ghost use Rattle.frame.specs.Steps.{stored, noFields};
-
-// The width of each field, bit 0 first.
-const WIDTHS: [usize; 8] = [1, 1, 1, 4, 1, 18, 2, 1];
 
 // The fields of a frame as numbers. A field whose bit does not stand in the map is zero.
 pub struct Fields {
@@ -130,7 +128,7 @@ fn walk(bytes: &[u8], map: u8) -> Fields
     while left > 0 {
         if rest % 2 == 1 {
             fields = store(bytes, at, bit, fields);
-            at += WIDTHS[bit];
+            at += width_of(bit);
             left -= 1;
         }
         rest = rest / 2;

@@ -1,7 +1,8 @@
 // The table of kinds, the widths of the fields and the table of whole lengths.
 ghost use mathlib.Core.Path.{_≡_};
 ghost use Prim.Native.Nat.{_<_};
-ghost use Rattle.frame.specs.Layout.{wholeLength};
+ghost use lib.ListN.{getD};
+ghost use Rattle.frame.specs.Layout.{widths, wholeLength};
 ghost use Rattle.frame.specs.Kinds.{mapOfKind};
 
 // The map of each kind.
@@ -272,6 +273,19 @@ pub fn map_of_kind(kind: u8) -> u8
     ensures { λ r. ⌜ r ≡ mapOfKind kind ⌝ }
 {
     MAPS[kind as usize]
+}
+
+// The width of the field of a bit. A match, as a constant array would be copied at each reading of it.
+pub fn width_of(bit: usize) -> usize
+    requires { ⌜ bit < 8 ⌝ }
+    ensures { λ r. ⌜ r ≡ getD widths bit 0 ⌝ }
+{
+    match bit {
+        3 => 4,
+        5 => 18,
+        6 => 2,
+        _ => 1,
+    }
 }
 
 pub fn whole_length(map: u8) -> usize

@@ -21,14 +21,11 @@ loop-holds c = rw (c .no-fields .ensures) (search walk-start)
 store-requires : tie.Need-store-requires Inv-loop μ-loop
 store-requires c κs = (search walk-bit, search walk-fits)
 
-mul-at : tie.Need-mul-at Inv-loop μ-loop
-mul-at c = omega (arith, walk-bit (c .before .before .before .loop .inv) (c .before .before .loop-test .taken))
-
-array-read-at : tie.Need-array-read-at Inv-loop μ-loop
-array-read-at c = search walk-bit
+width-of-requires : tie.Need-width-of-requires Inv-loop μ-loop
+width-of-requires c κs = search walk-bit
 
 add-at : tie.Need-add-at Inv-loop μ-loop
-add-at c = omega (arith, walk-fits (c .before .before .before .loop .inv) (c .before .before .loop-test .taken) (c .before .if1 .taken))
+add-at c = omega (arith, c .width-of .ensures, walk-fits (c .before .before .before .before .loop .inv) (c .before .before .before .loop-test .taken) (c .before .before .if1 .taken))
 
 sub-left : tie.Need-sub-left Inv-loop μ-loop
 sub-left c = search needs
@@ -43,7 +40,7 @@ loop-again : tie.Need-loop-again Inv-loop μ-loop
 loop-again c =
     let w = c .before .before .loop .inv in
     let more = c .before .loop-test .taken in
-    ⊎-elim (λ v. rw (v .2, v .3, v .4, v .1 .ensures) (walk-taken w more (v .0 .taken))) (λ v. rw (v .1, v .2, v .3) (walk-passed w more (v .0 .left))) (c .if1 .came)
+    ⊎-elim (λ v. rw (v .3, v .4, v .5, v .2 .ensures, v .1 .ensures) (walk-taken w more (v .0 .taken))) (λ v. rw (v .1, v .2, v .3) (walk-passed w more (v .0 .left))) (c .if1 .came)
 
 returns : tie.Need-returns Inv-loop μ-loop
 returns c = search walk-end
@@ -57,8 +54,7 @@ walk-spec =
     no-fields-requires
     loop-holds
     store-requires
-    mul-at
-    array-read-at
+    width-of-requires
     add-at
     sub-left
     add-bit
