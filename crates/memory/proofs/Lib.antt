@@ -4,6 +4,7 @@ pub mod Lamps
 pub mod Chains
 pub mod Deciding
 pub mod Passing
+pub mod Following
 pub mod EventLaws
 pub mod Validated
 pub mod Standing

@@ -41,10 +41,16 @@ swap true false true d = refl
 swap true false false d = refl
 swap false b c d = refl
 
+exchange : (a b c : Bool) → (a && (b && c)) ≡ (b && (a && c))
+exchange true b c = refl
+exchange false true c = refl
+exchange false false c = refl
+
 gathered : (x v o p m xs vs os ps ms : Bool)
-    → (x && ((v && (o && (p && m))) && (xs && (vs && (os && (ps && ms)))))) ≡ ((x && xs) && ((v && vs) && ((o && os) && ((p && ps) && (m && ms)))))
+    → (x && ((v && (p && (o && m))) && (xs && (vs && (os && (ps && ms)))))) ≡ ((x && xs) && ((v && vs) && ((o && os) && ((p && ps) && (m && ms)))))
 gathered x v o p m xs vs os ps ms =
-    sym
+    ap (λ (z : Bool). x && ((v && z) && (xs && (vs && (os && (ps && ms)))))) (exchange p o m)
+    ∙ sym
     (ap (λ (z : Bool). (x && xs) && ((v && vs) && ((o && os) && z))) (swap p ps m ms)
     ∙ ap (λ (z : Bool). (x && xs) && ((v && vs) && z)) (swap o os (p && m) (ps && ms))
     ∙ ap (λ (z : Bool). (x && xs) && z) (swap v vs (o && (p && m)) (os && (ps && ms)))

@@ -1,6 +1,6 @@
 -- What the internal functions of the test of soundness are proved to compute; no reader has to believe them.
 use Prim.Native.Nat.{ℕ}
-use mathlib.Core.Bool.{Bool, false, not, _&&_}
+use mathlib.Core.Bool.{Bool, true, false, not, _&&_}
 use mathlib.Core.List.{List}
 use lib.Dec.{eqb}
 use lib.ListN.{getD}
@@ -8,17 +8,29 @@ use Rattle.buffer.specs.Slice.{part}
 use Rattle.buffer.specs.Number.{numberOf}
 use Rattle.model.specs.Messages.{kindNumber, originOf, quantityOf}
 use Rattle.model.specs.declared.Message.{Message}
+use Rattle.model.specs.declared.order.Comparison.{Comparison}
+use Rattle.model.specs.declared.order.Comparison.the-variants.{Before, Same, After}
 use Rattle.memory.specs.Layout.{headerSize, queueSize, outstandingSize}
 use Rattle.memory.specs.Codec.{entryOf, sentOf, placesAt}
-use Rattle.memory.specs.Validity.{every, isProcessed, later, ordered, processedFirst, meet, noneMeet, entryValid, sentValid}
+use Rattle.memory.specs.Validity.{every, isProcessed, later, ordered, processedFirst, oneWaits, meet, noneMeet, entryValid, sentValid}
 use Rattle.memory.specs.Soundness.{entryExact, sentExact}
 use Rattle.memory.specs.declared.Settings.{Settings}
 use Rattle.memory.specs.declared.Entry.{Entry}
+use Rattle.memory.specs.declared.Mark.{Mark}
+
+-- two entries that compare so may be neighbours
+abbrev pub comparedFollows : Comparison → Mark → Mark → Bool
+comparedFollows Before a b = true
+comparedFollows Same a b = not (oneWaits a b)
+comparedFollows After a b = false
+
+-- an entry may be the next behind another
+abbrev pub entryFollows : Entry → Entry → Bool
+entryFollows before e = not (later (before .message) (e .message)) && not (meet before e)
 
 -- an entry behind another; `seen`: an unprocessed plain message was passed
 unfoldable pub entryFits : Settings → Entry → Bool → Entry → Bool
-entryFits s before seen e =
-    entryValid s e && (not (later (before .message) (e .message)) && (not (seen && isProcessed e) && not (meet before e)))
+entryFits s before seen e = entryValid s e && (not (seen && isProcessed e) && entryFollows before e)
 
 -- kind, origin, byte 9 and quantity in a place are those that a message is written with
 unfoldable pub messageExact : List ℕ → Message → Bool

@@ -104,9 +104,13 @@ unfoldable pub processedFirst : Bool → List Entry → Bool
 processedFirst seen [] = true
 processedFirst seen (e ∷ es) = not (seen && isProcessed e) && processedFirst (seen || isPending e) es
 
+-- one of the two is a waiting cancel and the other is not
+abbrev pub oneWaits : Mark → Mark → Bool
+oneWaits a b = cond (waitingMark a) (not (waitingMark b)) (waitingMark b)
+
 -- two neighbours are a waiting cancel and an equal plain message
 abbrev pub meet : Entry → Entry → Bool
-meet e f = equal (e .message) (f .message) && cond (isWaiting e) (not (isWaiting f)) (isWaiting f)
+meet e f = equal (e .message) (f .message) && oneWaits (e .mark) (f .mark)
 
 -- no waiting cancel beside an equal plain message
 unfoldable pub noneMeet : List Entry → Bool

@@ -16,11 +16,11 @@ use model::order::Comparison;
 use model::order::compare;
 use routing::neighbours_of;
 ghost use mathlib.Core.Path.{_≡_};
-ghost use mathlib.Core.Bool.{cond, not};
+ghost use mathlib.Core.Bool.{not};
 ghost use Prim.Native.Nat.{_<_};
 ghost use Rattle.model.specs.EventOrder.{different};
 ghost use Rattle.memory.specs.Layout.{sizeFor};
-ghost use Rattle.memory.specs.Validity.{settingsValid, oneOfTwo, arrivalsPossible, roundPossible, pendingMark, processedMark, waitingMark, equal, isAfter, later, meet, frameIf, storable, isNoState, entryValid, sentValid};
+ghost use Rattle.memory.specs.Validity.{settingsValid, oneOfTwo, arrivalsPossible, roundPossible, pendingMark, processedMark, waitingMark, equal, isAfter, later, oneWaits, frameIf, storable, isNoState, entryValid, sentValid};
 
 // How long the memory has to be for its settings.
 pub fn size_for(settings: Settings) -> usize
@@ -172,23 +172,9 @@ fn is_after(found: Comparison) -> bool
     }
 }
 
-// Whether two neighbours in the queue are a waiting cancel and an equal plain message.
-pub fn meet(a: Entry, b: Entry) -> bool
-    ensures { λ r. ⌜ r ≡ meet a b ⌝ }
-{
-    let first = a.message;
-    let second = b.message;
-    if !equal(first, second) {
-        return false;
-    }
-    let first_mark = a.mark;
-    let second_mark = b.mark;
-    one_waits(first_mark, second_mark)
-}
-
 // Whether one of the two is a waiting cancel and the other is not.
-fn one_waits(a: Mark, b: Mark) -> bool
-    ensures { λ r. ⌜ r ≡ cond (waitingMark a) (not (waitingMark b)) (waitingMark b) ⌝ }
+pub fn one_waits(a: Mark, b: Mark) -> bool
+    ensures { λ r. ⌜ r ≡ oneWaits a b ⌝ }
 {
     if is_waiting(a) {
         return !is_waiting(b);

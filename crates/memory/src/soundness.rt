@@ -10,8 +10,7 @@ use crate::place::sent_of;
 use crate::rules::entry_valid;
 use crate::rules::is_pending;
 use crate::rules::is_processed;
-use crate::rules::later;
-use crate::rules::meet;
+use crate::rules::one_waits;
 use crate::rules::round_possible;
 use crate::rules::sent_valid;
 use crate::rules::settings_valid;
@@ -20,6 +19,8 @@ use buffer::read16;
 use buffer::read32;
 use model::Message;
 use model::kind_number;
+use model::order::Comparison;
+use model::order::compare;
 use model::origin_of;
 use model::quantity_of;
 ghost use mathlib.Core.Path.{_≡_};
@@ -30,7 +31,7 @@ ghost use Rattle.memory.specs.Codec.{headerAt, entryBytes, entryOf, sent
 ghost use Rattle.memory.specs.Validity.{pendingMark, processedMark};
 ghost use Rattle.buffer.specs.Slice.{sameBytes};
 ghost use Rattle.memory.specs.Soundness.{headerSound, sound};
-ghost use Rattle.memory.specs.Passes.{entryFits, messageExact, queueSound, outstandingSound};
+ghost use Rattle.memory.specs.Passes.{entryFits, entryFollows, comparedFollows, messageExact, queueSound, outstandingSound};
 
 // Whether lent memory is sound. To memory that is not, every call answers 10.
 pub fn sound(memory: &[u8]) -> bool
@@ -132,19 +133,40 @@ fn outstanding_sound(memory: &[u8], settings: Settings, start: usize, count: usi
 fn entry_fits(settings: Settings, before: Entry, seen: bool, entry: Entry) -> bool
     ensures { λ r. ⌜ r ≡ entryFits settings before seen entry ⌝ }
 {
-    let first = before.message;
-    let second = entry.message;
     let mark = entry.mark;
     if !entry_valid(settings, entry) {
-        return false;
-    }
-    if later(first, second) {
         return false;
     }
     if processed_behind(seen, mark) {
         return false;
     }
-    !meet(before, entry)
+    follows(before, entry)
+}
+
+// Whether an entry may be the next behind another: the other is not later, and they are not a waiting cancel and an equal plain
+// message. Where the hour is later already, the rest is not compared.
+fn follows(before: Entry, entry: Entry) -> bool
+    ensures { λ r. ⌜ r ≡ entryFollows before entry ⌝ }
+{
+    let first = before.message;
+    let second = entry.message;
+    if first.hour < second.hour {
+        return true;
+    }
+    let first_mark = before.mark;
+    let second_mark = entry.mark;
+    follow(compare(first, second), first_mark, second_mark)
+}
+
+// The same by how the two compare.
+fn follow(found: Comparison, first: Mark, second: Mark) -> bool
+    ensures { λ r. ⌜ r ≡ comparedFollows found first second ⌝ }
+{
+    match found {
+        Comparison::Before => true,
+        Comparison::Same => !one_waits(first, second),
+        Comparison::After => false,
+    }
 }
 
 // Whether a processed message stands behind an unprocessed plain one that was seen.
