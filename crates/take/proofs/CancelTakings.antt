@@ -141,9 +141,9 @@ module _ (m output : List ℕ) (h : Header) (known : Known m h) (bytes : Bytes m
     unfolding bytesOfFrames
     waits-done is put q =
         with-room m output g (waits x g) (needs ∙ room)
-        (q ∙ rw (is, waits-is))
-        (put .output ∙ rw (r, waits-is, append-nil))
-        (put .position ∙ rw (r, waits-is, append-nil) (omega arith))
+        (q ∙ rw (is, up-to-first x (g .queue), behind-first x (g .queue), ← place))
+        (put .output ∙ rw (r, append-nil))
+        (put .position ∙ rw (r, append-nil) (omega arith))
 
 -- the plain message in queue place k is struck out: what the code counts is what it comes to
 module _ (m output : List ℕ) (h : Header) (known : Known m h) (bytes : Bytes m) (x : Message) (fits-x : MessageFits x) (k : ℕ) (below : k < h .queued)

@@ -210,12 +210,12 @@ module _ (m output : List ℕ) (h : Header) (known : Known m h) (bytes : Bytes m
         unfolding undoneFrom bytesOfFrames
         entered-done is q =
             with-room m output g (entered x g) (needs ∙ room)
-            (q ∙ rw (is, entered-is, take-at (take k (g .queue)) (map undone (drop k (g .queue))) k front, drop-at (take k (g .queue)) (map undone (drop k (g .queue))) k front))
-            (rw entered-is
+            (q ∙ rw (is, up-to-first x (g .queue), behind-first x (g .queue), ← place, take-at (take k (g .queue)) (map undone (drop k (g .queue))) k front, drop-at (take k (g .queue)) (map undone (drop k (g .queue))) k front))
+            (rw (behind-first x (g .queue), ← place)
             (b .put
             ∙ rw (put .output, put .position, r)
             (write-join 0 (written (acknowledgment false x)) (bytesOfFrames (framesFor true ms)) output (rw r at (reply-room false x (fits-x .lamp) r e s {n = length output} (omega (arith, bytes-room)))))))
-            (rw entered-is (b .position ∙ rw (put .position, r, length-append) (omega arith)))
+            (rw (behind-first x (g .queue), ← place) (b .position ∙ rw (put .position, r, length-append) (omega arith)))
           where
             front : length (take k (g .queue)) ≡ k
             front = rw length-take (omega (arith, place-bound))
