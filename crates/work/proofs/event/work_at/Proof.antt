@@ -46,8 +46,8 @@ sending-after-requires c κs = search needs
 send-outcome-requires : tie.Need-send-outcome-requires
 send-outcome-requires c κs = may-send-all (c .before .before .before .before .before .before .before .before .before .before .before .before .before .before .before .before .before .before .before .before .pre .0) (c .before .before .before .before .before .before .before .before .has-room .ensures) (c .before .before .before .before .before .before .before .if1 .left) (search needs) (c .sending-after .ensures)
 
-add-t14 : tie.Need-add-t14
-add-t14 c = let ready = c .before .before .before .before .before .before .before .before .before .before .before .before .before .before .before .before .before .before .before .before .before .before .before .before .before .before .pre .0 in let below = c .before .before .before .before .before .before .before .before .before .before .before .before .before .before .before .before .before .before .before .before .before .before .before .before .before .before .pre .1 in omega (arith, ready .queued, ready .queue-places)
+add-t15 : tie.Need-add-t15
+add-t15 c = let ready = c .before .before .before .before .before .before .before .before .before .before .before .before .before .before .before .before .before .before .before .before .before .before .before .before .before .before .pre .0 in let below = c .before .before .before .before .before .before .before .before .before .before .before .before .before .before .before .before .before .before .before .before .before .before .before .before .before .before .pre .1 in omega (arith, ready .queued, ready .queue-places)
 
 same-length-2 : tie.Need-same-length-2
 same-length-2 c = search needs
@@ -77,7 +77,7 @@ work-at-spec =
     write-entry-requires
     sending-after-requires
     send-outcome-requires
-    add-t14
+    add-t15
     same-length-2
     same-length-3
     returns-2)
