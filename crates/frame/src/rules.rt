@@ -37,18 +37,21 @@ pub fn gateways_agree(from: u8, to: u8, kind: Kind) -> bool
     }
 }
 
+// Looks at every byte and keeps whether all so far were between: an early return would be a branch for each byte.
 fn all_between(lamp: [u8; 18], low: u8, high: u8) -> bool
     ensures { λ r. ⌜ r ≡ allBetween low high lamp ⌝ }
 {
     let mut i = 0;
+    let mut fine = true;
     while i < 18 {
-        if lamp[i] < low {
-            return false;
+        let byte = lamp[i];
+        if byte < low {
+            fine = false;
         }
-        if lamp[i] > high {
-            return false;
+        if byte > high {
+            fine = false;
         }
         i += 1;
     }
-    true
+    fine
 }

@@ -3,7 +3,6 @@ pub mod Stored
 pub mod Lamps
 pub mod Chains
 pub mod Deciding
-pub mod SameBytes
 pub mod Passing
 pub mod EventLaws
 pub mod Validated
@@ -12,6 +11,8 @@ pub mod Places
 pub mod Fitting
 pub mod RoundTrips
 pub mod FromBytes
+pub mod SameBytes
+pub mod ByFields
 pub mod FourWrites
 pub mod Holding
 pub mod StillBytes

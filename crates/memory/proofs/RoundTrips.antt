@@ -45,7 +45,7 @@ kind-back Start = refl
 kind-back Lvt = refl
 kind-back Update = refl
 
-kind-fits : (k : Kind) → kindNumber k < 256
+pub kind-fits : (k : Kind) → kindNumber k < 256
 kind-fits (Failure origin) = lit< tt
 kind-fits (Request origin) = lit< tt
 kind-fits (Delivery origin) = lit< tt

@@ -1,5 +1,5 @@
 -- Bytes written one behind the other are one write: the header, a state, a message, a place.
-use mathlib.Core.Path.{_≡_, refl, sym, _∙_, ap}
+use mathlib.Core.Path.{_≡_, refl, _∙_, ap}
 use Prim.Native.Nat.{ℕ, _+_, _-_, _<_, _≤_}
 use native.Mathlib.Omega.{arith}
 use mathlib.Core.List.{List, [], _∷_, _++_, append-assoc}
@@ -7,7 +7,7 @@ use lib.ListN.{length, set, take, drop, replicate, length-append}
 use borrow.Author.Tests.{ne-eqb}
 use Rattle.buffer.specs.Slice.{part, write}
 use Rattle.buffer.specs.Number.{bytesOf}
-use Rattle.buffer.proofs.Writes.{length-write, part-written, write-join, write-snoc, set-write}
+use Rattle.buffer.proofs.Writes.{length-write, write-join, write-snoc, set-write}
 use Rattle.buffer.proofs.Numbers.{length-bytesOf}
 use Rattle.model.specs.Messages.{kindNumber, originOf, quantityOf}
 use Rattle.model.specs.declared.Message.{Message}
@@ -19,7 +19,6 @@ use Rattle.memory.specs.declared.Sent.{Sent}
 use Rattle.memory.specs.declared.Mark.the-variants.{Waiting}
 use Rattle.memory.specs.declared.Phase.{Phase}
 use Rattle.memory.specs.declared.Phase.the-variants.{Stopped}
-use Rattle.memory.proofs.Standing.{part-whole}
 
 -- a write behind a write of known length
 pub write-behind : (at n k : ℕ) (xs ys m : List ℕ) → length xs ≡ n → k ≡ at + n → k ≤ length m → write k ys (write at xs m) ≡ write at (xs ++ ys) m
@@ -29,12 +28,6 @@ write-behind at n k xs ys m size e fits = rw (e, ← size) (write-join at xs ys 
 pub part-between : (m : List ℕ) (at n : ℕ) → take (at + n - at) (drop at m) ≡ part m at n
 unfolding part
 part-between m at n = let e : at + n - at ≡ n = omega arith in rw e
-
--- what fills all of m
-pub write-all : (xs m : List ℕ) → length xs ≡ length m → write 0 xs m ≡ xs
-write-all xs m h =
-    let size : length (write 0 xs m) ≡ length m = length-write 0 xs m (omega arith) in
-    sym (part-whole (write 0 xs m) (length xs) (omega arith)) ∙ part-written 0 xs m (omega arith)
 
 -- one byte, and two
 byte : (x : ℕ) → x < 256 → bytesOf 1 x ≡ x ∷ []

@@ -2,6 +2,12 @@
 use Prim.Native.Nat.{ℕ}
 use mathlib.Core.Bool.{Bool, false, not, _&&_}
 use mathlib.Core.List.{List}
+use lib.Dec.{eqb}
+use lib.ListN.{getD}
+use Rattle.buffer.specs.Slice.{part}
+use Rattle.buffer.specs.Number.{numberOf}
+use Rattle.model.specs.Messages.{kindNumber, originOf, quantityOf}
+use Rattle.model.specs.declared.Message.{Message}
 use Rattle.memory.specs.Layout.{headerSize, queueSize, outstandingSize}
 use Rattle.memory.specs.Codec.{entryOf, sentOf, placesAt}
 use Rattle.memory.specs.Validity.{every, isProcessed, later, ordered, processedFirst, meet, noneMeet, entryValid, sentValid}
@@ -13,6 +19,12 @@ use Rattle.memory.specs.declared.Entry.{Entry}
 unfoldable pub entryFits : Settings → Entry → Bool → Entry → Bool
 entryFits s before seen e =
     entryValid s e && (not (later (before .message) (e .message)) && (not (seen && isProcessed e) && not (meet before e)))
+
+-- kind, origin, byte 9 and quantity in a place are those that a message is written with
+unfoldable pub messageExact : List ℕ → Message → Bool
+messageExact b m =
+    eqb (getD b 1 0) (kindNumber (m .kind))
+    && (eqb (getD b 8 0) (originOf (m .kind)) && (eqb (getD b 9 0) 0 && eqb (numberOf (part b 10 2)) (quantityOf (m .kind))))
 
 -- the used queue places
 unfoldable pub queueSound : Settings → List ℕ → ℕ → Bool

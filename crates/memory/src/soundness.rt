@@ -7,8 +7,6 @@ use crate::Settings;
 use crate::header_bytes::read_header;
 use crate::place::entry_of;
 use crate::place::sent_of;
-use crate::place::write_entry;
-use crate::place::write_sent;
 use crate::rules::entry_valid;
 use crate::rules::is_pending;
 use crate::rules::is_processed;
@@ -18,15 +16,21 @@ use crate::rules::round_possible;
 use crate::rules::sent_valid;
 use crate::rules::settings_valid;
 use crate::rules::size_for;
+use buffer::read16;
+use buffer::read32;
+use model::Message;
+use model::kind_number;
+use model::origin_of;
+use model::quantity_of;
 ghost use mathlib.Core.Path.{_≡_};
 ghost use mathlib.Core.Bool.{_&&_, _||_};
 ghost use Prim.Native.Nat.{_+_, _*_, _≤_};
-ghost use lib.ListN.{length};
-ghost use Rattle.memory.specs.Codec.{headerAt, entryBytes, sentBytes};
+ghost use lib.ListN.{length, drop, replicate};
+ghost use Rattle.memory.specs.Codec.{headerAt, entryBytes, entryOf, sentBytes, sentOf};
 ghost use Rattle.memory.specs.Validity.{pendingMark, processedMark};
 ghost use Rattle.buffer.specs.Slice.{sameBytes};
 ghost use Rattle.memory.specs.Soundness.{headerSound, sound};
-ghost use Rattle.memory.specs.Passes.{entryFits, queueSound, outstandingSound};
+ghost use Rattle.memory.specs.Passes.{entryFits, messageExact, queueSound, outstandingSound};
 
 // Whether lent memory is sound. To memory that is not, every call answers 10.
 pub fn sound(memory: &[u8]) -> bool
@@ -163,36 +167,70 @@ fn pending_seen(seen: bool, mark: Mark) -> bool
     is_pending(mark)
 }
 
-// Whether a queue place holds just the bytes of an entry.
+// Whether a queue place holds just the bytes of the entry that was read from it. Bytes that are read as they stand need no test.
 fn entry_exact(place: &[u8], entry: Entry) -> bool
-    requires { ⌜ length (now place) ≡ 64 ⌝ }
+    requires { ⌜ (length (now place) ≡ 64) × (entry ≡ entryOf (now place)) ⌝ }
     ensures { λ r. ⌜ r ≡ sameBytes (entryBytes entry) (now (place .entry)) ⌝ }
 {
-    let mut bytes = [0; 64];
-    write_entry(&mut bytes, 0, entry);
-    same_bytes(&bytes, place)
+    let message = entry.message;
+    if place[0] > 2 {
+        return false;
+    }
+    if !message_exact(place, message) {
+        return false;
+    }
+    zeros(place)
 }
 
-// Whether an outstanding place holds just the bytes of what was sent.
+// Whether an outstanding place holds just the bytes of what was read from it.
 fn sent_exact(place: &[u8], sent: Sent) -> bool
-    requires { ⌜ length (now place) ≡ 32 ⌝ }
+    requires { ⌜ (length (now place) ≡ 32) × (sent ≡ sentOf (now place)) ⌝ }
     ensures { λ r. ⌜ r ≡ sameBytes (sentBytes sent) (now (place .entry)) ⌝ }
 {
-    let mut bytes = [0; 32];
-    write_sent(&mut bytes, 0, sent);
-    same_bytes(&bytes, place)
+    let message = sent.message;
+    if place[0] > 1 {
+        return false;
+    }
+    if !message_exact(place, message) {
+        return false;
+    }
+    read16(place, 30) == 0
 }
 
-fn same_bytes(a: &[u8], b: &[u8]) -> bool
-    requires { ⌜ length (now a) ≡ length (now b) ⌝ }
-    ensures { λ r. ⌜ r ≡ sameBytes (now (a .entry)) (now (b .entry)) ⌝ }
+// Whether kind, origin, byte 9 and quantity in a place of either kind are those that a message is written with.
+fn message_exact(place: &[u8], message: Message) -> bool
+    requires { ⌜ 30 ≤ length (now place) ⌝ }
+    ensures { λ r. ⌜ r ≡ messageExact (now (place .entry)) message ⌝ }
 {
-    let mut i = 0;
-    while i < a.len() {
-        if a[i] != b[i] {
-            return false;
-        }
-        i += 1;
+    let kind = message.kind;
+    if place[1] != kind_number(kind) {
+        return false;
     }
-    true
+    if place[8] != origin_of(kind) {
+        return false;
+    }
+    if place[9] != 0 {
+        return false;
+    }
+    read16(place, 10) == quantity_of(kind)
+}
+
+// Whether a queue place's last twenty bytes are zero.
+fn zeros(place: &[u8]) -> bool
+    requires { ⌜ length (now place) ≡ 64 ⌝ }
+    ensures { λ r. ⌜ r ≡ sameBytes (replicate 20 0) (drop 44 (now (place .entry))) ⌝ }
+{
+    if read32(place, 44) != 0 {
+        return false;
+    }
+    if read32(place, 48) != 0 {
+        return false;
+    }
+    if read32(place, 52) != 0 {
+        return false;
+    }
+    if read32(place, 56) != 0 {
+        return false;
+    }
+    read32(place, 60) == 0
 }

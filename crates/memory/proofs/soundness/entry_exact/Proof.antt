@@ -1,32 +1,35 @@
 -- `memory::soundness::entry_exact` meets its contract.
 use borrow.Author.Needs.{needs}
-use Rattle.memory.proofs.Stored.{length-entry}
-use Rattle.memory.proofs.Lamps.{entry-lamp}
-use Rattle.memory.proofs.SameBytes.{same-filled}
+use Rattle.buffer.specs.Slice.{Bytes}
+use Rattle.memory.proofs.ByFields.{mark-refused, entry-message-refused, entry-decided}
 use Rattle.memory.proofs.soundness.entry_exact.Statement.{statement}
 use Rattle.memory.proofs.soundness.entry_exact.Tie as tie
 
-slice-aggregate-write-entry : tie.Need-slice-aggregate-write-entry
-slice-aggregate-write-entry c = search needs
-
-write-entry-requires : tie.Need-write-entry-requires
-write-entry-requires c κs = search needs
-
-slice-aggregate-same-bytes : tie.Need-slice-aggregate-same-bytes
-slice-aggregate-same-bytes c = search needs
-
-same-bytes-requires : tie.Need-same-bytes-requires
-same-bytes-requires c κs = search needs
+shared-slice-read-if1 : tie.Need-shared-slice-read-if1
+shared-slice-read-if1 c = search needs
 
 returns : tie.Need-returns
-returns c = let start = c .before .before .before .before .before .before in let size = length-entry (start .args .entry) (entry-lamp (start .args .entry) _ (start .good .1 .0)) in search same-filled
+returns c = let known = c .before .before .before in let bytes : Bytes (known .before .args .place .now) = λ i. known .shared-slice-known .given i .fits in search mark-refused
+
+message-exact-requires : tie.Need-message-exact-requires
+message-exact-requires c κs = search needs
+
+returns-2 : tie.Need-returns-2
+returns-2 c = let known = c .before .before .before .before .before in let bytes : Bytes (known .before .args .place .now) = λ i. known .shared-slice-known .given i .fits in search entry-message-refused
+
+zeros-requires : tie.Need-zeros-requires
+zeros-requires c κs = search needs
+
+returns-3 : tie.Need-returns-3
+returns-3 c = let known = c .before .before .before .before .before .before in let bytes : Bytes (known .before .args .place .now) = λ i. known .shared-slice-known .given i .fits in search entry-decided
 
 pub entry-exact-spec : {M : Type 1} → statement M
 entry-exact-spec =
     tie.close
     (tie.spec
-    slice-aggregate-write-entry
-    write-entry-requires
-    slice-aggregate-same-bytes
-    same-bytes-requires
-    returns)
+    shared-slice-read-if1
+    returns
+    message-exact-requires
+    returns-2
+    zeros-requires
+    returns-3)

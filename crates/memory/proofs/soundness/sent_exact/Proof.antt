@@ -1,32 +1,35 @@
 -- `memory::soundness::sent_exact` meets its contract.
 use borrow.Author.Needs.{needs}
-use Rattle.memory.proofs.Stored.{length-sent}
-use Rattle.memory.proofs.Lamps.{sent-lamp}
-use Rattle.memory.proofs.SameBytes.{same-filled}
+use Rattle.buffer.specs.Slice.{Bytes}
+use Rattle.memory.proofs.ByFields.{cancel-refused, sent-message-refused, sent-decided}
 use Rattle.memory.proofs.soundness.sent_exact.Statement.{statement}
 use Rattle.memory.proofs.soundness.sent_exact.Tie as tie
 
-slice-aggregate-write-sent : tie.Need-slice-aggregate-write-sent
-slice-aggregate-write-sent c = search needs
-
-write-sent-requires : tie.Need-write-sent-requires
-write-sent-requires c κs = search needs
-
-slice-aggregate-same-bytes : tie.Need-slice-aggregate-same-bytes
-slice-aggregate-same-bytes c = search needs
-
-same-bytes-requires : tie.Need-same-bytes-requires
-same-bytes-requires c κs = search needs
+shared-slice-read-if1 : tie.Need-shared-slice-read-if1
+shared-slice-read-if1 c = search needs
 
 returns : tie.Need-returns
-returns c = let start = c .before .before .before .before .before .before in let size = length-sent (start .args .sent) (sent-lamp (start .args .sent) _ (start .good .1 .0)) in search same-filled
+returns c = let known = c .before .before .before in let bytes : Bytes (known .before .args .place .now) = λ i. known .shared-slice-known .given i .fits in search cancel-refused
+
+message-exact-requires : tie.Need-message-exact-requires
+message-exact-requires c κs = search needs
+
+returns-2 : tie.Need-returns-2
+returns-2 c = let known = c .before .before .before .before .before in let bytes : Bytes (known .before .args .place .now) = λ i. known .shared-slice-known .given i .fits in search sent-message-refused
+
+read16-requires : tie.Need-read16-requires
+read16-requires c κs = search needs
+
+returns-3 : tie.Need-returns-3
+returns-3 c = let known = c .before .before .before .before .before .before in let bytes : Bytes (known .before .args .place .now) = λ i. known .shared-slice-known .given i .fits in search sent-decided
 
 pub sent-exact-spec : {M : Type 1} → statement M
 sent-exact-spec =
     tie.close
     (tie.spec
-    slice-aggregate-write-sent
-    write-sent-requires
-    slice-aggregate-same-bytes
-    same-bytes-requires
-    returns)
+    shared-slice-read-if1
+    returns
+    message-exact-requires
+    returns-2
+    read16-requires
+    returns-3)
