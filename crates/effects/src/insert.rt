@@ -1,12 +1,52 @@
-// An entry put into its queue place, those from there on moved up.
+// An entry that is not processed, and an entry put into its queue place, those from there on moved up.
 use gateway::places::move_up;
 use memory::Entry;
+use memory::Mark;
 use memory::place::write_entry;
+use model::Message;
+use model::State;
 ghost use mathlib.Core.Path.{_≡_};
 ghost use Prim.Native.Nat.{_+_, _*_, _-_, _≤_};
 ghost use lib.ListN.{length};
 ghost use Rattle.buffer.specs.Slice.{part, write};
 ghost use Rattle.memory.specs.Codec.{entryBytes};
+ghost use Rattle.memory.specs.Validity.{noState};
+ghost use Rattle.gateway.specs.Undoing.{pendingEntry};
+ghost use Rattle.gateway.specs.Taking.{waitingEntry};
+
+// A plain message that is not processed.
+pub fn pending(message: Message) -> Entry
+    ensures { λ r. ⌜ r ≡ pendingEntry message ⌝ }
+{
+    Entry {
+        message,
+        mark: Mark::Pending,
+        before: no_state(),
+    }
+}
+
+// A cancel that waits.
+pub fn waiting(message: Message) -> Entry
+    ensures { λ r. ⌜ r ≡ waitingEntry message ⌝ }
+{
+    Entry {
+        message,
+        mark: Mark::Waiting,
+        before: no_state(),
+    }
+}
+
+// What stands for the state before an entry that is not processed.
+fn no_state() -> State
+    ensures { λ r. ⌜ r ≡ noState ⌝ }
+{
+    State {
+        stock: 0,
+        failed: 0,
+        fitted: 0,
+        short: 0,
+    }
+}
 
 // Puts an entry into queue place k of so many that are used.
 pub fn insert_place(memory: &mut [u8], queued: usize, k: usize, entry: Entry)

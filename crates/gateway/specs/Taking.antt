@@ -59,26 +59,38 @@ isCancelOf m e = isWaiting e && equal (e .message) m
 abbrev pub isPlain : Message → Entry → Bool
 isPlain m e = not (isWaiting e) && equal (e .message) m
 
--- where an equal cancel waits, both vanish; otherwise m enters the queue after its equals, and the processed messages
--- behind it, later in event order, are undone. The acknowledgment first, then the cancels
+-- m enters the queue after its equals, and the processed messages behind it, later in event order, are undone. The
+-- acknowledgment first, then the cancels
+abbrev pub entered : Message → Gateway → Effect
+entered m g =
+    let rest = behind m (g .queue) in
+    let events = processedOf rest in
+    record {
+      gateway = withQueue (upTo m (g .queue) ++ (pendingEntry m ∷ map undone rest)) (rolledBack events g);
+      frames = acknowledgment false m ∷ framesFor true (sentBack (siteOf (g .settings)) events);
+    }
+
+-- where an equal cancel waits, both vanish; otherwise m enters the queue
 unfoldable pub takePlain : Message → Gateway → Effect
 unfolding any withoutFirst upTo behind
 takePlain m g =
-    let rest = behind m (g .queue) in
-    let events = processedOf rest in
     cond (any (isCancelOf m) (g .queue))
     (record { gateway = withQueue (withoutFirst (isCancelOf m) (g .queue)) g; frames = acknowledgment false m ∷ [] })
-    (record {
-      gateway = withQueue (upTo m (g .queue) ++ (pendingEntry m ∷ map undone rest)) (rolledBack events g);
-      frames = acknowledgment false m ∷ framesFor true (sentBack (siteOf (g .settings)) events);
-    })
+    (entered m g)
 
 -- a cancel that waits
 abbrev pub waitingEntry : Message → Entry
 waitingEntry m = record { message = m; mark = Waiting; before = noState }
 
+-- a cancel waits in a queue place, after its equals
+abbrev pub waits : Message → Gateway → Effect
+waits m g = record {
+  gateway = withQueue (upTo m (g .queue) ++ (waitingEntry m ∷ behind m (g .queue))) g;
+  frames = acknowledgment true m ∷ [];
+}
+
 -- the last equal queued plain message goes; if it was processed, it and the processed ones after it are undone first (if it
--- was not, none stands behind it in a sound queue). With no equal one the cancel waits in a queue place, after its equals
+-- was not, none stands behind it in a sound queue). With no equal one the cancel waits
 unfoldable pub takeCancel : Message → Gateway → Effect
 unfolding any beforeLast fromLast upTo behind
 takeCancel m g =
@@ -89,10 +101,7 @@ takeCancel m g =
       gateway = withQueue (beforeLast (isPlain m) (g .queue) ++ map undone (tailOf found)) (rolledBack events g);
       frames = acknowledgment true m ∷ framesFor true (sentBack (siteOf (g .settings)) events);
     })
-    (record {
-      gateway = withQueue (upTo m (g .queue) ++ (waitingEntry m ∷ behind m (g .queue))) g;
-      frames = acknowledgment true m ∷ [];
-    })
+    (waits m g)
 
 -- an equal outstanding message, or cancel
 abbrev pub isSent : Bool → Message → Sent → Bool

@@ -13,8 +13,8 @@ use memory::header_bytes::read_header;
 use memory::place::read_entry;
 use memory::place::write_state;
 use memory::rules::frame_if;
+use memory::rules::site_of;
 use memory::soundness::sound;
-use model::Site;
 use model::event::perform;
 ghost use mathlib.Core.Path.{_≡_};
 ghost use mathlib.Core.Bool.{cond};
@@ -88,12 +88,7 @@ fn put_record(output: &mut [u8], header: Header, entry: Entry)
     let settings = header.settings;
     let message = entry.message;
     let before = entry.before;
-    let site = Site {
-        own: settings.own,
-        supplier: settings.supplier,
-        last: settings.last,
-    };
-    let done = perform(site, before, message);
+    let done = perform(site_of(settings), before, message);
     let state = done.state;
     let next = put_frame(output, 0, frame_if(false, message));
     write_state(output, next, state);

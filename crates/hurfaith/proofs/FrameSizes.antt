@@ -16,9 +16,8 @@ use Rattle.frame.specs.Kinds.{mapOf, mapOfKind, senseNumber}
 use Rattle.frame.specs.Writing.{written}
 use Rattle.frame.specs.declared.Frame.{Frame}
 use Rattle.frame.proofs.Output.{whole-size}
-use Rattle.memory.specs.Records.{Gateway}
 use Rattle.memory.specs.Validity.{frameIf}
-use Rattle.gateway.specs.Effects.{bytesOfFrames, framesFor, sentOne, sentAll}
+use Rattle.gateway.specs.Effects.{bytesOfFrames, framesFor}
 use Rattle.gateway.specs.Rounds.{roundFrame, frames}
 use Rattle.gateway.proofs.Announcing.{kind-small}
 use Rattle.take.proofs.SentMessages.{sense-small}
@@ -45,9 +44,3 @@ unfolding bytesOfFrames
 round-small kind hour own [] = omega arith
 round-small kind hour own (to ∷ receivers) =
     rw length-append (omega (arith, frame-small (roundFrame kind hour own to) refl, round-small kind hour own receivers))
-
--- each message sent takes an outstanding place
-pub places-taken : (cancel : Bool) (ms : List Message) (g : Gateway) → length (sentAll cancel ms g .outstanding) ≡ length (g .outstanding) + length ms
-unfolding sentAll sentOne
-places-taken cancel [] g = omega arith
-places-taken cancel (m ∷ ms) g = let rest = rw length-append at (places-taken cancel ms (sentOne cancel m g)) in omega arith

@@ -36,7 +36,8 @@ use Rattle.gateway.proofs.Replies.{Good, sent-good}
 use Rattle.gateway.proofs.Accepting.{form-good, Accepted, not-refused, accepted-good, cancel-kind}
 use Rattle.gateway.proofs.Maintaining.{Proper, Standing, standing, fitting}
 use Rattle.gateway.proofs.Takings.{queue-of, plain-stands, cancel-stands}
-use Rattle.hurfaith.proofs.FrameSizes.{frame-small, messages-small, round-small, places-taken}
+use Rattle.take.proofs.RollbackLaws.{sent-outstanding}
+use Rattle.hurfaith.proofs.FrameSizes.{frame-small, messages-small, round-small}
 use Rattle.hurfaith.proofs.WrittenSizes.{either-small, either-frames, settled-small, few-children, finished-small, begun-small, call-small}
 
 module _ {g : Gateway} (p : Proper g) where
@@ -65,7 +66,7 @@ module _ {g : Gateway} (p : Proper g) where
     unfolding bytesOfFrames rolledBack
     undone-small events h =
         let ms = sentBack (siteOf s) events in
-        rw (length-append, places-taken true ms (withState (restored (g .state) events) g))
+        rw (length-append, sent-outstanding true ms (withState (restored (g .state) events) g))
         (omega (arith, frame-small (acknowledgment cancel m) lamp, messages-small true ms (back-lamps events h)))
 
   -- either of two effects, by the outstanding places afterwards

@@ -34,7 +34,8 @@ use Rattle.gateway.proofs.Maintaining.{Proper, standing, fitting}
 use Rattle.gateway.proofs.Takings.{done-stands}
 use Rattle.gateway.proofs.Keeps.{work-keeps}
 use Rattle.memory.proofs.Stored.{length-state}
-use Rattle.hurfaith.proofs.FrameSizes.{frame-small, messages-small, round-small, places-taken}
+use Rattle.take.proofs.RollbackLaws.{sent-outstanding}
+use Rattle.hurfaith.proofs.FrameSizes.{frame-small, messages-small, round-small}
 
 -- either of two outcomes, or of two effects
 pub either-small : (b : Bool) (u v : Outcome) {most : ℕ} → length (u .output) ≤ most → length (v .output) ≤ most → length (cond b u v .output) ≤ most
@@ -120,7 +121,7 @@ work-places (suc b) room {g} p = next (pendingOf (g .queue)) refl (λ room′ h 
     event m good =
         let ms = sent (siteOf (g .settings)) (g .state) m in
         let before = withState (after (g .state) (m .kind)) (withQueue (processedNext (g .state) (g .queue)) g) in
-        let more = places-taken false ms before in
+        let more = sent-outstanding false ms before in
         let small = messages-small false ms (λ x n. sent-good (g .settings) (standing p .settings) m good false (g .state) x n .ranged .lamp) in
         omega arith
 

@@ -10,6 +10,7 @@ use frame::Sense;
 use frame::limits::numbers_below;
 use frame::writer::well_formed;
 use model::Message;
+use model::Site;
 use model::State;
 use model::kind_number;
 use model::order::Comparison;
@@ -19,6 +20,7 @@ ghost use mathlib.Core.Path.{_≡_};
 ghost use mathlib.Core.Bool.{not};
 ghost use Prim.Native.Nat.{_<_};
 ghost use Rattle.model.specs.EventOrder.{different};
+ghost use Rattle.memory.specs.Records.{siteOf};
 ghost use Rattle.memory.specs.Layout.{sizeFor};
 ghost use Rattle.memory.specs.Validity.{settingsValid, oneOfTwo, arrivalsPossible, roundPossible, pendingMark, processedMark, waitingMark, equal, isAfter, later, oneWaits, frameIf, storable, isNoState, entryValid, sentValid};
 
@@ -27,6 +29,17 @@ pub fn size_for(settings: Settings) -> usize
     ensures { λ r. ⌜ r ≡ sizeFor (settings .q) (settings .u) ⌝ }
 {
     256 + 64 * (settings.q as usize) + 32 * (settings.u as usize)
+}
+
+// Where a gateway's messages are done.
+pub fn site_of(settings: Settings) -> Site
+    ensures { λ r. ⌜ r ≡ siteOf settings ⌝ }
+{
+    Site {
+        own: settings.own,
+        supplier: settings.supplier,
+        last: settings.last,
+    }
 }
 
 // N 1 to 255, own number and supplier below N, H below nothing due, Q and U 1 to 512. N has one byte.

@@ -36,11 +36,11 @@ use Rattle.opening.proofs.FramePositions.{end-between, frames-none, fra
 pub place-within : (count : ℕ) (m : Message) (memory : List ℕ) {k : ℕ} → k ≡ firstWhere (passes Later m) (entriesIn memory count) → k ≤ count
 place-within count m memory e = rw e (omega (arith, first-bound (passes Later m) (entriesIn memory count), length-read entryOf 64 memory headerSize count))
 
-pub entered-at : (count : ℕ) (m : Message) (memory : List ℕ) {k : ℕ} {after : List ℕ} → k ≡ firstWhere (passes Later m) (entriesIn memory count)
-    → after ≡ write (256 + 64 * k) (entryBytes (pendingEntry m)) (write (256 + 64 * k + 64) (part memory (256 + 64 * k) (64 * (count - k))) memory)
+pub entered-at : (count : ℕ) (m : Message) (memory : List ℕ) {k : ℕ} {e : Entry} {after : List ℕ} → k ≡ firstWhere (passes Later m) (entriesIn memory count) → e ≡ pendingEntry m
+    → after ≡ write (256 + 64 * k) (entryBytes e) (write (256 + 64 * k + 64) (part memory (256 + 64 * k) (64 * (count - k))) memory)
     → after ≡ entered count m memory
 unfolding entered
-entered-at count m memory e p = p ∙ rw e
+entered-at count m memory found is p = p ∙ rw (is, found)
 
 -- one more message in the places
 module _ (before : List ℕ) (es : List Entry) (m : Message) (fits : All EntryFits es) (f : MessageFits m) (room : queueAt (length es) + 64 ≤ length before) where

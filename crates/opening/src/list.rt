@@ -1,6 +1,7 @@
 // The opening list: frames one behind the other, each the part of the list that its map makes it.
 use crate::Checked;
 use effects::insert::insert_place;
+use effects::insert::pending;
 use frame::Frame;
 use frame::limits::check;
 use frame::reader::is_good;
@@ -9,11 +10,8 @@ use frame::tables::whole_length;
 use frame::writer::sense_number;
 use gateway::places::Search;
 use gateway::places::find;
-use memory::Entry;
-use memory::Mark;
 use memory::Settings;
 use model::Message;
-use model::State;
 use model::kind_number;
 ghost use mathlib.Core.Path.{_≡_};
 ghost use mathlib.Core.List.{[]};
@@ -111,15 +109,5 @@ fn enter(memory: &mut [u8], count: usize, message: Message)
     ensures { λ _. ⌜ now (memory .exit) ≡ entered count message (now (memory .entry)) ⌝ }
 {
     let k = find(memory, count, Search::Later, message);
-    let entry = Entry {
-        message,
-        mark: Mark::Pending,
-        before: State {
-            stock: 0,
-            failed: 0,
-            fitted: 0,
-            short: 0,
-        },
-    };
-    insert_place(memory, count, k, entry);
+    insert_place(memory, count, k, pending(message));
 }

@@ -24,7 +24,7 @@ use Rattle.memory.proofs.Places.{all-back}
 use Rattle.memory.proofs.Validated.{and-left, and-right}
 use Rattle.gateway.specs.Effects.{Effect, bytesOfFrames, fits, settled, withQueue, framesFor}
 use Rattle.gateway.specs.Undoing.{processedOf, sentBack}
-use Rattle.gateway.specs.Taking.{any, acknowledgment, isPlain, waitingEntry, takeCancel}
+use Rattle.gateway.specs.Taking.{any, acknowledgment, isPlain, waitingEntry, takeCancel, waits}
 use Rattle.gateway.specs.Calls.{Left, leaving}
 use Rattle.gateway.specs.Premises.{Known}
 use Rattle.gateway.specs.Searching.{firstWhere, pastLast, passes, entriesIn}
@@ -37,7 +37,7 @@ use Rattle.effects.specs.declared.Sending.{Sending}
 use Rattle.effects.proofs.EnteringLaws.{up-to-first, behind-first}
 use Rattle.effects.proofs.PlacedLaws.{placed-first, placed-rest, placed-last}
 use Rattle.take.specs.Undone.{sentByEntries, MaySendBack, SentBack, takenOut}
-use Rattle.take.specs.Entering.{MayEnter, waits, struckOut}
+use Rattle.take.specs.Entering.{MayEnter, struckOut}
 use Rattle.take.proofs.SentMessages.{back-cancelled, cancels-size}
 use Rattle.take.proofs.RollbackLaws.{rolled-settings, rolled-outstanding}
 use Rattle.take.proofs.LastPositions.{tail-drop, past-bound, any-past, none-past, before-last, from-last}
@@ -51,7 +51,7 @@ module _ (m output : List ℕ) (h : Header) (known : Known m h) (x : Message) (p
 
   pub cancel-waits : past ≡ 0 → {l : Left Answer} → l ≡ leaving (settled (length output) (decode m) (waits x (decode m))) m output
       → l ≡ leaving (settled (length output) (decode m) (takeCancel x (decode m))) m output
-  unfolding takeCancel waits
+  unfolding takeCancel
   cancel-waits e p = p ∙ rw (none-past (isPlain x) (decode m .queue) (sym position ∙ e))
 
   module _ (n : past ≡ 0 → ⊥) where
@@ -84,7 +84,6 @@ module _ (m output : List ℕ) (h : Header) (known : Known m h) (bytes : Bytes m
   waiting = record { gateway = withQueue (take k (g .queue) ++ (waitingEntry x ∷ drop k (g .queue))) g; frames = acknowledgment true x ∷ [] }
 
   waits-is : waits x g ≡ waiting
-  unfolding waits
   waits-is = rw (up-to-first x (g .queue), behind-first x (g .queue), ← place)
 
   -- what the code compares
@@ -142,9 +141,9 @@ module _ (m output : List ℕ) (h : Header) (known : Known m h) (bytes : Bytes m
     unfolding bytesOfFrames
     waits-done is put q =
         with-room m output g (waits x g) (needs ∙ room)
-        (q ∙ rw (is, waits-is))
-        (put .output ∙ rw (r, waits-is, append-nil))
-        (put .position ∙ rw (r, waits-is, append-nil) (omega arith))
+        (q ∙ rw (is, up-to-first x (g .queue), behind-first x (g .queue), ← place))
+        (put .output ∙ rw (r, append-nil))
+        (put .position ∙ rw (r, append-nil) (omega arith))
 
 -- the plain message in queue place k is struck out: what the code counts is what it comes to
 module _ (m output : List ℕ) (h : Header) (known : Known m h) (bytes : Bytes m) (x : Message) (fits-x : MessageFits x) (k : ℕ) (below : k < h .queued)

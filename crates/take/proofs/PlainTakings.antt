@@ -25,7 +25,7 @@ use Rattle.memory.specs.declared.Entry.{Entry}
 use Rattle.memory.specs.declared.Header.{Header}
 use Rattle.gateway.specs.Effects.{Effect, bytesOfFrames, fits, settled, withQueue, framesFor}
 use Rattle.gateway.specs.Undoing.{processedOf, pendingEntry, undone, sentBack, rolledBack}
-use Rattle.gateway.specs.Taking.{acknowledgment, isCancelOf, takePlain}
+use Rattle.gateway.specs.Taking.{acknowledgment, isCancelOf, takePlain, entered}
 use Rattle.gateway.specs.Calls.{Left, leaving}
 use Rattle.gateway.specs.Premises.{Known}
 use Rattle.gateway.specs.Searching.{firstWhere, passes, entriesIn}
@@ -40,7 +40,7 @@ use Rattle.effects.proofs.EnteringLaws.{up-to-first, behind-first}
 use Rattle.effects.proofs.PlacedLaws.{placed-first, placed-rest}
 use Rattle.effects.specs.declared.Sending.{Sending}
 use Rattle.take.specs.Undone.{sentByEntries, MaySendBack, SentBack, undoneFrom}
-use Rattle.take.specs.Entering.{MayEnter, entered}
+use Rattle.take.specs.Entering.{MayEnter}
 use Rattle.take.proofs.SentMessages.{back-cancelled, cancels-size, sense-small}
 use Rattle.take.proofs.RollbackLaws.{rolled-settings, rolled-outstanding}
 use Rattle.take.proofs.Settling.{fits-by, no-room, with-room}
@@ -58,7 +58,7 @@ module _ (m output : List ℕ) (h : Header) (known : Known m h) (x : Message) (k
       p ∙ rw (any-found (isCancelOf x) (decode m .queue) (omega (arith, position, queue-count m h known)), without-first (isCancelOf x) (decode m .queue), ← position)
 
   pub enters : h .queued ≤ k → {l : Left Answer} → l ≡ leaving (settled (length output) (decode m) (entered x (decode m))) m output → l ≡ leaving (settled (length output) (decode m) (takePlain x (decode m))) m output
-  unfolding takePlain entered
+  unfolding takePlain
   enters b p = p ∙ rw (any-none (isCancelOf x) (decode m .queue) (omega (arith, position, queue-count m h known)))
 
 -- the acknowledgment and its size as the code finds it
@@ -135,7 +135,6 @@ module _ (m output : List ℕ) (h : Header) (known : Known m h) (bytes : Bytes m
   sent-is = counted ∙ rw (placed-rest first k (omega (arith, place-bound, queue-count m h known)), ← settings-held m h known)
 
   entered-is : entered x g ≡ record { gateway = withQueue (take k (g .queue) ++ (pendingEntry x ∷ map undone (drop k (g .queue)))) (rolledBack (processedOf (drop k (g .queue))) g); frames = acknowledgment false x ∷ framesFor true ms }
-  unfolding entered
   entered-is = rw (up-to-first x (g .queue), behind-first x (g .queue), ← place)
 
   -- what the code compares
@@ -211,12 +210,12 @@ module _ (m output : List ℕ) (h : Header) (known : Known m h) (bytes : Bytes m
         unfolding undoneFrom bytesOfFrames
         entered-done is q =
             with-room m output g (entered x g) (needs ∙ room)
-            (q ∙ rw (is, entered-is, take-at (take k (g .queue)) (map undone (drop k (g .queue))) k front, drop-at (take k (g .queue)) (map undone (drop k (g .queue))) k front))
-            (rw entered-is
+            (q ∙ rw (is, up-to-first x (g .queue), behind-first x (g .queue), ← place, take-at (take k (g .queue)) (map undone (drop k (g .queue))) k front, drop-at (take k (g .queue)) (map undone (drop k (g .queue))) k front))
+            (rw (behind-first x (g .queue), ← place)
             (b .put
             ∙ rw (put .output, put .position, r)
             (write-join 0 (written (acknowledgment false x)) (bytesOfFrames (framesFor true ms)) output (rw r at (reply-room false x (fits-x .lamp) r e s {n = length output} (omega (arith, bytes-room)))))))
-            (rw entered-is (b .position ∙ rw (put .position, r, length-append) (omega arith)))
+            (rw (behind-first x (g .queue), ← place) (b .position ∙ rw (put .position, r, length-append) (omega arith)))
           where
             front : length (take k (g .queue)) ≡ k
             front = rw length-take (omega (arith, place-bound))

@@ -52,9 +52,10 @@ module _ (site : Site) (e : Entry) {processed : Bool} (test : processed ≡ proc
   unfolding sentBack
   none-sent-by h = (rw (processed-no e (sym test ∙ not-true processed h)), omega arith)
 
-  module _ (h : not processed ≡ false) {done : Outcome} (gives : Gives (after (e .before) (e .message .kind)) (sent site (e .before) (e .message)) done) where
+  module _ (h : not processed ≡ false) {made : Site} (site-is : made ≡ site) {done : Outcome}
+      (gives : Gives (after (e .before) (e .message .kind)) (sent made (e .before) (e .message)) done) where
     had : sentBack site (processedOf (e ∷ [])) ≡ cond (done .sends) (done .sent ∷ []) []
-    had = rw (processed-one e (sym test ∙ not-false processed h)) (back-one e site ∙ sym (gives .sends))
+    had = rw (processed-one e (sym test ∙ not-false processed h)) (back-one e site ∙ rw (← site-is) (sym (gives .sends)))
 
     pub one-sent-by : done .sends ≡ true → (1 ≡ length (sentBack site (processedOf (e ∷ [])))) × (1 ≤ 1)
     one-sent-by k = (rw (had, k), omega arith)

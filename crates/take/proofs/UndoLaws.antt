@@ -12,6 +12,7 @@ use Rattle.buffer.specs.Slice.{part, write}
 use Rattle.buffer.proofs.Writes.{write-nil, write-join, length-write}
 use Rattle.model.specs.Doing.{after, sent, Gives}
 use Rattle.model.specs.declared.Message.{Message}
+use Rattle.model.specs.declared.Site.{Site}
 use Rattle.model.specs.declared.event.Outcome.{Outcome}
 use Rattle.frame.specs.Writing.{written}
 use Rattle.memory.specs.Records.{Gateway, siteOf}
@@ -71,7 +72,8 @@ module _ {before memory output : List ℕ} {g : Gateway} {s : Sending} {e : Entr
       rw (processed-no e (sym test ∙ not-true processed h))
       (record { placed = rw (rolled-none g) (may .placed); put = sym (write-nil (s .written) output); position = omega arith })
 
-  module _ (h : not processed ≡ false) {done : Outcome} (gives : Gives (after (e .before) (e .message .kind)) (sent (siteOf (s .header .settings)) (e .before) (e .message)) done) where
+  module _ (h : not processed ≡ false) {site : Site} (site-is : site ≡ siteOf (s .header .settings)) {done : Outcome}
+      (gives : Gives (after (e .before) (e .message .kind)) (sent site (e .before) (e .message)) done) where
     -- the state before it
     abbrev restored : Sending
     restored = record {
@@ -93,7 +95,7 @@ module _ {before memory output : List ℕ} {g : Gateway} {s : Sending} {e : Entr
     is-processed = processed-one e (sym test ∙ not-false processed h)
 
     had-sent : sent (siteOf (g .settings)) (e .before) (e .message) ≡ cond (done .sends) (done .sent ∷ []) []
-    had-sent = rw (← settings-are) (sym (gives .sends))
+    had-sent = rw (← settings-are, ← site-is) (sym (gives .sends))
 
     messages : sentByEntries g (e ∷ []) ≡ cond (done .sends) (done .sent ∷ []) []
     messages = rw is-processed (back-one e (siteOf (g .settings)) ∙ had-sent)

@@ -6,6 +6,7 @@ use crate::room::has_room;
 use crate::undo::undo;
 use crate::undo::undo_entry;
 use effects::Sending;
+use effects::insert::waiting;
 use frame::outgoing::put_frame;
 use frame::tables::whole_length;
 use frame::writer::map_of;
@@ -15,13 +16,10 @@ use gateway::places::find;
 use gateway::places::move_down;
 use gateway::places::past_last_equal;
 use gateway::refused;
-use memory::Entry;
 use memory::Header;
-use memory::Mark;
 use memory::header_bytes::write_header;
 use memory::place::read_entry;
 use model::Message;
-use model::State;
 ghost use mathlib.Core.Path.{_≡_};
 ghost use Prim.Native.Nat.{_<_};
 ghost use lib.ListN.{length, drop};
@@ -29,10 +27,10 @@ ghost use Rattle.memory.specs.Records.{Gateway};
 ghost use Rattle.memory.specs.Codec.{decode};
 ghost use Rattle.memory.specs.Fits.{MessageFits};
 ghost use Rattle.gateway.specs.Effects.{settled};
-ghost use Rattle.gateway.specs.Taking.{waitingEntry, takeCancel};
+ghost use Rattle.gateway.specs.Taking.{waits, takeCancel};
 ghost use Rattle.gateway.specs.Calls.{leaving, unlessBelow};
 ghost use Rattle.gateway.specs.Premises.{Known};
-ghost use Rattle.take.specs.Entering.{waits, struckOut};
+ghost use Rattle.take.specs.Entering.{struckOut};
 ghost use Rattle.take.specs.Undone.{sentByEntries, MaySendBack, SentBack, takenOut};
 
 pub fn take_cancel(memory: &mut [u8], output: &mut [u8], header: Header, message: Message) -> Answer
@@ -119,21 +117,4 @@ fn take_out(memory: &mut [u8], output: &mut [u8], sending: Sending, k: usize) ->
         k,
     );
     undo_entry(memory, output, behind, entry)
-}
-
-// A cancel that waits.
-fn waiting(message: Message) -> Entry
-    ensures { λ r. ⌜ r ≡ waitingEntry message ⌝ }
-{
-    let before = State {
-        stock: 0,
-        failed: 0,
-        fitted: 0,
-        short: 0,
-    };
-    Entry {
-        message,
-        mark: Mark::Waiting,
-        before,
-    }
 }

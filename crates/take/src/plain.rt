@@ -5,6 +5,7 @@ use crate::room::enter;
 use crate::room::has_room;
 use crate::undo::undo;
 use effects::Sending;
+use effects::insert::pending;
 use frame::outgoing::put_frame;
 use frame::tables::whole_length;
 use frame::writer::map_of;
@@ -13,11 +14,8 @@ use gateway::changes::remove_entry;
 use gateway::places::Search;
 use gateway::places::find;
 use gateway::refused;
-use memory::Entry;
 use memory::Header;
-use memory::Mark;
 use model::Message;
-use model::State;
 ghost use mathlib.Core.Path.{_≡_};
 ghost use mathlib.Core.Bool.{false};
 ghost use mathlib.Core.List.{[], _∷_, _++_};
@@ -26,11 +24,9 @@ ghost use lib.ListN.{length, take, drop};
 ghost use Rattle.memory.specs.Codec.{decode};
 ghost use Rattle.memory.specs.Fits.{MessageFits};
 ghost use Rattle.gateway.specs.Effects.{withQueue, settled};
-ghost use Rattle.gateway.specs.Undoing.{pendingEntry};
-ghost use Rattle.gateway.specs.Taking.{acknowledgment, takePlain};
+ghost use Rattle.gateway.specs.Taking.{acknowledgment, entered, takePlain};
 ghost use Rattle.gateway.specs.Calls.{leaving, unlessBelow};
 ghost use Rattle.gateway.specs.Premises.{Known};
-ghost use Rattle.take.specs.Entering.{entered};
 
 pub fn take_plain(memory: &mut [u8], output: &mut [u8], header: Header, message: Message) -> Answer
     requires { ⌜ Known (now memory) header × MessageFits message ⌝ }
@@ -87,22 +83,5 @@ fn enter_plain(memory: &mut [u8], output: &mut [u8], header: Header, message: Me
     Answer {
         number: 0,
         written: undone.written,
-    }
-}
-
-// A plain message that is not processed.
-pub fn pending(message: Message) -> Entry
-    ensures { λ r. ⌜ r ≡ pendingEntry message ⌝ }
-{
-    let before = State {
-        stock: 0,
-        failed: 0,
-        fitted: 0,
-        short: 0,
-    };
-    Entry {
-        message,
-        mark: Mark::Pending,
-        before,
     }
 }

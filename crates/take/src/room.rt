@@ -7,8 +7,8 @@ use memory::Header;
 use memory::header_bytes::write_header;
 use memory::place::read_entry;
 use memory::rules::is_processed;
+use memory::rules::site_of;
 use model::Message;
-use model::Site;
 use model::event::perform;
 ghost use mathlib.Core.Path.{_≡_};
 ghost use mathlib.Core.Bool.{_&&_};
@@ -79,14 +79,9 @@ fn sent_by(header: Header, entry: Entry) -> usize
         return 0;
     }
     let settings = header.settings;
-    let site = Site {
-        own: settings.own,
-        supplier: settings.supplier,
-        last: settings.last,
-    };
     let before = entry.before;
     let message = entry.message;
-    let outcome = perform(site, before, message);
+    let outcome = perform(site_of(settings), before, message);
     if outcome.sends {
         return 1;
     }

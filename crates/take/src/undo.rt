@@ -1,12 +1,12 @@
 // Undoing processed events, the latest first: each is pending again, the state is restored, and a cancel is sent for what it had sent.
-use crate::plain::pending;
 use effects::Sending;
+use effects::insert::pending;
 use effects::send::send;
 use memory::Entry;
 use memory::place::read_entry;
 use memory::place::write_entry;
 use memory::rules::is_processed;
-use model::Site;
+use memory::rules::site_of;
 use model::event::perform;
 ghost use mathlib.Core.List.{List, [], _∷_, _++_};
 ghost use Prim.Native.Nat.{ℕ, _≤_};
@@ -60,14 +60,9 @@ pub fn undo_entry(memory: &mut [u8], output: &mut [u8], sending: Sending, entry:
     }
     let header = sending.header;
     let settings = header.settings;
-    let site = Site {
-        own: settings.own,
-        supplier: settings.supplier,
-        last: settings.last,
-    };
     let before = entry.before;
     let message = entry.message;
-    let outcome = perform(site, before, message);
+    let outcome = perform(site_of(settings), before, message);
     let mut next = header;
     next.state = before;
     let restored = Sending {

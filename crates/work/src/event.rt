@@ -11,12 +11,11 @@ use memory::Mark;
 use memory::place::read_entry;
 use memory::place::write_entry;
 use memory::rules::frame_if;
-use model::Site;
+use memory::rules::site_of;
 use model::event::Outcome;
 use model::event::perform;
 ghost use mathlib.Core.Path.{_≡_};
 ghost use Prim.Native.Nat.{_<_, _≤_};
-ghost use Rattle.memory.specs.Records.{siteOf};
 ghost use Rattle.work.specs.Turns.{Ready, Turns, TurnsAt, stoppedWith, sendingAfter, roomFor, MaySendAll, SendsAll};
 
 pub fn work_one(memory: &mut [u8], output: &mut [u8], turn: Turn) -> Turn
@@ -38,11 +37,12 @@ fn work_at(memory: &mut [u8], output: &mut [u8], turn: Turn, k: usize) -> Turn
     ensures { λ r. ⌜ TurnsAt k (now (memory .entry)) (now (output .entry)) (now (memory .exit)) (now (output .exit)) turn r ⌝ }
 {
     let header = turn.header;
+    let settings = header.settings;
     let state = header.state;
     let at = 256 + 64 * k;
     let entry = read_entry(memory, at);
     let message = entry.message;
-    let outcome = perform(site_of(header), state, message);
+    let outcome = perform(site_of(settings), state, message);
     if !has_room(header, output.len() - turn.written, outcome) {
         return stopped(turn, 5);
     }
@@ -59,17 +59,6 @@ fn work_at(memory: &mut [u8], output: &mut [u8], turn: Turn, k: usize) -> Turn
         written: sending.written,
         place: k + 1,
         why: 0,
-    }
-}
-
-fn site_of(header: Header) -> Site
-    ensures { λ r. ⌜ r ≡ siteOf (header .settings) ⌝ }
-{
-    let settings = header.settings;
-    Site {
-        own: settings.own,
-        supplier: settings.supplier,
-        last: settings.last,
     }
 }
 

@@ -7,6 +7,9 @@ use Rattle.opening.proofs.list.enter.Tie as tie
 find-requires : tie.Need-find-requires
 find-requires c κs = search needs
 
+pending-requires : tie.Need-pending-requires
+pending-requires c κs = search needs
+
 insert-place-requires : tie.Need-insert-place-requires
 insert-place-requires c κs = (search (place-within, needs), search needs)
 
@@ -17,4 +20,4 @@ returns : tie.Need-returns
 returns c = search entered-at
 
 pub enter-spec : {M : Type 1} → statement M
-enter-spec = tie.close (tie.spec find-requires insert-place-requires same-length returns)
+enter-spec = tie.close (tie.spec find-requires pending-requires insert-place-requires same-length returns)

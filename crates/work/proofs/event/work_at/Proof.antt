@@ -21,10 +21,10 @@ perform-requires : tie.Need-perform-requires
 perform-requires c κs = search needs
 
 sub-has-room : tie.Need-sub-has-room
-sub-has-room c = c .before .before .before .before .before .before .before .before .before .before .pre .0 .written
+sub-has-room c = c .before .before .before .before .before .before .before .before .before .before .before .pre .0 .written
 
 has-room-requires : tie.Need-has-room-requires
-has-room-requires c κs = c .before .before .before .before .before .before .before .before .before .before .pre .0 .outstanding
+has-room-requires c κs = c .before .before .before .before .before .before .before .before .before .before .before .pre .0 .outstanding
 
 stopped-requires : tie.Need-stopped-requires
 stopped-requires c κs = search needs
@@ -34,20 +34,20 @@ same-length c = search needs
 
 returns : tie.Need-returns
 returns c = λ before g reached first.
-    no-room reached (c .before .before .before .before .before .before .before .before .before .before .before .before .before .pre .1) first (c .before .before .before .before .before .before .before .read-entry .ensures) (c .before .before .before .before .before .site-of .ensures) (c .before .before .before .before .perform .ensures)
-    (c .before .before .before .before .before .before .before .before .before .before .before .before .before .args .output .now) (c .before .before .has-room .ensures) (c .before .if1 .taken) (c .stopped .ensures)
+    no-room reached (c .before .before .before .before .before .before .before .before .before .before .before .before .before .before .pre .1) first (c .before .before .before .before .before .before .before .read-entry .ensures) (c .before .before .before .before .before .site-of .ensures) (c .before .before .before .before .perform .ensures)
+    (c .before .before .before .before .before .before .before .before .before .before .before .before .before .before .args .output .now) (c .before .before .has-room .ensures) (c .before .if1 .taken) (c .stopped .ensures)
 
 write-entry-requires : tie.Need-write-entry-requires
-write-entry-requires c κs = let ready = c .before .before .before .before .before .before .before .before .before .before .before .before .before .pre .0 in let below = c .before .before .before .before .before .before .before .before .before .before .before .before .before .pre .1 in omega (arith, ready .long, ready .queued)
+write-entry-requires c κs = let ready = c .before .before .before .before .before .before .before .before .before .before .before .before .before .before .pre .0 in let below = c .before .before .before .before .before .before .before .before .before .before .before .before .before .before .pre .1 in omega (arith, ready .long, ready .queued)
 
 sending-after-requires : tie.Need-sending-after-requires
 sending-after-requires c κs = search needs
 
 send-outcome-requires : tie.Need-send-outcome-requires
-send-outcome-requires c κs = may-send-all (c .before .before .before .before .before .before .before .before .before .before .before .before .before .before .before .before .before .before .before .pre .0) (c .before .before .before .before .before .before .before .before .has-room .ensures) (c .before .before .before .before .before .before .before .if1 .left) (search needs) (c .sending-after .ensures)
+send-outcome-requires c κs = may-send-all (c .before .before .before .before .before .before .before .before .before .before .before .before .before .before .before .before .before .before .before .before .pre .0) (c .before .before .before .before .before .before .before .before .has-room .ensures) (c .before .before .before .before .before .before .before .if1 .left) (search needs) (c .sending-after .ensures)
 
-add-t14 : tie.Need-add-t14
-add-t14 c = let ready = c .before .before .before .before .before .before .before .before .before .before .before .before .before .before .before .before .before .before .before .before .before .before .before .before .before .pre .0 in let below = c .before .before .before .before .before .before .before .before .before .before .before .before .before .before .before .before .before .before .before .before .before .before .before .before .before .pre .1 in omega (arith, ready .queued, ready .queue-places)
+add-t15 : tie.Need-add-t15
+add-t15 c = let ready = c .before .before .before .before .before .before .before .before .before .before .before .before .before .before .before .before .before .before .before .before .before .before .before .before .before .before .pre .0 in let below = c .before .before .before .before .before .before .before .before .before .before .before .before .before .before .before .before .before .before .before .before .before .before .before .before .before .before .pre .1 in omega (arith, ready .queued, ready .queue-places)
 
 same-length-2 : tie.Need-same-length-2
 same-length-2 c = search needs
@@ -57,8 +57,8 @@ same-length-3 c = search needs
 
 returns-2 : tie.Need-returns-2
 returns-2 c = λ before g reached first.
-    event-done reached (c .before .before .before .before .before .before .before .before .before .before .before .before .before .before .before .before .before .before .before .before .before .before .before .before .before .pre .1) first (c .before .before .before .before .before .before .before .before .before .before .before .before .before .before .before .before .before .before .before .read-entry .ensures) (c .before .before .before .before .before .before .before .before .before .before .before .before .before .before .before .before .before .site-of .ensures) (c .before .before .before .before .before .before .before .before .before .before .before .before .before .before .before .before .perform .ensures)
-    (c .before .before .before .before .before .before .before .before .before .before .before .before .before .before .before .before .before .before .before .before .before .before .before .before .before .args .output .now) (c .before .before .before .before .before .before .before .before .before .before .before .before .before .before .has-room .ensures) (c .before .before .before .before .before .before .before .before .before .before .before .before .before .if1 .left) (c .before .before .before .before .before .before .before .before .before .before .before .write-entry .ensures) (c .before .before .before .before .before .before .sending-after .ensures) (c .before .before .before .before .before .send-outcome .ensures)
+    event-done reached (c .before .before .before .before .before .before .before .before .before .before .before .before .before .before .before .before .before .before .before .before .before .before .before .before .before .before .pre .1) first (c .before .before .before .before .before .before .before .before .before .before .before .before .before .before .before .before .before .before .before .read-entry .ensures) (c .before .before .before .before .before .before .before .before .before .before .before .before .before .before .before .before .before .site-of .ensures) (c .before .before .before .before .before .before .before .before .before .before .before .before .before .before .before .before .perform .ensures)
+    (c .before .before .before .before .before .before .before .before .before .before .before .before .before .before .before .before .before .before .before .before .before .before .before .before .before .before .args .output .now) (c .before .before .before .before .before .before .before .before .before .before .before .before .before .before .has-room .ensures) (c .before .before .before .before .before .before .before .before .before .before .before .before .before .if1 .left) (c .before .before .before .before .before .before .before .before .before .before .before .write-entry .ensures) (c .before .before .before .before .before .before .sending-after .ensures) (c .before .before .before .before .before .send-outcome .ensures)
 
 pub work-at-spec : {M : Type 1} → statement M
 work-at-spec =
@@ -77,7 +77,7 @@ work-at-spec =
     write-entry-requires
     sending-after-requires
     send-outcome-requires
-    add-t14
+    add-t15
     same-length-2
     same-length-3
     returns-2)
