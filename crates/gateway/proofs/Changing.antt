@@ -9,6 +9,8 @@ use lib.Seq.{split-at, length-take-le}
 use mir.Syntax.{w8}
 use mir.Val.{Fits}
 use Rattle.buffer.specs.Slice.{Bytes, part, write}
+use Rattle.buffer.specs.Number.{bytesOf}
+use Rattle.buffer.proofs.Writes.{length-part, length-write}
 use Rattle.memory.specs.Records.{Gateway, headerOf}
 use Rattle.memory.specs.Layout.{outstandingAt}
 use Rattle.memory.specs.Codec.{headerAt, headerFront, headerBack, entryBytes, entryOf, sentBytes, sentOf, placesAt, placesBytes, decode, encode}
@@ -16,14 +18,16 @@ use Rattle.memory.specs.declared.Header.{Header}
 use Rattle.memory.specs.declared.Entry.{Entry}
 use Rattle.memory.specs.declared.Sent.{Sent}
 use Rattle.memory.specs.Fits.{All, GatewayFits, Room}
+use Rattle.memory.proofs.RoundTrips.{length-front, length-back}
 use Rattle.memory.proofs.Validated.{ValidSettings, settings-facts}
-use Rattle.memory.proofs.Standing.{Stands}
+use Rattle.memory.proofs.Standing.{Stands, stands-before}
 use Rattle.memory.proofs.Places.{all-append, all-front, all-back, Sized, remove-place, length-read}
 use Rattle.memory.proofs.Holding.{Holds, queue-sized, outstanding-sized}
 use Rattle.memory.proofs.SoundMemory.{sound-facts, sound-holds, sound-room, sound-fits, header-held}
 use Rattle.memory.proofs.Changes.{queue-changed, outstanding-changed}
 use Rattle.gateway.specs.Effects.{withQueue, withOutstanding}
 use Rattle.gateway.specs.Premises.{Known}
+use Rattle.gateway.proofs.Counts.{queued-alone, outstanding-alone}
 
 -- the bytes of a slice, from what a function is told of it
 pub bytes-known : (m : List ℕ) → ((i : ℕ) → Fits w8 (getD m i 0)) → Bytes m
@@ -98,6 +102,14 @@ module _ (m : List ℕ) (h : Header) (bytes : Bytes m) (k : Known m h) where
   header-is : headerOf (decode m) ≡ h
   header-is = header-held m bytes (sound-facts m (k .soundness)) ∙ sym (k .header)
 
+  -- a write behind the header leaves the header's bytes
+  module _ (at : ℕ) (xs : List ℕ) (behind : 256 ≤ at) (inside : at + length xs ≤ length m) where
+    front-kept : Stands 0 (headerFront h) (write at xs m)
+    front-kept = stands-before at xs m inside 0 (headerFront h) (omega (arith, length-front h)) (subst (λ (x : Header). Stands 0 (headerFront x) m) header-is (held .front))
+
+    back-kept : Stands 6 (headerBack h) (write at xs m)
+    back-kept = stands-before at xs m inside 6 (headerBack h) (omega (arith, length-back h)) (subst (λ (x : Header). Stands 6 (headerBack x) m) header-is (held .back))
+
   module _ (i : ℕ) (below : i < h .queued) where
     queue : List Entry
     queue = decode m .queue
@@ -113,8 +125,7 @@ module _ (m : List ℕ) (h : Header) (bytes : Bytes m) (k : Known m h) where
     entry-gone = withQueue fewer (decode m)
 
     pub without-entry : {a b : List ℕ} → a ≡ write (256 + 64 * i) (part m (256 + 64 * i + 64) (64 * (h .queued - i - 1))) m
-        → b ≡ write 6 (headerBack (record { settings = h .settings; state = h .state; agreed = h .agreed; round = h .round; queued = h .queued - 1; outstanding = h .outstanding }))
-        (write 0 (headerFront (record { settings = h .settings; state = h .state; agreed = h .agreed; round = h .round; queued = h .queued - 1; outstanding = h .outstanding })) a)
+        → b ≡ write 10 (bytesOf 2 (h .queued - 1)) a
         → b ≡ encode (withQueue (take i (decode m .queue) ++ drop (suc i) (decode m .queue)) (decode m)) m
     unfolding queue fewer entry-gone
     without-entry p q =
@@ -140,7 +151,10 @@ module _ (m : List ℕ) (h : Header) (bytes : Bytes m) (k : Known m h) where
         λ j. record { settings = e j .settings; state = e j .state; agreed = e j .agreed; round = e j .round; queued = count j; outstanding = e j .outstanding } in
         let at : 256 + 64 * (i + 1) ≡ 256 + 64 * i + 64 = omega arith in
         let moved = rw (n, at) at (remove-at entryBytes 64 256 m queue i (entryOf []) inside (queue-sized (decode m) fits) (omega (arith, room .long, room .queued)) (held .queue)) in
-        q ∙ rw p (sym (rw header at (queue-changed (decode m) entry-gone m new-fits new-room held refl refl moved)))
+        let moving : List ℕ = part m (256 + 64 * i + 64) (64 * (h .queued - i - 1)) in
+        let inside-memory : 256 + 64 * i + length moving ≤ length m = rw (length-part m (256 + 64 * i + 64) (64 * (h .queued - i - 1)) (omega (arith, z))) (omega (arith, z)) in
+        let alone = queued-alone h (write (256 + 64 * i) moving m) (rw (length-write (256 + 64 * i) moving m inside-memory) (omega (arith, z))) (front-kept (256 + 64 * i) moving (omega arith) inside-memory) (back-kept (256 + 64 * i) moving (omega arith) inside-memory) (h .queued - 1) in
+        q ∙ rw p (sym alone ∙ sym (rw header at (queue-changed (decode m) entry-gone m new-fits new-room held refl refl moved)))
 
   module _ (i : ℕ) (below : i < h .outstanding) where
     sents : List Sent
@@ -157,8 +171,7 @@ module _ (m : List ℕ) (h : Header) (bytes : Bytes m) (k : Known m h) where
     sent-gone = withOutstanding fewer-sents (decode m)
 
     pub without-sent : {a b : List ℕ} → a ≡ write (256 + 64 * h .settings .q + 32 * i) (part m (256 + 64 * h .settings .q + 32 * i + 32) (32 * (h .outstanding - i - 1))) m
-        → b ≡ write 6 (headerBack (record { settings = h .settings; state = h .state; agreed = h .agreed; round = h .round; queued = h .queued; outstanding = h .outstanding - 1 }))
-        (write 0 (headerFront (record { settings = h .settings; state = h .state; agreed = h .agreed; round = h .round; queued = h .queued; outstanding = h .outstanding - 1 })) a)
+        → b ≡ write 12 (bytesOf 2 (h .outstanding - 1)) a
         → b ≡ encode (withOutstanding (take i (decode m .outstanding) ++ drop (suc i) (decode m .outstanding)) (decode m)) m
     unfolding sents fewer-sents sent-gone
     without-sent p q =
@@ -186,4 +199,7 @@ module _ (m : List ℕ) (h : Header) (bytes : Bytes m) (k : Known m h) where
         let at : outstandingAt (decode m .settings .q) 0 + 32 * i ≡ 256 + 64 * h .settings .q + 32 * i = rw q-is (omega arith) in
         let next : outstandingAt (decode m .settings .q) 0 + 32 * (i + 1) ≡ 256 + 64 * h .settings .q + 32 * i + 32 = rw q-is (omega arith) in
         let moved = rw (n, at, next) at (remove-at sentBytes 32 (outstandingAt (decode m .settings .q) 0) m sents i (sentOf []) inside-sents (outstanding-sized (decode m) fits) (omega (arith, room .long, room .sent)) (held .outstanding)) in
-        q ∙ rw p (sym (rw header at (outstanding-changed (decode m) sent-gone m new-fits new-room held refl refl moved)))
+        let moving : List ℕ = part m (256 + 64 * h .settings .q + 32 * i + 32) (32 * (h .outstanding - i - 1)) in
+        let inside-memory : 256 + 64 * h .settings .q + 32 * i + length moving ≤ length m = rw (length-part m (256 + 64 * h .settings .q + 32 * i + 32) (32 * (h .outstanding - i - 1)) (omega (arith, z))) (omega (arith, z)) in
+        let alone = outstanding-alone h (write (256 + 64 * h .settings .q + 32 * i) moving m) (rw (length-write (256 + 64 * h .settings .q + 32 * i) moving m inside-memory) (omega (arith, z))) (front-kept (256 + 64 * h .settings .q + 32 * i) moving (omega arith) inside-memory) (back-kept (256 + 64 * h .settings .q + 32 * i) moving (omega arith) inside-memory) (h .outstanding - 1) in
+        q ∙ rw p (sym alone ∙ sym (rw header at (outstanding-changed (decode m) sent-gone m new-fits new-room held refl refl moved)))

@@ -15,6 +15,7 @@ pub mod Moves
 pub mod Positions
 pub mod Neighbours
 pub mod Matching
+pub mod Counts
 pub mod Changing
 pub mod LeastHours
 pub mod Acknowledging

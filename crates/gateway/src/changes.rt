@@ -1,7 +1,7 @@
-// Changes of a gateway's memory: a place taken out, those behind it moved down, and the header written last.
+// Changes of a gateway's memory: a place taken out, those behind it moved down, and the count in the header written last.
 use crate::places::move_down;
+use buffer::write16;
 use memory::Header;
-use memory::header_bytes::write_header;
 ghost use mathlib.Core.Path.{_≡_};
 ghost use mathlib.Core.List.{_++_};
 ghost use Prim.Native.Nat.{suc, _<_};
@@ -18,9 +18,7 @@ pub fn remove_entry(memory: &mut [u8], header: Header, k: usize)
     let at = 256 + 64 * k;
     let behind = header.queued as usize - k - 1;
     move_down(memory, at + 64, at, 64 * behind);
-    let mut next = header;
-    next.queued = header.queued - 1;
-    write_header(memory, next);
+    write16(memory, 10, header.queued - 1);
 }
 
 // Takes what is outstanding out of outstanding place k.
@@ -32,7 +30,5 @@ pub fn remove_sent(memory: &mut [u8], header: Header, k: usize)
     let at = 256 + 64 * (settings.q as usize) + 32 * k;
     let behind = header.outstanding as usize - k - 1;
     move_down(memory, at + 32, at, 32 * behind);
-    let mut next = header;
-    next.outstanding = header.outstanding - 1;
-    write_header(memory, next);
+    write16(memory, 12, header.outstanding - 1);
 }

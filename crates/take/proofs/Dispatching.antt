@@ -3,13 +3,16 @@ use mathlib.Core.Path.{_≡_, refl, sym, _∙_}
 use mathlib.Core.Bool.{Bool, true, false, cond, not}
 use mathlib.Core.List.{List}
 use Prim.Native.Nat.{ℕ, _≤_, _<_}
+use native.Mathlib.Omega.{arith}
 use lib.Dec.{eqb}
 use lib.ListN.{length}
 use borrow.Author.Tests.{eq-eqb, ne-eqb, lt-ltb, le-ltb, not-true, not-false}
 use Rattle.buffer.specs.Slice.{Bytes}
-use Rattle.model.specs.Messages.{kindNumber}
+use Rattle.model.specs.Messages.{kindNumber, kindOf, originOf, quantityOf}
 use Rattle.model.specs.declared.Message.{Message}
+use Rattle.model.specs.declared.Kind.{Kind}
 use Rattle.model.specs.declared.Kind.the-variants.{Failure, Request, Delivery, Restock, Start, Lvt, Update}
+use Rattle.frame.proofs.Accepted.{kind-back}
 use Rattle.frame.specs.Lamps.{isGood}
 use Rattle.frame.specs.Limits.{refusal}
 use Rattle.frame.specs.Reasons.{reading, formNumber}
@@ -88,28 +91,46 @@ module _ (m after output : List ℕ) (room : ℕ) (f : Frame) (g : Gateway) {r :
   sense-cancel-acknowledgment e p = p output ∙ rw e
 
 -- a plain frame by its kind
-module _ (m output : List ℕ) (room : ℕ) (x : Message) (g : Gateway) where
-  pub kind-restock : (quantity : ℕ) → x .kind ≡ Restock quantity → {r : Answer} → (r .number ≡ 1) × (r .written ≡ 0) → record { answer = r; memory = m; output = output } ≡ leaving (takeByKind room x g (x .kind)) m output
-  kind-restock quantity e p = leaves-refused m output g 1 refl p ∙ rw e
+module _ (room : ℕ) (x : Message) (g : Gateway) where
+  event-kind : (k : Kind) → kindNumber k ≤ 2 → takeByKind room x g k ≡ unlessBelow (x .hour) g (settled room g (takePlain x g))
+  event-kind (Failure origin) h = refl
+  event-kind (Request origin) h = refl
+  event-kind (Delivery origin) h = refl
+  event-kind (Restock quantity) h = absurd (omega (arith, h))
+  event-kind Start h = absurd (omega (arith, h))
+  event-kind Lvt h = absurd (omega (arith, h))
+  event-kind Update h = absurd (omega (arith, h))
 
-module _ (m output : List ℕ) (room : ℕ) (x : Message) (g : Gateway) {l : Left Answer} where
-  pub kind-failure : (origin : ℕ) → x .kind ≡ Failure origin → l ≡ leaving (unlessBelow (x .hour) g (settled room g (takePlain x g))) m output → l ≡ leaving (takeByKind room x g (x .kind)) m output
-  kind-failure origin e p = p ∙ rw e
+  restock-kind : (k : Kind) → 2 < kindNumber k → (kindNumber k ≡ 4 → ⊥) → (kindNumber k ≡ 5 → ⊥) → (kindNumber k ≡ 6 → ⊥) → takeByKind room x g k ≡ refused 1 g
+  restock-kind (Failure origin) h a b c = absurd (omega (arith, h))
+  restock-kind (Request origin) h a b c = absurd (omega (arith, h))
+  restock-kind (Delivery origin) h a b c = absurd (omega (arith, h))
+  restock-kind (Restock quantity) h a b c = refl
+  restock-kind Start h a b c = absurd (a refl)
+  restock-kind Lvt h a b c = absurd (b refl)
+  restock-kind Update h a b c = absurd (c refl)
 
-  pub kind-request : (origin : ℕ) → x .kind ≡ Request origin → l ≡ leaving (unlessBelow (x .hour) g (settled room g (takePlain x g))) m output → l ≡ leaving (takeByKind room x g (x .kind)) m output
-  kind-request origin e p = p ∙ rw e
+module _ (m output : List ℕ) (room : ℕ) (x : Message) (g : Gateway) {n : ℕ} (is : n ≡ kindNumber (x .kind)) where
+  pub kind-restock : 2 < kindNumber (x .kind) → (n ≡ 4 → ⊥) → (n ≡ 5 → ⊥) → (n ≡ 6 → ⊥) → {r : Answer} → (r .number ≡ 1) × (r .written ≡ 0)
+      → record { answer = r; memory = m; output = output } ≡ leaving (takeByKind room x g (x .kind)) m output
+  kind-restock h a b c p = leaves-refused m output g 1 refl p ∙ rw (restock-kind room x g (x .kind) h (λ e. a (is ∙ e)) (λ e. b (is ∙ e)) (λ e. c (is ∙ e)))
 
-  pub kind-delivery : (origin : ℕ) → x .kind ≡ Delivery origin → l ≡ leaving (unlessBelow (x .hour) g (settled room g (takePlain x g))) m output → l ≡ leaving (takeByKind room x g (x .kind)) m output
-  kind-delivery origin e p = p ∙ rw e
+  -- the kind with that number
+  named : {k : ℕ} → n ≡ k → x .kind ≡ kindOf k (originOf (x .kind)) (quantityOf (x .kind))
+  named e = sym (kind-back (x .kind)) ∙ rw (sym is ∙ e)
 
-  pub kind-start : x .kind ≡ Start → l ≡ leaving (takeStart room (x .from) g) m output → l ≡ leaving (takeByKind room x g (x .kind)) m output
-  kind-start e p = p ∙ rw e
+  module _ {l : Left Answer} where
+    pub kind-event : n ≤ 2 → l ≡ leaving (unlessBelow (x .hour) g (settled room g (takePlain x g))) m output → l ≡ leaving (takeByKind room x g (x .kind)) m output
+    kind-event h p = p ∙ rw (event-kind room x g (x .kind) (rw (← is) h))
 
-  pub kind-lvt : x .kind ≡ Lvt → l ≡ leaving (unlessBelow (x .hour) g (takeLvt room (x .from) (x .hour) g)) m output → l ≡ leaving (takeByKind room x g (x .kind)) m output
-  kind-lvt e p = p ∙ rw e
+    pub kind-start : n ≡ 4 → l ≡ leaving (takeStart room (x .from) g) m output → l ≡ leaving (takeByKind room x g (x .kind)) m output
+    kind-start e p = p ∙ rw (named e)
 
-  pub kind-update : x .kind ≡ Update → l ≡ leaving (takeUpdate room (x .from) (x .hour) g) m output → l ≡ leaving (takeByKind room x g (x .kind)) m output
-  kind-update e p = p ∙ rw e
+    pub kind-lvt : n ≡ 5 → l ≡ leaving (unlessBelow (x .hour) g (takeLvt room (x .from) (x .hour) g)) m output → l ≡ leaving (takeByKind room x g (x .kind)) m output
+    kind-lvt e p = p ∙ rw (named e)
+
+    pub kind-update : n ≡ 6 → l ≡ leaving (takeUpdate room (x .from) (x .hour) g) m output → l ≡ leaving (takeByKind room x g (x .kind)) m output
+    kind-update e p = p ∙ rw (named e)
 
 -- the number of the checks before
 module _ (m output : List ℕ) (x : Outcome) (g : Gateway) {number wanted : ℕ} (e : number ≡ wanted) where

@@ -16,13 +16,14 @@ use gateway::round_steps::take_update;
 use memory::Header;
 use memory::header_bytes::read_header;
 use memory::soundness::sound;
-use model::Kind;
 use model::Message;
 use model::kind_number;
 ghost use mathlib.Core.Path.{_≡_};
 ghost use mathlib.Core.Bool.{cond};
 ghost use lib.Dec.{eqb};
 ghost use lib.ListN.{length};
+ghost use Prim.Native.Nat.{_<_};
+ghost use Rattle.model.specs.Messages.{kindNumber};
 ghost use Rattle.frame.specs.Limits.{refusal};
 ghost use Rattle.memory.specs.Codec.{decode};
 ghost use Rattle.memory.specs.Fits.{MessageFits};
@@ -95,19 +96,30 @@ fn take_frame(memory: &mut [u8], output: &mut [u8], header: Header, frame: Frame
     }
 }
 
+// An event, or a message of the round.
 fn take_by_kind(memory: &mut [u8], output: &mut [u8], header: Header, message: Message) -> Answer
     requires { ⌜ Known (now memory) header × MessageFits message ⌝ }
     ensures { λ r. ⌜ record { answer = r; memory = now (memory .exit); output = now (output .exit) } ≡ leaving (takeByKind (length (now (output .entry))) message (decode (now (memory .entry))) (message .kind)) (now (memory .entry)) (now (output .entry)) ⌝ }
 {
     let kind = message.kind;
-    match kind {
-        Kind::Failure { origin: _ } => take_plain(memory, output, header, message),
-        Kind::Request { origin: _ } => take_plain(memory, output, header, message),
-        Kind::Delivery { origin: _ } => take_plain(memory, output, header, message),
-        Kind::Restock { quantity: _ } => refused(1),
-        Kind::Start => take_start(memory, output, header, message.from),
-        Kind::Lvt => take_timely_lvt(memory, output, header, message),
-        Kind::Update => take_update(memory, output, header, message.from, message.hour),
+    if kind_number(kind) <= 2 {
+        return take_plain(memory, output, header, message);
+    }
+    take_in_round(memory, output, header, message)
+}
+
+// A message of the round. A Restock is 1.
+fn take_in_round(memory: &mut [u8], output: &mut [u8], header: Header, message: Message) -> Answer
+    requires { ⌜ Known (now memory) header × (2 < kindNumber (message .kind)) ⌝ }
+    ensures { λ r. ⌜ record { answer = r; memory = now (memory .exit); output = now (output .exit) } ≡ leaving (takeByKind (length (now (output .entry))) message (decode (now (memory .entry))) (message .kind)) (now (memory .entry)) (now (output .entry)) ⌝ }
+{
+    let kind = message.kind;
+    let number = kind_number(kind);
+    match number {
+        4 => take_start(memory, output, header, message.from),
+        5 => take_timely_lvt(memory, output, header, message),
+        6 => take_update(memory, output, header, message.from, message.hour),
+        _ => refused(1),
     }
 }
 

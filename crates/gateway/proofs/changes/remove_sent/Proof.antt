@@ -38,17 +38,17 @@ mul-move-down c = search needs
 move-down-requires : tie.Need-move-down-requires
 move-down-requires c κs = let z = sizes _ _ (c .before .before .before .before .before .pre .0) in (omega arith, omega arith)
 
-sub-next : tie.Need-sub-next
-sub-next c = search needs
+sub-write16 : tie.Need-sub-write16
+sub-write16 c = search needs
 
-write-header-requires : tie.Need-write-header-requires
-write-header-requires c κs = let z = sizes _ _ (c .before .before .before .before .before .before .before .before .before .before .pre .0) in omega arith
+write16-requires : tie.Need-write16-requires
+write16-requires c κs = let z = sizes _ _ (c .before .before .before .before .before .before .before .before .before .before .pre .0) in omega arith
 
 same-length : tie.Need-same-length
 same-length c = search needs
 
 returns : tie.Need-returns
-returns c = without-sent _ _ (bytes-known (c .before .before .before .before .before .before .before .before .before .before .before .before .before .args .memory .now) (c .before .before .before .before .before .before .before .before .before .before .before .before .slice-known .given)) (c .before .before .before .before .before .before .before .before .before .before .before .before .before .pre .0) _ (c .before .before .before .before .before .before .before .before .before .before .before .before .before .pre .1) (c .before .before .before .before .before .before .before .move-down .ensures) (c .before .before .write-header .ensures)
+returns c = without-sent _ _ (bytes-known (c .before .before .before .before .before .before .before .before .before .before .before .before .before .args .memory .now) (c .before .before .before .before .before .before .before .before .before .before .before .before .slice-known .given)) (c .before .before .before .before .before .before .before .before .before .before .before .before .before .pre .0) _ (c .before .before .before .before .before .before .before .before .before .before .before .before .before .pre .1) (c .before .before .before .before .before .before .before .move-down .ensures) (c .before .before .write16 .ensures)
 
 pub remove-sent-spec : {M : Type 1} → statement M
 remove-sent-spec =
@@ -65,7 +65,7 @@ remove-sent-spec =
     add-move-down
     mul-move-down
     move-down-requires
-    sub-next
-    write-header-requires
+    sub-write16
+    write16-requires
     same-length
     returns)
