@@ -17,8 +17,8 @@ read-entry-requires c κs = search needs
 site-of-requires : tie.Need-site-of-requires
 site-of-requires c κs = search needs
 
-perform-requires : tie.Need-perform-requires
-perform-requires c κs = search needs
+reply-to-requires : tie.Need-reply-to-requires
+reply-to-requires c κs = search needs
 
 sub-has-room : tie.Need-sub-has-room
 sub-has-room c = c .before .before .before .before .before .before .before .before .before .before .before .pre .0 .written
@@ -34,7 +34,7 @@ same-length c = search needs
 
 returns : tie.Need-returns
 returns c = λ before g reached first.
-    no-room reached (c .before .before .before .before .before .before .before .before .before .before .before .before .before .before .pre .1) first (c .before .before .before .before .before .before .before .read-entry .ensures) (c .before .before .before .before .before .site-of .ensures) (c .before .before .before .before .perform .ensures)
+    no-room reached (c .before .before .before .before .before .before .before .before .before .before .before .before .before .before .pre .1) first (c .before .before .before .before .before .before .before .read-entry .ensures) (c .before .before .before .before .before .site-of .ensures) (c .before .before .before .before .reply-to .ensures)
     (c .before .before .before .before .before .before .before .before .before .before .before .before .before .before .args .output .now) (c .before .before .has-room .ensures) (c .before .if1 .taken) (c .stopped .ensures)
 
 write-entry-requires : tie.Need-write-entry-requires
@@ -43,8 +43,8 @@ write-entry-requires c κs = let ready = c .before .before .before .before .befo
 sending-after-requires : tie.Need-sending-after-requires
 sending-after-requires c κs = search needs
 
-send-outcome-requires : tie.Need-send-outcome-requires
-send-outcome-requires c κs = may-send-all (c .before .before .before .before .before .before .before .before .before .before .before .before .before .before .before .before .before .before .before .before .pre .0) (c .before .before .before .before .before .before .before .before .has-room .ensures) (c .before .before .before .before .before .before .before .if1 .left) (search needs) (c .sending-after .ensures)
+send-reply-requires : tie.Need-send-reply-requires
+send-reply-requires c κs = may-send-all (c .before .before .before .before .before .before .before .before .before .before .before .before .before .before .before .before .before .before .before .before .pre .0) (c .before .before .before .before .before .before .before .before .has-room .ensures) (c .before .before .before .before .before .before .before .if1 .left) (search needs) (c .sending-after .ensures)
 
 add-t15 : tie.Need-add-t15
 add-t15 c = let ready = c .before .before .before .before .before .before .before .before .before .before .before .before .before .before .before .before .before .before .before .before .before .before .before .before .before .before .pre .0 in let below = c .before .before .before .before .before .before .before .before .before .before .before .before .before .before .before .before .before .before .before .before .before .before .before .before .before .before .pre .1 in omega (arith, ready .queued, ready .queue-places)
@@ -57,8 +57,8 @@ same-length-3 c = search needs
 
 returns-2 : tie.Need-returns-2
 returns-2 c = λ before g reached first.
-    event-done reached (c .before .before .before .before .before .before .before .before .before .before .before .before .before .before .before .before .before .before .before .before .before .before .before .before .before .before .pre .1) first (c .before .before .before .before .before .before .before .before .before .before .before .before .before .before .before .before .before .before .before .read-entry .ensures) (c .before .before .before .before .before .before .before .before .before .before .before .before .before .before .before .before .before .site-of .ensures) (c .before .before .before .before .before .before .before .before .before .before .before .before .before .before .before .before .perform .ensures)
-    (c .before .before .before .before .before .before .before .before .before .before .before .before .before .before .before .before .before .before .before .before .before .before .before .before .before .before .args .output .now) (c .before .before .before .before .before .before .before .before .before .before .before .before .before .before .has-room .ensures) (c .before .before .before .before .before .before .before .before .before .before .before .before .before .if1 .left) (c .before .before .before .before .before .before .before .before .before .before .before .write-entry .ensures) (c .before .before .before .before .before .before .sending-after .ensures) (c .before .before .before .before .before .send-outcome .ensures)
+    event-done reached (c .before .before .before .before .before .before .before .before .before .before .before .before .before .before .before .before .before .before .before .before .before .before .before .before .before .before .pre .1) first (c .before .before .before .before .before .before .before .before .before .before .before .before .before .before .before .before .before .before .before .read-entry .ensures) (c .before .before .before .before .before .before .before .before .before .before .before .before .before .before .before .before .before .site-of .ensures) (c .before .before .before .before .before .before .before .before .before .before .before .before .before .before .before .before .reply-to .ensures)
+    (c .before .before .before .before .before .before .before .before .before .before .before .before .before .before .before .before .before .before .before .before .before .before .before .before .before .before .args .output .now) (c .before .before .before .before .before .before .before .before .before .before .before .before .before .before .has-room .ensures) (c .before .before .before .before .before .before .before .before .before .before .before .before .before .if1 .left) (c .before .before .before .before .before .before .before .before .before .before .before .write-entry .ensures) (c .before .before .before .before .before .before .sending-after .ensures) (c .before .before .before .before .before .send-reply .ensures)
 
 pub work-at-spec : {M : Type 1} → statement M
 work-at-spec =
@@ -68,7 +68,7 @@ work-at-spec =
     add-at
     read-entry-requires
     site-of-requires
-    perform-requires
+    reply-to-requires
     sub-has-room
     has-room-requires
     stopped-requires
@@ -76,7 +76,7 @@ work-at-spec =
     returns
     write-entry-requires
     sending-after-requires
-    send-outcome-requires
+    send-reply-requires
     add-t15
     same-length-2
     same-length-3

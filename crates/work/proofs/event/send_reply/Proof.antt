@@ -1,18 +1,18 @@
--- `work::event::send_outcome` meets its contract.
+-- `work::event::send_reply` meets its contract.
 use Rattle.work.proofs.SendingRoom.{none-sent, may-send, one-sent}
 use borrow.Author.Needs.{needs}
-use Rattle.work.proofs.event.send_outcome.Statement.{statement}
-use Rattle.work.proofs.event.send_outcome.Tie as tie
+use Rattle.work.proofs.event.send_reply.Statement.{statement}
+use Rattle.work.proofs.event.send_reply.Tie as tie
 
 returns : tie.Need-returns
 returns c =
     let start = c .before .before .before .before in
-    λ before g p fits. none-sent (start .args .memory .now) (start .args .output .now) (start .args .sending) (start .args .outcome) (c .if1 .taken) before g p
+    λ before g p fits. none-sent (start .args .memory .now) (start .args .output .now) (start .args .sending) (start .args .reply) (c .if1 .taken) before g p
 
 send-requires : tie.Need-send-requires
 send-requires c κs =
     let start = c .before .before .before .before .before .before .before in
-    may-send (start .args .memory .now) (start .args .output .now) (start .args .sending) (start .args .outcome) (start .pre) (c .before .before .before .if1 .left)
+    may-send (start .args .memory .now) (start .args .output .now) (start .args .sending) (start .args .reply) (start .pre) (c .before .before .before .if1 .left)
 
 same-length : tie.Need-same-length
 same-length c = search needs
@@ -24,8 +24,8 @@ returns-2 : tie.Need-returns-2
 returns-2 c =
     let start = c .before .before .before .before .before .before .before .before .before .before .before .before in
     λ before g p fits.
-    one-sent (start .args .memory .now) (start .args .output .now) (start .args .sending) (start .args .outcome) (start .pre)
+    one-sent (start .args .memory .now) (start .args .output .now) (start .args .sending) (start .args .reply) (start .pre)
     (c .before .before .before .before .before .before .before .before .if1 .left) (c .before .before .before .before .send .ensures) before g p fits
 
-pub send-outcome-spec : {M : Type 1} → statement M
-send-outcome-spec = tie.close (tie.spec returns send-requires same-length same-length-2 returns-2)
+pub send-reply-spec : {M : Type 1} → statement M
+send-reply-spec = tie.close (tie.spec returns send-requires same-length same-length-2 returns-2)
