@@ -52,7 +52,7 @@ module _ (site : Site) (e : Entry) {processed : Bool} (test : processed ≡ proc
   unfolding sentBack
   none-sent-by h = (rw (processed-no e (sym test ∙ not-true processed h)), omega arith)
 
-  module _ (h : not processed ≡ false) {made : Site} (site-is : made ≡ site) {reply : Reply}
+  module _ (h : not processed ≡ false) {made : Site} (site-is : made ≡ site) (reply : Reply)
       (gives : sentBy reply ≡ sent made (e .before) (e .message)) where
     had : sentBack site (processedOf (e ∷ [])) ≡ cond (reply .sends) (reply .sent ∷ []) []
     had = rw (processed-one e (sym test ∙ not-false processed h)) (back-one e site ∙ rw (← site-is) (sym gives))

@@ -72,7 +72,7 @@ module _ {before memory output : List ℕ} {g : Gateway} {s : Sending} {e : Entr
       rw (processed-no e (sym test ∙ not-true processed h))
       (record { placed = rw (rolled-none g) (may .placed); put = sym (write-nil (s .written) output); position = omega arith })
 
-  module _ (h : not processed ≡ false) {site : Site} (site-is : site ≡ siteOf (s .header .settings)) {reply : Reply}
+  module _ (h : not processed ≡ false) {site : Site} (site-is : site ≡ siteOf (s .header .settings)) (reply : Reply)
       (gives : sentBy reply ≡ sent site (e .before) (e .message)) where
     -- the state before it
     abbrev restored : Sending
