@@ -102,7 +102,7 @@ processedIn state g = withState state (withQueue (processedNext (g .state) (g .q
 -- doing the message in queue place k
 module _ {before memory : List ℕ} {t : Turn} {g : Gateway} (reached : Reached before memory t g) {k : ℕ} (below : k < t .header .queued)
     (first : k ≡ firstWhere isPending (g .queue)) {e : Entry} (read : e ≡ entryOf (part memory (256 + 64 * k) 64))
-    {site : Site} (site-is : site ≡ siteOf (t .header .settings)) {reply : Reply} (gives : sentBy reply ≡ sent site (t .header .state) (e .message))
+    {site : Site} (site-is : site ≡ siteOf (t .header .settings)) (reply : Reply) (gives : sentBy reply ≡ sent site (t .header .state) (e .message))
     {next : State} (next-is : next ≡ after (t .header .state) (e .message .kind)) where
   header-is : t .header ≡ headerOf g
   header-is = reached .placed .header

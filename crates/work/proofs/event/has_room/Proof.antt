@@ -26,7 +26,7 @@ returns-3 : tie.Need-returns-3
 returns-3 c =
     let start = c .before .before .before .before .before .before .before .before .before .before in
     room-for-one (start .args .header) (start .args .room) (start .args .reply) (c .before .before .before .before .before .before .before .before .if1 .left)
-    (lamp-length (start .args .reply .sent) _ (start .good .1 .1 .0 .1 .1 .1 .1 .0))
+    (lamp-length (start .args .reply .sent) _ (start .good .1 .1 .0 .1 .1 .1 .0))
     (c .before .before .frame-if .ensures) (c .before .map-of .ensures) (c .whole-length .ensures) (c .before .before .before .before .if2 .left)
 
 pub has-room-spec : {M : Type 1} → statement M
