@@ -4,7 +4,7 @@ use crate::Message;
 use crate::Site;
 use crate::State;
 ghost use mathlib.Core.Path.{_≡_};
-ghost use mathlib.Core.List.{[], _∷_};
+ghost use mathlib.Core.List.{[]};
 ghost use Rattle.model.specs.Doing.{after, counted, shelved, notPast, reply, requestHours, sent, sentBy};
 
 // The hours from a message to the one that it sends.
@@ -130,8 +130,5 @@ fn sending(site: Site, cause: Message, hours: u32, to: u8, kind: Kind) -> Reply
         kind,
         lamp,
     };
-    Reply {
-        sends: true,
-        sent,
-    }
+    Reply { sends: true, sent }
 }
