@@ -129,7 +129,7 @@ module _ {before memory : List ℕ} {h : Header} {g : Gateway} (p : Placed befor
 
   pub placed-sent : {memory′ : List ℕ} {h′ : Header}
       → memory′ ≡ write (outstandingAt (h .settings .q) (h .outstanding)) (sentBytes (record { message = m; cancel = cancel })) memory
-      → h′ ≡ headerSent m h → Placed before memory′ h′ (sentOne cancel m g)
+      → h′ ≡ headerSent (m .hour) h → Placed before memory′ h′ (sentOne cancel m g)
   unfolding sentOne noted new-sent
   placed-sent e d =
       let old = p .fits in
@@ -162,7 +162,7 @@ module _ {before memory : List ℕ} {h : Header} {g : Gateway} (p : Placed befor
           outstanding = all;
         };
         room = record { long = p .room .long; queued = p .room .queued; sent = rw n (omega (arith, free)) };
-        header = d ∙ (ap (headerSent m) (p .header) ∙ λ i. record {
+        header = d ∙ (ap (headerSent (m .hour)) (p .header) ∙ λ i. record {
           settings = g .settings;
           state = g .state;
           agreed = g .agreed;

@@ -1,5 +1,4 @@
 // Sending a message or a cancel: it takes an outstanding place, its frame goes to the output, and it lowers the note.
-use crate::Sending;
 use frame::outgoing::put_frame;
 use memory::Header;
 use memory::Phase;
@@ -9,47 +8,61 @@ use memory::place::write_sent;
 use memory::rules::frame_if;
 use model::Message;
 ghost use mathlib.Core.Path.{_≡_};
+ghost use Prim.Native.Nat.{_+_, _≤_, _<_};
+ghost use lib.ListN.{length};
+ghost use Rattle.frame.specs.Writing.{written};
+ghost use Rattle.memory.specs.Layout.{outstandingAt};
+ghost use Rattle.memory.specs.Validity.{frameIf};
 ghost use Rattle.gateway.specs.Effects.{noted};
-ghost use Rattle.effects.specs.Sending.{MaySend, Sends};
+ghost use Rattle.effects.specs.Sending.{PutsSent, headerSent};
 
-// Sends a message, or its cancel.
-pub fn send(
-    memory: &mut [u8],
-    output: &mut [u8],
-    sending: Sending,
-    cancel: bool,
-    message: Message,
-) -> Sending
-    requires { ⌜ MaySend (now memory) (now output) sending cancel message ⌝ }
-    ensures { λ r. ⌜ Sends (now (memory .entry)) (now (output .entry)) (now (memory .exit)) (now (output .exit)) sending cancel message r ⌝ }
+// Where the next outstanding place begins.
+pub fn outstanding_at(header: Header) -> usize
+    ensures { λ r. ⌜ r ≡ outstandingAt (header .settings .q) (header .outstanding) ⌝ }
 {
-    let header = sending.header;
     let settings = header.settings;
-    let at = 256 + 64 * (settings.q as usize) + 32 * (header.outstanding as usize);
-    let sent = Sent { message, cancel };
-    write_sent(memory, at, sent);
-    let written = put_frame(output, sending.written, frame_if(cancel, message));
-    let mut next = header;
-    next.round = note(header.round, sent);
-    next.outstanding = header.outstanding + 1;
-    Sending {
-        header: next,
-        written,
-    }
+    256 + 64 * (settings.q as usize) + 32 * (header.outstanding as usize)
 }
 
-// The round after a message or a cancel is sent.
-fn note(round: Round, sent: Sent) -> Round
-    ensures { λ r. ⌜ r ≡ noted (sent .message .hour) round ⌝ }
+// Puts a message or its cancel into an outstanding place, and its frame into the output; gives the position behind the frame.
+pub fn put_sent(
+    memory: &mut [u8],
+    output: &mut [u8],
+    place: usize,
+    position: usize,
+    cancel: bool,
+    message: Message,
+) -> usize
+    requires { ⌜ (place + 32 ≤ length (now memory)) × (position + length (written (frameIf cancel message)) ≤ length (now output)) ⌝ }
+    ensures { λ r. ⌜ PutsSent (now (memory .entry)) (now (output .entry)) (now (memory .exit)) (now (output .exit)) place position cancel message r ⌝ }
+{
+    let sent = Sent { message, cancel };
+    write_sent(memory, place, sent);
+    put_frame(output, position, frame_if(cancel, message))
+}
+
+// The header after a message or a cancel of that hour is sent.
+pub fn header_sent(header: Header, hour: u32) -> Header
+    requires { ⌜ header .outstanding < 65535 ⌝ }
+    ensures { λ r. ⌜ r ≡ headerSent hour header ⌝ }
+{
+    let mut next = header;
+    next.round = note(header.round, hour);
+    next.outstanding = header.outstanding + 1;
+    next
+}
+
+// The round after a message or a cancel of that hour is sent.
+fn note(round: Round, hour: u32) -> Round
+    ensures { λ r. ⌜ r ≡ noted hour round ⌝ }
 {
     let phase = round.phase;
-    let message = sent.message;
     let mut next = round;
     match phase {
         Phase::Idle => {}
         Phase::Counting => {
-            if message.hour < round.note {
-                next.note = message.hour;
+            if hour < round.note {
+                next.note = hour;
             }
         }
         Phase::Stopped => {}

@@ -9,9 +9,8 @@ use lib.ListN.{length, take, drop, getD, length-append}
 use borrow.Author.Tests.{lt-ltb, le-ltb, le-leb, lt-leb}
 use Rattle.buffer.specs.Slice.{part, write}
 use Rattle.buffer.proofs.Writes.{write-join, length-write, length-part}
-use Rattle.model.specs.Doing.{after, Gives}
-use Rattle.model.specs.declared.Message.{Message}
-use Rattle.model.specs.declared.event.Outcome.{Outcome as Done}
+use Rattle.model.specs.Doing.{after}
+use Rattle.model.specs.declared.State.{State}
 use Rattle.frame.specs.Layout.{wholeLength}
 use Rattle.frame.specs.Kinds.{mapOf}
 use Rattle.frame.specs.Writing.{written, Puts}
@@ -156,12 +155,12 @@ module _ (e : Entry) (output : List ℕ) (room : length (recordOf e) ≤ length 
     pub state-room : next + 14 ≤ length out
     state-room = let b = both in rw (p .output, length-write 0 (written f) output (omega arith), p .position) (omega arith)
 
-    pub record-put : {messages : List Message} {done : Done} {end : List ℕ} → Gives (after (e .before) (e .message .kind)) messages done → end ≡ write next (stateBytes (done .state)) out → end ≡ write 0 (recordOf e) output
+    pub record-put : {state : State} {end : List ℕ} → state ≡ after (e .before) (e .message .kind) → end ≡ write next (stateBytes state) out → end ≡ write 0 (recordOf e) output
     unfolding recordOf
     record-put g q =
         let b = both in
         let at : next ≡ 0 + length (written f) = p .position in
-        q ∙ rw (g .state, p .output, at, ← frame-is) (write-join 0 (written f) (stateBytes (after (e .before) (e .message .kind))) output (omega arith))
+        q ∙ rw (g, p .output, at, ← frame-is) (write-join 0 (written f) (stateBytes (after (e .before) (e .message .kind))) output (omega arith))
 
 pub commit-call : (m output : List ℕ) → onSound commit m output ≡ committed m output
 unfolding committed

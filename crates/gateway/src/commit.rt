@@ -13,15 +13,11 @@ use memory::header_bytes::read_header;
 use memory::place::read_entry;
 use memory::place::write_state;
 use memory::rules::frame_if;
-use memory::rules::site_of;
 use memory::soundness::sound;
-use model::event::perform;
+use model::event::state_after;
 ghost use mathlib.Core.Path.{_≡_};
-ghost use mathlib.Core.Bool.{cond};
-ghost use mathlib.Core.List.{_++_};
-ghost use Prim.Native.Nat.{suc, _≤_, _<_};
-ghost use lib.Dec.{leb};
-ghost use lib.ListN.{length, take, drop};
+ghost use Prim.Native.Nat.{_≤_, _<_};
+ghost use lib.ListN.{length};
 ghost use Rattle.buffer.specs.Slice.{write};
 ghost use Rattle.memory.specs.Codec.{decode};
 ghost use Rattle.gateway.specs.Committing.{recordOf, commit};
@@ -72,7 +68,7 @@ fn commit_place(
     if output.len() < size {
         return refused(5);
     }
-    put_record(output, header, entry);
+    put_record(output, entry);
     remove_entry(memory, header, k);
     Answer {
         number: 0,
@@ -81,15 +77,13 @@ fn commit_place(
 }
 
 // Puts an event's record: its frame, then the state after it.
-fn put_record(output: &mut [u8], header: Header, entry: Entry)
+fn put_record(output: &mut [u8], entry: Entry)
     requires { ⌜ length (recordOf entry) ≤ length (now output) ⌝ }
     ensures { λ _. ⌜ now (output .exit) ≡ write 0 (recordOf entry) (now (output .entry)) ⌝ }
 {
-    let settings = header.settings;
     let message = entry.message;
-    let before = entry.before;
-    let done = perform(site_of(settings), before, message);
-    let state = done.state;
+    let kind = message.kind;
+    let state = state_after(entry.before, kind);
     let next = put_frame(output, 0, frame_if(false, message));
     write_state(output, next, state);
 }

@@ -2,6 +2,6 @@
 pub mod Comparing
 pub mod Keys
 pub mod Arrays
-pub mod Outcomes
+pub mod Replies
 pub mod Ordered
 pub mod Sending

@@ -88,7 +88,7 @@ list-transitive (x ∷ xs) (y ∷ ys) (z ∷ zs) p q = heads (numbers x y) (numb
     heads After d v w p q rest = absurd (let z : _≡_ {A = ℕ} 0 1 = cc in omega arith)
 
 -- a kind by its number and fields
-kind-again : (k : Kind) → kindOf (kindNumber k) (originOf k) (quantityOf k) ≡ k
+pub kind-again : (k : Kind) → kindOf (kindNumber k) (originOf k) (quantityOf k) ≡ k
 kind-again (Failure origin) = refl
 kind-again (Request origin) = refl
 kind-again (Delivery origin) = refl

@@ -1,5 +1,4 @@
 -- Doing a message: the state after it, and what it sends.
-use mathlib.Core.Path.{_≡_}
 use Prim.Native.Nat.{ℕ, _+_, _-_, min}
 use mathlib.Core.Bool.{cond}
 use mathlib.Core.List.{List, [], _∷_}
@@ -9,7 +8,7 @@ use Rattle.model.specs.declared.Kind.the-variants.{Failure, Request, Del
 use Rattle.model.specs.declared.Message.{Message}
 use Rattle.model.specs.declared.State.{State}
 use Rattle.model.specs.declared.Site.{Site}
-use Rattle.model.specs.declared.event.Outcome.{Outcome}
+use Rattle.model.specs.declared.event.Reply.{Reply}
 
 -- the hours from a message to the one that it sends: to a Request, to a Delivery, to the next Failure
 abbrev pub requestHours : ℕ
@@ -76,11 +75,6 @@ sentFor site s m Update = []
 unfoldable pub sent : Site → State → Message → List Message
 sent site s m = sentFor site s m (m .kind)
 
--- the message that an outcome sends, if it does
-abbrev pub sentBy : Outcome → List Message
+-- the message that a reply holds, if it holds one
+abbrev pub sentBy : Reply → List Message
 sentBy r = cond (r .sends) (r .sent ∷ []) []
-
--- the outcome r gives that state and sends just those messages
-pub record Gives (next : State) (messages : List Message) (r : Outcome) : Type 0 where
-  pub state : r .state ≡ next
-  pub sends : sentBy r ≡ messages

@@ -4,8 +4,8 @@ use crate::Message;
 use crate::Site;
 use crate::State;
 ghost use mathlib.Core.Path.{_≡_};
-ghost use mathlib.Core.List.{[], _∷_};
-ghost use Rattle.model.specs.Doing.{after, counted, shelved, notPast, reply, sent, sentFor, Gives};
+ghost use mathlib.Core.List.{[]};
+ghost use Rattle.model.specs.Doing.{after, counted, shelved, notPast, reply, requestHours, sent, sentBy};
 
 // The hours from a message to the one that it sends.
 const REQUEST_HOURS: u32 = 1;
@@ -14,67 +14,72 @@ const DELIVERY_HOURS: u32 = 24;
 
 const LIFE_HOURS: u32 = 43800;
 
-// What doing a message comes to: the state after it, whether it sends a message, and which.
-pub struct Outcome {
-    pub state: State,
+// The message that doing one sends, if it sends one.
+pub struct Reply {
     pub sends: bool,
     pub sent: Message,
 }
 
-// Does a message: every kind, in every state.
-pub fn perform(site: Site, state: State, message: Message) -> Outcome
-    ensures { λ r. ⌜ Gives (after state (message .kind)) (sent site state message) r ⌝ }
+// The state after a message of that kind: every kind, in every state.
+pub fn state_after(state: State, kind: Kind) -> State
+    ensures { λ r. ⌜ r ≡ after state kind ⌝ }
+{
+    let mut next = state;
+    match kind {
+        Kind::Failure { origin: _ } => {
+            next.failed = count(state.failed);
+        }
+        Kind::Request { origin: _ } => {
+            if 0 < state.stock {
+                next.stock = state.stock - 1;
+            } else {
+                next.short = count(state.short);
+            }
+        }
+        Kind::Delivery { origin: _ } => {
+            next.fitted = count(state.fitted);
+        }
+        Kind::Restock { quantity } => {
+            next.stock = shelve(state.stock, quantity);
+        }
+        Kind::Start => {}
+        Kind::Lvt => {}
+        Kind::Update => {}
+    }
+    next
+}
+
+// What doing a message sends: every kind, in every state.
+pub fn reply_to(site: Site, state: State, message: Message) -> Reply
+    ensures { λ r. ⌜ sentBy r ≡ sent site state message ⌝ }
 {
     let kind = message.kind;
     match kind {
-        Kind::Failure { origin: _ } => failure(site, state, message),
-        Kind::Request { origin } => request(site, state, message, origin),
-        Kind::Delivery { origin: _ } => delivery(site, state, message),
-        Kind::Restock { quantity } => restock(state, message, quantity),
-        Kind::Start => silent(state, message),
-        Kind::Lvt => silent(state, message),
-        Kind::Update => silent(state, message),
+        Kind::Failure { origin: _ } => request_for(site, message, site.own),
+        Kind::Request { origin } => {
+            if 0 < state.stock {
+                let delivery = Kind::Delivery { origin };
+                return sending(site, message, DELIVERY_HOURS, origin, delivery);
+            }
+            request_for(site, message, origin)
+        }
+        Kind::Delivery { origin: _ } => {
+            let failure = Kind::Failure { origin: site.own };
+            sending(site, message, LIFE_HOURS, site.own, failure)
+        }
+        Kind::Restock { quantity: _ } => silent(message),
+        Kind::Start => silent(message),
+        Kind::Lvt => silent(message),
+        Kind::Update => silent(message),
     }
 }
 
-fn failure(site: Site, state: State, message: Message) -> Outcome
-    ensures { λ r. ⌜ Gives (after state (Kind.Failure (site .own))) (sentFor site state message (Kind.Failure (site .own))) r ⌝ }
+// The Request to the supplier for that origin.
+fn request_for(site: Site, cause: Message, origin: u8) -> Reply
+    ensures { λ r. ⌜ sentBy r ≡ notPast (site .last) (reply site cause requestHours (site .supplier) (Kind.Request origin)) ⌝ }
 {
-    let mut next = state;
-    next.failed = count(state.failed);
-    let kind = Kind::Request { origin: site.own };
-    sending(site, next, message, REQUEST_HOURS, site.supplier, kind)
-}
-
-fn request(site: Site, state: State, message: Message, origin: u8) -> Outcome
-    ensures { λ r. ⌜ Gives (after state (Kind.Request origin)) (sentFor site state message (Kind.Request origin)) r ⌝ }
-{
-    let mut next = state;
-    if 0 < state.stock {
-        next.stock = state.stock - 1;
-        let kind = Kind::Delivery { origin };
-        return sending(site, next, message, DELIVERY_HOURS, origin, kind);
-    }
-    next.short = count(state.short);
-    let kind = Kind::Request { origin };
-    sending(site, next, message, REQUEST_HOURS, site.supplier, kind)
-}
-
-fn delivery(site: Site, state: State, message: Message) -> Outcome
-    ensures { λ r. ⌜ Gives (after state (Kind.Delivery (site .own))) (sentFor site state message (Kind.Delivery (site .own))) r ⌝ }
-{
-    let mut next = state;
-    next.fitted = count(state.fitted);
-    let kind = Kind::Failure { origin: site.own };
-    sending(site, next, message, LIFE_HOURS, site.own, kind)
-}
-
-fn restock(state: State, message: Message, quantity: u16) -> Outcome
-    ensures { λ r. ⌜ Gives (after state (Kind.Restock quantity)) [] r ⌝ }
-{
-    let mut next = state;
-    next.stock = shelve(state.stock, quantity);
-    silent(next, message)
+    let request = Kind::Request { origin };
+    sending(site, cause, REQUEST_HOURS, site.supplier, request)
 }
 
 // The shelf with the quantity added, which stops at its largest value.
@@ -99,24 +104,23 @@ fn count(counter: u32) -> u32
     }
 }
 
-// The outcome that sends nothing.
-fn silent(state: State, message: Message) -> Outcome
-    ensures { λ r. ⌜ Gives state [] r ⌝ }
+// No message is sent.
+fn silent(message: Message) -> Reply
+    ensures { λ r. ⌜ sentBy r ≡ [] ⌝ }
 {
-    Outcome {
-        state,
+    Reply {
         sends: false,
         sent: message,
     }
 }
 
-// The outcome that sends a message so many hours after its cause, unless that is past the last hour.
-fn sending(site: Site, state: State, cause: Message, hours: u32, to: u8, kind: Kind) -> Outcome
-    ensures { λ r. ⌜ Gives state (notPast (site .last) (reply site cause hours to kind)) r ⌝ }
+// A message is sent so many hours after its cause, unless that is past the last hour.
+fn sending(site: Site, cause: Message, hours: u32, to: u8, kind: Kind) -> Reply
+    ensures { λ r. ⌜ sentBy r ≡ notPast (site .last) (reply site cause hours to kind) ⌝ }
 {
     let hour = (cause.hour as u64) + (hours as u64);
     if (site.last as u64) < hour {
-        return silent(state, cause);
+        return silent(cause);
     }
     let lamp = cause.lamp;
     let sent = Message {
@@ -126,9 +130,5 @@ fn sending(site: Site, state: State, cause: Message, hours: u32, to: u8, kind: K
         kind,
         lamp,
     };
-    Outcome {
-        state,
-        sends: true,
-        sent,
-    }
+    Reply { sends: true, sent }
 }

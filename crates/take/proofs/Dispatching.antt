@@ -10,9 +10,9 @@ use borrow.Author.Tests.{eq-eqb, ne-eqb, lt-ltb, le-ltb, not-true, not-false}
 use Rattle.buffer.specs.Slice.{Bytes}
 use Rattle.model.specs.Messages.{kindNumber, kindOf, originOf, quantityOf}
 use Rattle.model.specs.declared.Message.{Message}
+use Rattle.model.proofs.Ordered.{kind-again}
 use Rattle.model.specs.declared.Kind.{Kind}
 use Rattle.model.specs.declared.Kind.the-variants.{Failure, Request, Delivery, Restock, Start, Lvt, Update}
-use Rattle.frame.proofs.Accepted.{kind-back}
 use Rattle.frame.specs.Lamps.{isGood}
 use Rattle.frame.specs.Limits.{refusal}
 use Rattle.frame.specs.Reasons.{reading, formNumber}
@@ -117,7 +117,7 @@ module _ (m output : List ℕ) (room : ℕ) (x : Message) (g : Gateway) {n : ℕ
 
   -- the kind with that number
   named : {k : ℕ} → n ≡ k → x .kind ≡ kindOf k (originOf (x .kind)) (quantityOf (x .kind))
-  named e = sym (kind-back (x .kind)) ∙ rw (sym is ∙ e)
+  named e = sym (kind-again (x .kind)) ∙ rw (sym is ∙ e)
 
   module _ {l : Left Answer} where
     pub kind-event : n ≤ 2 → l ≡ leaving (unlessBelow (x .hour) g (settled room g (takePlain x g))) m output → l ≡ leaving (takeByKind room x g (x .kind)) m output

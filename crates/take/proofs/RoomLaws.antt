@@ -9,10 +9,10 @@ use lib.ListN.{length, take, drop, length-append, take-append-drop}
 use lib.Seq.{length-take-le}
 use borrow.Author.Tests.{le-leb, lt-leb, not-true, not-false}
 use Rattle.buffer.specs.Slice.{part, write}
-use Rattle.model.specs.Doing.{after, sent, Gives}
+use Rattle.model.specs.Doing.{sent, sentBy}
 use Rattle.model.specs.declared.Message.{Message}
 use Rattle.model.specs.declared.Site.{Site}
-use Rattle.model.specs.declared.event.Outcome.{Outcome}
+use Rattle.model.specs.declared.event.Reply.{Reply}
 use Rattle.frame.specs.declared.Sense.the-variants.{Acknowledgment, CancelAcknowledgment}
 use Rattle.memory.specs.Records.{Gateway}
 use Rattle.memory.specs.Codec.{placesAt, entryOf, entryBytes, headerFront, headerBack, encode}
@@ -52,15 +52,15 @@ module _ (site : Site) (e : Entry) {processed : Bool} (test : processed ≡ proc
   unfolding sentBack
   none-sent-by h = (rw (processed-no e (sym test ∙ not-true processed h)), omega arith)
 
-  module _ (h : not processed ≡ false) {made : Site} (site-is : made ≡ site) {done : Outcome}
-      (gives : Gives (after (e .before) (e .message .kind)) (sent made (e .before) (e .message)) done) where
-    had : sentBack site (processedOf (e ∷ [])) ≡ cond (done .sends) (done .sent ∷ []) []
-    had = rw (processed-one e (sym test ∙ not-false processed h)) (back-one e site ∙ rw (← site-is) (sym (gives .sends)))
+  module _ (h : not processed ≡ false) {made : Site} (site-is : made ≡ site) (reply : Reply)
+      (gives : sentBy reply ≡ sent made (e .before) (e .message)) where
+    had : sentBack site (processedOf (e ∷ [])) ≡ cond (reply .sends) (reply .sent ∷ []) []
+    had = rw (processed-one e (sym test ∙ not-false processed h)) (back-one e site ∙ rw (← site-is) (sym gives))
 
-    pub one-sent-by : done .sends ≡ true → (1 ≡ length (sentBack site (processedOf (e ∷ [])))) × (1 ≤ 1)
+    pub one-sent-by : reply .sends ≡ true → (1 ≡ length (sentBack site (processedOf (e ∷ [])))) × (1 ≤ 1)
     one-sent-by k = (rw (had, k), omega arith)
 
-    pub nothing-sent-by : done .sends ≡ false → (0 ≡ length (sentBack site (processedOf (e ∷ [])))) × (0 ≤ 1)
+    pub nothing-sent-by : reply .sends ≡ false → (0 ≡ length (sentBack site (processedOf (e ∷ [])))) × (0 ≤ 1)
     nothing-sent-by k = (rw (had, k), omega arith)
 
 -- counting them place by place

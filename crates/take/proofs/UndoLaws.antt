@@ -10,10 +10,10 @@ use lib.Seq.{take-suc, drop-cons, getD-append-add, length-take-le, take-all, dro
 use borrow.Author.Tests.{not-true, not-false}
 use Rattle.buffer.specs.Slice.{part, write}
 use Rattle.buffer.proofs.Writes.{write-nil, write-join, length-write}
-use Rattle.model.specs.Doing.{after, sent, Gives}
+use Rattle.model.specs.Doing.{sent, sentBy}
 use Rattle.model.specs.declared.Message.{Message}
 use Rattle.model.specs.declared.Site.{Site}
-use Rattle.model.specs.declared.event.Outcome.{Outcome}
+use Rattle.model.specs.declared.event.Reply.{Reply}
 use Rattle.frame.specs.Writing.{written}
 use Rattle.memory.specs.Records.{Gateway, siteOf}
 use Rattle.memory.specs.Codec.{entryOf, entryBytes}
@@ -25,8 +25,8 @@ use Rattle.memory.proofs.Places.{all-back}
 use Rattle.gateway.specs.Effects.{bytesOfFrames, framesFor, withQueue, withState, sentAll}
 use Rattle.gateway.specs.Undoing.{processedOf, pendingEntry, undone, sentBack, rolledBack}
 use Rattle.effects.specs.Placed.{Placed}
-use Rattle.effects.specs.Sending.{MaySend, Sends}
 use Rattle.effects.specs.declared.Sending.{Sending}
+use Rattle.effects.proofs.Stores.{MaySend, Sends}
 use Rattle.effects.proofs.PlacedLaws.{placed-inside, placed-count, placed-entry, placed-state, placed-sent, placed-replaced}
 use Rattle.take.specs.Undone.{sentByEntries, MaySendBack, SentBack, Between, undoneFrom}
 use Rattle.take.proofs.RollbackLaws.{processed-one, processed-no, back-one, back-more, back-append, rolled-none, rolled-one, rolled-more, rolled-settings, rolled-outstanding, rolled-with-queue, bytes-more}
@@ -72,8 +72,8 @@ module _ {before memory output : List ℕ} {g : Gateway} {s : Sending} {e : Entr
       rw (processed-no e (sym test ∙ not-true processed h))
       (record { placed = rw (rolled-none g) (may .placed); put = sym (write-nil (s .written) output); position = omega arith })
 
-  module _ (h : not processed ≡ false) {site : Site} (site-is : site ≡ siteOf (s .header .settings)) {done : Outcome}
-      (gives : Gives (after (e .before) (e .message .kind)) (sent site (e .before) (e .message)) done) where
+  module _ (h : not processed ≡ false) {site : Site} (site-is : site ≡ siteOf (s .header .settings)) (reply : Reply)
+      (gives : sentBy reply ≡ sent site (e .before) (e .message)) where
     -- the state before it
     abbrev restored : Sending
     restored = record {
@@ -94,31 +94,31 @@ module _ {before memory output : List ℕ} {g : Gateway} {s : Sending} {e : Entr
     is-processed : processedOf (e ∷ []) ≡ e ∷ []
     is-processed = processed-one e (sym test ∙ not-false processed h)
 
-    had-sent : sent (siteOf (g .settings)) (e .before) (e .message) ≡ cond (done .sends) (done .sent ∷ []) []
-    had-sent = rw (← settings-are, ← site-is) (sym (gives .sends))
+    had-sent : sent (siteOf (g .settings)) (e .before) (e .message) ≡ cond (reply .sends) (reply .sent ∷ []) []
+    had-sent = rw (← settings-are, ← site-is) (sym gives)
 
-    messages : sentByEntries g (e ∷ []) ≡ cond (done .sends) (done .sent ∷ []) []
+    messages : sentByEntries g (e ∷ []) ≡ cond (reply .sends) (reply .sent ∷ []) []
     messages = rw is-processed (back-one e (siteOf (g .settings)) ∙ had-sent)
 
-    rolled : rolledBack (processedOf (e ∷ [])) g ≡ sentAll true (cond (done .sends) (done .sent ∷ []) []) (withState (e .before) g)
+    rolled : rolledBack (processedOf (e ∷ [])) g ≡ sentAll true (cond (reply .sends) (reply .sent ∷ []) []) (withState (e .before) g)
     rolled = rw is-processed (rolled-one e g ∙ rw had-sent)
 
     placed-restored : Placed before memory (restored .header) (withState (e .before) g)
     placed-restored = placed-state (may .placed) (fits .before) refl
 
-    pub only-restored : not (done .sends) ≡ true → SentBack before (rolledBack (processedOf (e ∷ [])) g) memory output output s (sentByEntries g (e ∷ [])) restored
+    pub only-restored : not (reply .sends) ≡ true → SentBack before (rolledBack (processedOf (e ∷ [])) g) memory output output s (sentByEntries g (e ∷ [])) restored
     unfolding bytesOfFrames sentAll
     only-restored k =
-        rw (rolled, messages, not-true (done .sends) k)
+        rw (rolled, messages, not-true (reply .sends) k)
         (record { placed = placed-restored; put = sym (write-nil (s .written) output); position = omega arith })
 
-    module _ (k : not (done .sends) ≡ false) where
-      one-message : sentByEntries g (e ∷ []) ≡ done .sent ∷ []
-      one-message = messages ∙ rw (not-false (done .sends) k)
+    module _ (k : not (reply .sends) ≡ false) where
+      one-message : sentByEntries g (e ∷ []) ≡ reply .sent ∷ []
+      one-message = messages ∙ rw (not-false (reply .sends) k)
 
-      all-cancelled : All Cancelled (done .sent ∷ [])
+      all-cancelled : All Cancelled (reply .sent ∷ [])
       all-cancelled =
-          subst (λ (l : List Message). All Cancelled l) (had-sent ∙ rw (not-false (done .sends) k))
+          subst (λ (l : List Message). All Cancelled l) (had-sent ∙ rw (not-false (reply .sends) k))
           (sent-cancelled (g .settings) (may .placed .fits .header .settings) (e .message) (fits .message) (e .before))
 
       the-fits : {ms : List Message} {x : Message} → All Cancelled (x ∷ ms) → MessageFits x
@@ -133,26 +133,26 @@ module _ {before memory output : List ℕ} {g : Gateway} {s : Sending} {e : Entr
       place-left : s .header .outstanding < s .header .settings .u
       place-left = rw settings-are (omega (arith, places-left, outstanding-is))
 
-      one-bytes : cancelBytes (done .sent ∷ []) ≡ written (frameIf true (done .sent))
+      one-bytes : cancelBytes (reply .sent ∷ []) ≡ written (frameIf true (reply .sent))
       unfolding bytesOfFrames
-      one-bytes = append-nil (written (frameIf true (done .sent)))
+      one-bytes = append-nil (written (frameIf true (reply .sent)))
 
-      bytes-room : s .written + length (written (frameIf true (done .sent))) ≤ length output
+      bytes-room : s .written + length (written (frameIf true (reply .sent))) ≤ length output
       bytes-room = rw (one-message, one-bytes) at (may .bytes)
 
-      pub may-send : MaySend memory output restored true (done .sent)
+      pub may-send : MaySend memory output restored true (reply .sent)
       may-send =
           let i = placed-inside (may .placed) in
           let p = place-left in
           record { place = omega (arith, i .long); counted = omega (arith, i .u); room = bytes-room }
 
-      pub sent-one : {memory′ output′ : List ℕ} {r : Sending} → Sends memory output memory′ output′ restored true (done .sent) r
+      pub sent-one : {memory′ output′ : List ℕ} {r : Sending} → Sends memory output memory′ output′ restored true (reply .sent) r
           → SentBack before (rolledBack (processedOf (e ∷ [])) g) memory′ output output′ s (sentByEntries g (e ∷ [])) r
       unfolding sentAll
       sent-one x =
-          rw (rolled, one-message, not-false (done .sends) k)
+          rw (rolled, one-message, not-false (reply .sends) k)
           (record {
-            placed = placed-sent placed-restored true (done .sent) (the-fits all-cancelled) place-left (x .stored) (x .header);
+            placed = placed-sent placed-restored true (reply .sent) (the-fits all-cancelled) place-left (x .stored) (x .header);
             put = x .put ∙ rw one-bytes;
             position = x .position ∙ rw one-bytes;
           })

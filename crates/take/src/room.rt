@@ -9,7 +9,7 @@ use memory::place::read_entry;
 use memory::rules::is_processed;
 use memory::rules::site_of;
 use model::Message;
-use model::event::perform;
+use model::event::reply_to;
 ghost use mathlib.Core.Path.{_≡_};
 ghost use mathlib.Core.Bool.{_&&_};
 ghost use mathlib.Core.List.{List, [], _∷_, _++_};
@@ -81,8 +81,8 @@ fn sent_by(header: Header, entry: Entry) -> usize
     let settings = header.settings;
     let before = entry.before;
     let message = entry.message;
-    let outcome = perform(site_of(settings), before, message);
-    if outcome.sends {
+    let reply = reply_to(site_of(settings), before, message);
+    if reply.sends {
         return 1;
     }
     0

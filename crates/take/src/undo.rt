@@ -1,13 +1,15 @@
 // Undoing processed events, the latest first: each is pending again, the state is restored, and a cancel is sent for what it had sent.
 use effects::Sending;
 use effects::insert::pending;
-use effects::send::send;
+use effects::send::header_sent;
+use effects::send::outstanding_at;
+use effects::send::put_sent;
 use memory::Entry;
 use memory::place::read_entry;
 use memory::place::write_entry;
 use memory::rules::is_processed;
 use memory::rules::site_of;
-use model::event::perform;
+use model::event::reply_to;
 ghost use mathlib.Core.List.{List, [], _∷_, _++_};
 ghost use Prim.Native.Nat.{ℕ, _≤_};
 ghost use lib.ListN.{length, drop};
@@ -62,16 +64,22 @@ pub fn undo_entry(memory: &mut [u8], output: &mut [u8], sending: Sending, entry:
     let settings = header.settings;
     let before = entry.before;
     let message = entry.message;
-    let outcome = perform(site_of(settings), before, message);
+    let reply = reply_to(site_of(settings), before, message);
     let mut next = header;
     next.state = before;
     let restored = Sending {
         header: next,
         written: sending.written,
     };
-    if !outcome.sends {
+    if !reply.sends {
         return restored;
     }
-    let sent = outcome.sent;
-    send(memory, output, restored, true, sent)
+    let sent = reply.sent;
+    let place = outstanding_at(next);
+    let written = put_sent(memory, output, place, sending.written, true, sent);
+    let after = header_sent(next, sent.hour);
+    Sending {
+        header: after,
+        written,
+    }
 }

@@ -11,10 +11,11 @@ use lib.Seq.{length-take-le}
 use borrow.Author.Tests.{le-leb, leb-true, not-true, not-false}
 use Rattle.buffer.specs.Slice.{part, write}
 use Rattle.buffer.proofs.Writes.{write-nil}
-use Rattle.model.specs.Doing.{after, sent, sentBy, Gives}
+use Rattle.model.specs.Doing.{after, sent, sentBy}
 use Rattle.model.specs.declared.Message.{Message}
+use Rattle.model.specs.declared.State.{State}
 use Rattle.model.specs.declared.Site.{Site}
-use Rattle.model.specs.declared.event.Outcome.{Outcome}
+use Rattle.model.specs.declared.event.Reply.{Reply}
 use Rattle.memory.specs.Records.{Gateway, headerOf, siteOf}
 use Rattle.memory.specs.Codec.{entryOf, entryBytes, placesAt}
 use Rattle.memory.specs.Ranges.{RangedState}
@@ -74,34 +75,35 @@ place-below memory {place} {queued} h f n =
     omega (arith, first-bound (hasMark Pending) es, length-read entryOf 64 memory (256 + 64 * place) (queued - place))
 
 -- what is sent beside the rest of a gateway
-module _ (o : Outcome) (g : Gateway) where
+module _ (reply : Reply) (g : Gateway) where
   sent-fits : (room : ℕ) → length (g .queue) ≤ g .settings .q
-      → fits room (record { gateway = sentAll false (sentBy o) g; frames = framesFor false (sentBy o) })
-      ≡ (leb (length (g .outstanding) + length (sentBy o)) (g .settings .u) && leb (length (bytesOfFrames (framesFor false (sentBy o)))) room)
+      → fits room (record { gateway = sentAll false (sentBy reply) g; frames = framesFor false (sentBy reply) })
+      ≡ (leb (length (g .outstanding) + length (sentBy reply)) (g .settings .u) && leb (length (bytesOfFrames (framesFor false (sentBy reply)))) room)
   unfolding fits sentAll sentOne
-  sent-fits room h = by-case (o .sends)
+  sent-fits room h = by-case (reply .sends)
     where
-      by-case : (b : Bool) → fits room (record { gateway = sentAll false (cond b (o .sent ∷ []) []) g; frames = framesFor false (cond b (o .sent ∷ []) []) })
-          ≡ (leb (length (g .outstanding) + length (cond b (o .sent ∷ []) [])) (g .settings .u) && leb (length (bytesOfFrames (framesFor false (cond b (o .sent ∷ []) [])))) room)
+      by-case : (b : Bool) → fits room (record { gateway = sentAll false (cond b (reply .sent ∷ []) []) g; frames = framesFor false (cond b (reply .sent ∷ []) []) })
+          ≡ (leb (length (g .outstanding) + length (cond b (reply .sent ∷ []) [])) (g .settings .u) && leb (length (bytesOfFrames (framesFor false (cond b (reply .sent ∷ []) [])))) room)
       by-case true = rw (le-leb (length (g .queue)) (g .settings .q) h, length-append)
       by-case false = rw (le-leb (length (g .queue)) (g .settings .q) h, add-zero)
 
-  sent-queue : sentAll false (sentBy o) g .queue ≡ g .queue
+  sent-queue : sentAll false (sentBy reply) g .queue ≡ g .queue
   unfolding sentAll sentOne
-  sent-queue = by-case (o .sends)
+  sent-queue = by-case (reply .sends)
     where
-      by-case : (b : Bool) → sentAll false (cond b (o .sent ∷ []) []) g .queue ≡ g .queue
+      by-case : (b : Bool) → sentAll false (cond b (reply .sent ∷ []) []) g .queue ≡ g .queue
       by-case true = refl
       by-case false = refl
 
 -- the message is done, and nothing is sent yet
-abbrev pub processedIn : Outcome → Gateway → Gateway
-processedIn o g = withState (o .state) (withQueue (processedNext (g .state) (g .queue)) g)
+abbrev pub processedIn : State → Gateway → Gateway
+processedIn state g = withState state (withQueue (processedNext (g .state) (g .queue)) g)
 
 -- doing the message in queue place k
 module _ {before memory : List ℕ} {t : Turn} {g : Gateway} (reached : Reached before memory t g) {k : ℕ} (below : k < t .header .queued)
     (first : k ≡ firstWhere isPending (g .queue)) {e : Entry} (read : e ≡ entryOf (part memory (256 + 64 * k) 64))
-    {site : Site} (site-is : site ≡ siteOf (t .header .settings)) {o : Outcome} (gives : Gives (after (t .header .state) (e .message .kind)) (sent site (t .header .state) (e .message)) o) where
+    {site : Site} (site-is : site ≡ siteOf (t .header .settings)) (reply : Reply) (gives : sentBy reply ≡ sent site (t .header .state) (e .message))
+    {next : State} (next-is : next ≡ after (t .header .state) (e .message .kind)) where
   header-is : t .header ≡ headerOf g
   header-is = reached .placed .header
 
@@ -114,16 +116,16 @@ module _ {before memory : List ℕ} {t : Turn} {g : Gateway} (reached : Reached 
   pending : (rest : List Message) × (pendingOf (g .queue) ≡ e .message ∷ rest)
   pending = let n = next-message (g .queue) e inside in (n .0, rw entry-is at (n .1))
 
-  done-is : done (e .message) g ≡ record { gateway = sentAll false (sentBy o) (processedIn o g); frames = framesFor false (sentBy o) }
+  done-is : done (e .message) g ≡ record { gateway = sentAll false (sentBy reply) (processedIn next g); frames = framesFor false (sentBy reply) }
   unfolding done
-  done-is = rw (gives .state, gives .sends, site-is, header-is)
+  done-is = rw (next-is, gives, site-is, header-is)
 
-  fits-is : (room : ℕ) → fits room (done (e .message) g) ≡ roomFor (t .header) room o
+  fits-is : (room : ℕ) → fits room (done (e .message) g) ≡ roomFor (t .header) room reply
   fits-is room =
       rw (done-is, header-is)
-      (sent-fits o (processedIn o g) room (rw (processed-length (g .state) (g .queue)) (reached .placed .room .queued)))
+      (sent-fits reply (processedIn next g) room (rw (processed-length (g .state) (g .queue)) (reached .placed .room .queued)))
 
-  module _ (output : List ℕ) {has : Bool} (has-is : has ≡ roomFor (t .header) (length output - t .written) o) where
+  module _ (output : List ℕ) {has : Bool} (has-is : has ≡ roomFor (t .header) (length output - t .written) reply) where
     -- there is no room
     pub no-room : not has ≡ true → {r : Turn} → r ≡ stoppedWith 5 t → Turned (worked 1 (length output - t .written) g) before output memory output t r
     no-room n i =
@@ -136,22 +138,22 @@ module _ {before memory : List ℕ} {t : Turn} {g : Gateway} (reached : Reached 
       fitting : fits (length output - t .written) (done (e .message) g) ≡ true
       fitting = fits-is (length output - t .written) ∙ sym has-is ∙ not-false has n
 
-      work-is : worked 1 (length output - t .written) g ≡ doneBy (record { gateway = sentAll false (sentBy o) (processedIn o g); frames = framesFor false (sentBy o) })
+      work-is : worked 1 (length output - t .written) g ≡ doneBy (record { gateway = sentAll false (sentBy reply) (processedIn next g); frames = framesFor false (sentBy reply) })
       work-is = worked-one (length output - t .written) g (e .message) (pending .0) (pending .1) _ done-is fitting
 
-      proper : Proper (sentAll false (sentBy o) (processedIn o g))
+      proper : Proper (sentAll false (sentBy reply) (processedIn next g))
       proper =
           let k = work-keeps 1 (length output - t .written) (record { valid = reached .validity; ranged = reached .ranged }) in
           subst (λ (w : Progress). Proper (w .gateway)) work-is (k .gateway .proper)
 
-      new-fits : GatewayFits (sentAll false (sentBy o) (processedIn o g))
+      new-fits : GatewayFits (sentAll false (sentBy reply) (processedIn next g))
       new-fits = valid-fits _ (valid-facts _ (proper .valid)) (proper .ranged)
 
       state-is : t .header .state ≡ g .state
       state-is = ap (λ (h : Header). h .state) header-is
 
-      state-fits : RangedState (o .state)
-      state-fits = rw (gives .state, state-is) (after-ranged (reached .ranged .state) (e .message .kind))
+      state-fits : RangedState next
+      state-fits = rw (next-is, state-is) (after-ranged (reached .ranged .state) (e .message .kind))
 
       -- the entry as it is processed
       now-processed : Entry
@@ -166,8 +168,8 @@ module _ {before memory : List ℕ} {t : Turn} {g : Gateway} (reached : Reached 
       queue-is = rw (state-is, first) (sym (rw entry-is at (processed-at (g .state) (g .queue) e inside)))
 
       module _ {memory₁ : List ℕ} (stored : memory₁ ≡ write (256 + 64 * k) (entryBytes (record { message = e .message; mark = Processed; before = t .header .state })) memory)
-          {s : Sending} (s-is : s ≡ sendingAfter t o) where
-        placed-processed : Placed before memory₁ (s .header) (processedIn o g)
+          {s : Sending} (s-is : s ≡ sendingAfter t next) where
+        placed-processed : Placed before memory₁ (s .header) (processedIn next g)
         unfolding now-processed
         placed-processed =
             let p = reached .placed in
@@ -180,10 +182,10 @@ module _ {before memory : List ℕ} {t : Turn} {g : Gateway} (reached : Reached 
             in
             placed-state two state-fits (ap (λ (x : Sending). x .header) s-is)
 
-        pub event-done : {memory₂ output₂ : List ℕ} {r : Sending} → SendsAll memory₁ output memory₂ output₂ s o r
+        pub event-done : {memory₂ output₂ : List ℕ} {r : Sending} → SendsAll memory₁ output memory₂ output₂ s reply r
             → Turned (worked 1 (length output - t .written) g) before output memory₂ output₂ t (record { header = r .header; written = r .written; place = k + 1; why = 0 })
         event-done sends =
-            let a = sends before (processedIn o g) placed-processed new-fits in
+            let a = sends before (processedIn next g) placed-processed new-fits in
             let at : s .written ≡ t .written = ap (λ (x : Sending). x .written) s-is in
             let place : k + 1 ≡ suc (firstWhere isPending (g .queue)) = omega (arith, first) in
             rw work-is
@@ -192,8 +194,8 @@ module _ {before memory : List ℕ} {t : Turn} {g : Gateway} (reached : Reached 
                 placed = a .placed;
                 validity = proper .valid;
                 ranged = proper .ranged;
-                behind = rw (sent-queue o (processedIn o g), processed-length (g .state) (g .queue)) (omega (arith, first, inside));
-                next = rw (sent-queue o (processedIn o g), place) (next-behind (g .state) (g .queue) inside);
+                behind = rw (sent-queue reply (processedIn next g), processed-length (g .state) (g .queue)) (omega (arith, first, inside));
+                next = rw (sent-queue reply (processedIn next g), place) (next-behind (g .state) (g .queue) inside);
               };
               why = refl;
               put = rw at at (a .put);
@@ -201,13 +203,13 @@ module _ {before memory : List ℕ} {t : Turn} {g : Gateway} (reached : Reached 
             })
 
 -- what sending it asks for
-module _ {memory output : List ℕ} {t : Turn} (ready : Ready memory output t) {o : Outcome} {has : Bool} (has-is : has ≡ roomFor (t .header) (length output - t .written) o)
+module _ {memory output : List ℕ} {t : Turn} (ready : Ready memory output t) {reply : Reply} {has : Bool} (has-is : has ≡ roomFor (t .header) (length output - t .written) reply)
     (n : not has ≡ false) where
-  pub may-send-all : {memory₁ : List ℕ} {s : Sending} → length memory₁ ≡ length memory → s ≡ sendingAfter t o → MaySendAll memory₁ output s o
+  pub may-send-all : {memory₁ : List ℕ} {next : State} {s : Sending} → length memory₁ ≡ length memory → s ≡ sendingAfter t next → MaySendAll memory₁ output s reply
   may-send-all long s-is =
-      let there-is : roomFor (t .header) (length output - t .written) o ≡ true = sym has-is ∙ not-false has n in
-      let places = leb (t .header .outstanding + length (sentBy o)) (t .header .settings .u) in
-      let bytes = leb (length (bytesOfFrames (framesFor false (sentBy o)))) (length output - t .written) in
-      let a = leb-true (t .header .outstanding + length (sentBy o)) (t .header .settings .u) (and-left places bytes there-is) in
-      let b = leb-true (length (bytesOfFrames (framesFor false (sentBy o)))) (length output - t .written) (and-right places bytes there-is) in
+      let there-is : roomFor (t .header) (length output - t .written) reply ≡ true = sym has-is ∙ not-false has n in
+      let places = leb (t .header .outstanding + length (sentBy reply)) (t .header .settings .u) in
+      let bytes = leb (length (bytesOfFrames (framesFor false (sentBy reply)))) (length output - t .written) in
+      let a = leb-true (t .header .outstanding + length (sentBy reply)) (t .header .settings .u) (and-left places bytes there-is) in
+      let b = leb-true (length (bytesOfFrames (framesFor false (sentBy reply)))) (length output - t .written) (and-right places bytes there-is) in
       rw s-is (record { long = rw long (ready .long); outstanding-places = ready .outstanding-places; outstanding = a; room = omega (arith, b, ready .written) })

@@ -7,7 +7,8 @@ use lib.Dec.{leb}
 use lib.ListN.{length, drop}
 use Rattle.buffer.specs.Slice.{write}
 use Rattle.model.specs.Doing.{sentBy}
-use Rattle.model.specs.declared.event.Outcome.{Outcome}
+use Rattle.model.specs.declared.State.{State}
+use Rattle.model.specs.declared.event.Reply.{Reply}
 use Rattle.memory.specs.Records.{Gateway}
 use Rattle.memory.specs.Layout.{sizeFor}
 use Rattle.memory.specs.Fits.{GatewayFits}
@@ -63,11 +64,11 @@ abbrev pub stoppedWith : ℕ → Turn → Turn
 stoppedWith why t = record { header = t .header; written = t .written; place = t .place; why = why }
 
 -- the header with the state after a message, and the bytes of output so far
-abbrev pub sendingAfter : Turn → Outcome → Sending
-sendingAfter t o = record {
+abbrev pub sendingAfter : Turn → State → Sending
+sendingAfter t state = record {
   header = record {
     settings = t .header .settings;
-    state = o .state;
+    state = state;
     agreed = t .header .agreed;
     round = t .header .round;
     queued = t .header .queued;
@@ -77,24 +78,24 @@ sendingAfter t o = record {
 }
 
 -- there are outstanding places and bytes of output for what doing a message sends
-abbrev pub roomFor : Header → ℕ → Outcome → Bool
-roomFor h room o =
-    leb (h .outstanding + length (sentBy o)) (h .settings .u) && leb (length (bytesOfFrames (framesFor false (sentBy o)))) room
+abbrev pub roomFor : Header → ℕ → Reply → Bool
+roomFor h room reply =
+    leb (h .outstanding + length (sentBy reply)) (h .settings .u) && leb (length (bytesOfFrames (framesFor false (sentBy reply)))) room
 
 -- the same of the memory and the output
-pub record MaySendAll (memory output : List ℕ) (s : Sending) (o : Outcome) : Type 0 where
+pub record MaySendAll (memory output : List ℕ) (s : Sending) (reply : Reply) : Type 0 where
   pub long : sizeFor (s .header .settings .q) (s .header .settings .u) ≤ length memory
   pub outstanding-places : s .header .settings .u ≤ 512
-  pub outstanding : s .header .outstanding + length (sentBy o) ≤ s .header .settings .u
-  pub room : s .written + length (bytesOfFrames (framesFor false (sentBy o))) ≤ length output
+  pub outstanding : s .header .outstanding + length (sentBy reply) ≤ s .header .settings .u
+  pub room : s .written + length (bytesOfFrames (framesFor false (sentBy reply))) ≤ length output
 
 -- what doing a message sends is sent, behind what was written before
-pub record SentAll (before : List ℕ) (g : Gateway) (output memory′ output′ : List ℕ) (s : Sending) (o : Outcome) (r : Sending) : Type 0 where
-  pub placed : Placed before memory′ (r .header) (sentAll false (sentBy o) g)
-  pub put : output′ ≡ write (s .written) (bytesOfFrames (framesFor false (sentBy o))) output
-  pub written : r .written ≡ s .written + length (bytesOfFrames (framesFor false (sentBy o)))
+pub record SentAll (before : List ℕ) (g : Gateway) (output memory′ output′ : List ℕ) (s : Sending) (reply : Reply) (r : Sending) : Type 0 where
+  pub placed : Placed before memory′ (r .header) (sentAll false (sentBy reply) g)
+  pub put : output′ ≡ write (s .written) (bytesOfFrames (framesFor false (sentBy reply))) output
+  pub written : r .written ≡ s .written + length (bytesOfFrames (framesFor false (sentBy reply)))
 
 -- so for every gateway that the memory may hold
-abbrev pub SendsAll : List ℕ → List ℕ → List ℕ → List ℕ → Sending → Outcome → Sending → Type 0
-SendsAll memory output memory′ output′ s o r =
-    (before : List ℕ) (g : Gateway) → Placed before memory (s .header) g → GatewayFits (sentAll false (sentBy o) g) → SentAll before g output memory′ output′ s o r
+abbrev pub SendsAll : List ℕ → List ℕ → List ℕ → List ℕ → Sending → Reply → Sending → Type 0
+SendsAll memory output memory′ output′ s reply r =
+    (before : List ℕ) (g : Gateway) → Placed before memory (s .header) g → GatewayFits (sentAll false (sentBy reply) g) → SentAll before g output memory′ output′ s reply r

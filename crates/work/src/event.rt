@@ -1,7 +1,9 @@
 // One event of work: 6 where no plain message is unprocessed, 5 where there is no room for what the next one sends, else it is done.
 use crate::Turn;
 use effects::Sending;
-use effects::send::send;
+use effects::send::header_sent;
+use effects::send::outstanding_at;
+use effects::send::put_sent;
 use frame::tables::whole_length;
 use frame::writer::map_of;
 use gateway::places::next_marked;
@@ -12,8 +14,10 @@ use memory::place::read_entry;
 use memory::place::write_entry;
 use memory::rules::frame_if;
 use memory::rules::site_of;
-use model::event::Outcome;
-use model::event::perform;
+use model::State;
+use model::event::Reply;
+use model::event::reply_to;
+use model::event::state_after;
 ghost use mathlib.Core.Path.{_≡_};
 ghost use Prim.Native.Nat.{_<_, _≤_};
 ghost use Rattle.work.specs.Turns.{Ready, Turns, TurnsAt, stoppedWith, sendingAfter, roomFor, MaySendAll, SendsAll};
@@ -42,8 +46,8 @@ fn work_at(memory: &mut [u8], output: &mut [u8], turn: Turn, k: usize) -> Turn
     let at = 256 + 64 * k;
     let entry = read_entry(memory, at);
     let message = entry.message;
-    let outcome = perform(site_of(settings), state, message);
-    if !has_room(header, output.len() - turn.written, outcome) {
+    let reply = reply_to(site_of(settings), state, message);
+    if !has_room(header, output.len() - turn.written, reply) {
         return stopped(turn, 5);
     }
     let done = Entry {
@@ -52,7 +56,9 @@ fn work_at(memory: &mut [u8], output: &mut [u8], turn: Turn, k: usize) -> Turn
         before: state,
     };
     write_entry(memory, at, done);
-    let sending = send_outcome(memory, output, sending_after(turn, outcome), outcome);
+    let kind = message.kind;
+    let after = state_after(state, kind);
+    let sending = send_reply(memory, output, sending_after(turn, after), reply);
     let next = sending.header;
     Turn {
         header: next,
@@ -63,11 +69,10 @@ fn work_at(memory: &mut [u8], output: &mut [u8], turn: Turn, k: usize) -> Turn
 }
 
 // The header with the state after a message, and the bytes of output so far.
-fn sending_after(turn: Turn, outcome: Outcome) -> Sending
-    ensures { λ r. ⌜ r ≡ sendingAfter turn outcome ⌝ }
+fn sending_after(turn: Turn, state: State) -> Sending
+    ensures { λ r. ⌜ r ≡ sendingAfter turn state ⌝ }
 {
     let mut header = turn.header;
-    let state = outcome.state;
     header.state = state;
     Sending {
         header,
@@ -76,31 +81,38 @@ fn sending_after(turn: Turn, outcome: Outcome) -> Sending
 }
 
 // Whether there are outstanding places and bytes of output for what doing a message sends.
-fn has_room(header: Header, room: usize, outcome: Outcome) -> bool
+fn has_room(header: Header, room: usize, reply: Reply) -> bool
     requires { ⌜ header .outstanding ≤ header .settings .u ⌝ }
-    ensures { λ r. ⌜ r ≡ roomFor header room outcome ⌝ }
+    ensures { λ r. ⌜ r ≡ roomFor header room reply ⌝ }
 {
-    if !outcome.sends {
+    if !reply.sends {
         return true;
     }
     let settings = header.settings;
     if header.outstanding >= settings.u {
         return false;
     }
-    let message = outcome.sent;
+    let message = reply.sent;
     whole_length(map_of(frame_if(false, message))) <= room
 }
 
 // Sends what doing a message sends.
-fn send_outcome(memory: &mut [u8], output: &mut [u8], sending: Sending, outcome: Outcome) -> Sending
-    requires { ⌜ MaySendAll (now memory) (now output) sending outcome ⌝ }
-    ensures { λ r. ⌜ SendsAll (now (memory .entry)) (now (output .entry)) (now (memory .exit)) (now (output .exit)) sending outcome r ⌝ }
+fn send_reply(memory: &mut [u8], output: &mut [u8], sending: Sending, reply: Reply) -> Sending
+    requires { ⌜ MaySendAll (now memory) (now output) sending reply ⌝ }
+    ensures { λ r. ⌜ SendsAll (now (memory .entry)) (now (output .entry)) (now (memory .exit)) (now (output .exit)) sending reply r ⌝ }
 {
-    if !outcome.sends {
+    if !reply.sends {
         return sending;
     }
-    let message = outcome.sent;
-    send(memory, output, sending, false, message)
+    let message = reply.sent;
+    let header = sending.header;
+    let place = outstanding_at(header);
+    let written = put_sent(memory, output, place, sending.written, false, message);
+    let after = header_sent(header, message.hour);
+    Sending {
+        header: after,
+        written,
+    }
 }
 
 // Work that stops, with that number.

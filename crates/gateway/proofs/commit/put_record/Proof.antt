@@ -4,35 +4,25 @@ use borrow.Author.Needs.{needs}
 use Rattle.gateway.proofs.commit.put_record.Statement.{statement}
 use Rattle.gateway.proofs.commit.put_record.Tie as tie
 
-site-of-requires : tie.Need-site-of-requires
-site-of-requires c κs = search needs
-
-perform-requires : tie.Need-perform-requires
-perform-requires c κs = search needs
+state-after-requires : tie.Need-state-after-requires
+state-after-requires c κs = search needs
 
 frame-if-requires : tie.Need-frame-if-requires
 frame-if-requires c κs = search needs
 
 put-frame-requires : tie.Need-put-frame-requires
-put-frame-requires c κs = frame-room (c .before .before .before .before .before .before .before .before .before .args .entry) (c .before .before .before .before .before .before .before .before .before .args .output .now) (c .before .before .before .before .before .before .before .before .before .pre) (c .frame-if .ensures)
+put-frame-requires c κs = frame-room (c .before .before .before .before .before .args .entry) (c .before .before .before .before .before .args .output .now) (c .before .before .before .before .before .pre) (c .frame-if .ensures)
 
 write-state-requires : tie.Need-write-state-requires
-write-state-requires c κs = state-room (c .before .before .before .before .before .before .before .before .before .before .before .before .before .args .entry) (c .before .before .before .before .before .before .before .before .before .before .before .before .before .args .output .now) (c .before .before .before .before .before .before .before .before .before .before .before .before .before .pre) (c .before .before .before .before .frame-if .ensures) (c .before .before .before .put-frame .ensures)
+write-state-requires c κs = state-room (c .before .before .before .before .before .before .before .before .before .args .entry) (c .before .before .before .before .before .before .before .before .before .args .output .now) (c .before .before .before .before .before .before .before .before .before .pre) (c .before .before .before .before .frame-if .ensures) (c .before .before .before .put-frame .ensures)
 
 same-length : tie.Need-same-length
 same-length c = search needs
 
 returns : tie.Need-returns
-returns c = record-put (c .before .before .before .before .before .before .before .before .before .before .before .before .before .before .before .before .args .entry) (c .before .before .before .before .before .before .before .before .before .before .before .before .before .before .before .before .args .output .now) (c .before .before .before .before .before .before .before .before .before .before .before .before .before .before .before .before .pre) (c .before .before .before .before .before .before .before .frame-if .ensures) (c .before .before .before .before .before .before .put-frame .ensures) (c .before .before .before .before .before .before .before .before .before .before .perform .ensures) (c .before .before .write-state .ensures)
+returns c = record-put (c .before .before .before .before .before .before .before .before .before .before .before .before .args .entry) (c .before .before .before .before .before .before .before .before .before .before .before .before .args .output .now) (c .before .before .before .before .before .before .before .before .before .before .before .before .pre) (c .before .before .before .before .before .before .before .frame-if .ensures) (c .before .before .before .before .before .before .put-frame .ensures) (c .before .before .before .before .before .before .before .before .before .state-after .ensures) (c .before .before .write-state .ensures)
 
 pub put-record-spec : {M : Type 1} → statement M
 put-record-spec =
     tie.close
-    (tie.spec
-    site-of-requires
-    perform-requires
-    frame-if-requires
-    put-frame-requires
-    write-state-requires
-    same-length
-    returns)
+    (tie.spec state-after-requires frame-if-requires put-frame-requires write-state-requires same-length returns)

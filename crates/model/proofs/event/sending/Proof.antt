@@ -1,7 +1,7 @@
 -- `model::event::sending` meets its contract.
 use borrow.Author.Needs.{needs}
 use native.Mathlib.Omega.{arith}
-use Rattle.model.proofs.Outcomes.{past, in-time}
+use Rattle.model.proofs.Replies.{past, in-time}
 use Rattle.model.proofs.event.sending.Statement.{statement}
 use Rattle.model.proofs.event.sending.Tie as tie
 
@@ -20,12 +20,12 @@ silent-requires c κs = search needs
 returns : tie.Need-returns
 returns c = search (past, arith)
 
-cast-t13 : tie.Need-cast-t13
-cast-t13 c = search needs
+cast-t12 : tie.Need-cast-t12
+cast-t12 c = search needs
 
 returns-2 : tie.Need-returns-2
 returns-2 c = search (in-time, arith)
 
 pub sending-spec : {M : Type 1} → statement M
 sending-spec =
-    tie.close (tie.spec cast-hour add-hour cast-if1 silent-requires returns cast-t13 returns-2)
+    tie.close (tie.spec cast-hour add-hour cast-if1 silent-requires returns cast-t12 returns-2)

@@ -13,14 +13,14 @@ returns c = none-sent-by _ (c .before .before .args .entry) (c .before .is-proce
 site-of-requires : tie.Need-site-of-requires
 site-of-requires c κs = search needs
 
-perform-requires : tie.Need-perform-requires
-perform-requires c κs = search needs
+reply-to-requires : tie.Need-reply-to-requires
+reply-to-requires c κs = search needs
 
 returns-2 : tie.Need-returns-2
-returns-2 c = one-sent-by _ (c .before .before .before .before .before .before .before .before .args .entry) (c .before .before .before .before .before .before .before .is-processed .ensures) (c .before .before .before .before .before .before .if1 .left) (c .before .before .site-of .ensures) (c .before .perform .ensures) (c .if2 .taken)
+returns-2 c = one-sent-by _ (c .before .before .before .before .before .before .before .before .args .entry) (c .before .before .before .before .before .before .before .is-processed .ensures) (c .before .before .before .before .before .before .if1 .left) (c .before .before .site-of .ensures) (c .before .reply-to .result) (c .before .reply-to .ensures) (c .if2 .taken)
 
 returns-3 : tie.Need-returns-3
-returns-3 c = nothing-sent-by _ (c .before .before .before .before .before .before .before .before .args .entry) (c .before .before .before .before .before .before .before .is-processed .ensures) (c .before .before .before .before .before .before .if1 .left) (c .before .before .site-of .ensures) (c .before .perform .ensures) (c .if2 .left)
+returns-3 c = nothing-sent-by _ (c .before .before .before .before .before .before .before .before .args .entry) (c .before .before .before .before .before .before .before .is-processed .ensures) (c .before .before .before .before .before .before .if1 .left) (c .before .before .site-of .ensures) (c .before .reply-to .result) (c .before .reply-to .ensures) (c .if2 .left)
 
 pub sent-by-spec : {M : Type 1} → statement M
-sent-by-spec = tie.close (tie.spec is-processed-requires returns site-of-requires perform-requires returns-2 returns-3)
+sent-by-spec = tie.close (tie.spec is-processed-requires returns site-of-requires reply-to-requires returns-2 returns-3)

@@ -6,12 +6,12 @@ use Rattle.work.proofs.event.has_room.Statement.{statement}
 use Rattle.work.proofs.event.has_room.Tie as tie
 
 returns : tie.Need-returns
-returns c = let start = c .before .before in room-for-none (start .args .header) (start .args .room) (start .args .outcome) (start .pre) (c .if1 .taken)
+returns c = let start = c .before .before in room-for-none (start .args .header) (start .args .room) (start .args .reply) (start .pre) (c .if1 .taken)
 
 returns-2 : tie.Need-returns-2
 returns-2 c =
     let start = c .before .before .before .before .before .before in
-    no-place (start .args .header) (start .args .room) (start .args .outcome) (c .before .before .before .before .if1 .left) (c .if2 .taken)
+    no-place (start .args .header) (start .args .room) (start .args .reply) (c .before .before .before .before .if1 .left) (c .if2 .taken)
 
 frame-if-requires : tie.Need-frame-if-requires
 frame-if-requires c κs = search needs
@@ -25,8 +25,8 @@ whole-length-requires c κs = search needs
 returns-3 : tie.Need-returns-3
 returns-3 c =
     let start = c .before .before .before .before .before .before .before .before .before .before in
-    room-for-one (start .args .header) (start .args .room) (start .args .outcome) (c .before .before .before .before .before .before .before .before .if1 .left)
-    (lamp-length (start .args .outcome .sent) _ (start .good .1 .1 .0 .1 .1 .1 .1 .0))
+    room-for-one (start .args .header) (start .args .room) (start .args .reply) (c .before .before .before .before .before .before .before .before .if1 .left)
+    (lamp-length (start .args .reply .sent) _ (start .good .1 .1 .0 .1 .1 .1 .0))
     (c .before .before .frame-if .ensures) (c .before .map-of .ensures) (c .whole-length .ensures) (c .before .before .before .before .if2 .left)
 
 pub has-room-spec : {M : Type 1} → statement M

@@ -1,4 +1,5 @@
 -- `work::event::work_at` meets its contract.
+use mathlib.Core.Path.{refl}
 use native.Mathlib.Omega.{arith}
 use Rattle.work.proofs.EventDone.{no-room, event-done, may-send-all}
 use borrow.Author.Needs.{needs}
@@ -17,8 +18,8 @@ read-entry-requires c κs = search needs
 site-of-requires : tie.Need-site-of-requires
 site-of-requires c κs = search needs
 
-perform-requires : tie.Need-perform-requires
-perform-requires c κs = search needs
+reply-to-requires : tie.Need-reply-to-requires
+reply-to-requires c κs = search needs
 
 sub-has-room : tie.Need-sub-has-room
 sub-has-room c = c .before .before .before .before .before .before .before .before .before .before .before .pre .0 .written
@@ -34,20 +35,23 @@ same-length c = search needs
 
 returns : tie.Need-returns
 returns c = λ before g reached first.
-    no-room reached (c .before .before .before .before .before .before .before .before .before .before .before .before .before .before .pre .1) first (c .before .before .before .before .before .before .before .read-entry .ensures) (c .before .before .before .before .before .site-of .ensures) (c .before .before .before .before .perform .ensures)
+    no-room reached (c .before .before .before .before .before .before .before .before .before .before .before .before .before .before .pre .1) first (c .before .before .before .before .before .before .before .read-entry .ensures) (c .before .before .before .before .before .site-of .ensures) (c .before .before .before .before .reply-to .result) (c .before .before .before .before .reply-to .ensures) refl
     (c .before .before .before .before .before .before .before .before .before .before .before .before .before .before .args .output .now) (c .before .before .has-room .ensures) (c .before .if1 .taken) (c .stopped .ensures)
 
 write-entry-requires : tie.Need-write-entry-requires
 write-entry-requires c κs = let ready = c .before .before .before .before .before .before .before .before .before .before .before .before .before .before .pre .0 in let below = c .before .before .before .before .before .before .before .before .before .before .before .before .before .before .pre .1 in omega (arith, ready .long, ready .queued)
 
+state-after-requires : tie.Need-state-after-requires
+state-after-requires c κs = search needs
+
 sending-after-requires : tie.Need-sending-after-requires
 sending-after-requires c κs = search needs
 
-send-outcome-requires : tie.Need-send-outcome-requires
-send-outcome-requires c κs = may-send-all (c .before .before .before .before .before .before .before .before .before .before .before .before .before .before .before .before .before .before .before .before .pre .0) (c .before .before .before .before .before .before .before .before .has-room .ensures) (c .before .before .before .before .before .before .before .if1 .left) (search needs) (c .sending-after .ensures)
+send-reply-requires : tie.Need-send-reply-requires
+send-reply-requires c κs = may-send-all (c .before .before .before .before .before .before .before .before .before .before .before .before .before .before .before .before .before .before .before .before .before .pre .0) (c .before .before .before .before .before .before .before .before .before .has-room .ensures) (c .before .before .before .before .before .before .before .before .if1 .left) (search needs) (c .sending-after .ensures)
 
-add-t15 : tie.Need-add-t15
-add-t15 c = let ready = c .before .before .before .before .before .before .before .before .before .before .before .before .before .before .before .before .before .before .before .before .before .before .before .before .before .before .pre .0 in let below = c .before .before .before .before .before .before .before .before .before .before .before .before .before .before .before .before .before .before .before .before .before .before .before .before .before .before .pre .1 in omega (arith, ready .queued, ready .queue-places)
+add-t17 : tie.Need-add-t17
+add-t17 c = let ready = c .before .before .before .before .before .before .before .before .before .before .before .before .before .before .before .before .before .before .before .before .before .before .before .before .before .before .before .pre .0 in let below = c .before .before .before .before .before .before .before .before .before .before .before .before .before .before .before .before .before .before .before .before .before .before .before .before .before .before .before .pre .1 in omega (arith, ready .queued, ready .queue-places)
 
 same-length-2 : tie.Need-same-length-2
 same-length-2 c = search needs
@@ -57,8 +61,8 @@ same-length-3 c = search needs
 
 returns-2 : tie.Need-returns-2
 returns-2 c = λ before g reached first.
-    event-done reached (c .before .before .before .before .before .before .before .before .before .before .before .before .before .before .before .before .before .before .before .before .before .before .before .before .before .before .pre .1) first (c .before .before .before .before .before .before .before .before .before .before .before .before .before .before .before .before .before .before .before .read-entry .ensures) (c .before .before .before .before .before .before .before .before .before .before .before .before .before .before .before .before .before .site-of .ensures) (c .before .before .before .before .before .before .before .before .before .before .before .before .before .before .before .before .perform .ensures)
-    (c .before .before .before .before .before .before .before .before .before .before .before .before .before .before .before .before .before .before .before .before .before .before .before .before .before .before .args .output .now) (c .before .before .before .before .before .before .before .before .before .before .before .before .before .before .has-room .ensures) (c .before .before .before .before .before .before .before .before .before .before .before .before .before .if1 .left) (c .before .before .before .before .before .before .before .before .before .before .before .write-entry .ensures) (c .before .before .before .before .before .before .sending-after .ensures) (c .before .before .before .before .before .send-outcome .ensures)
+    event-done reached (c .before .before .before .before .before .before .before .before .before .before .before .before .before .before .before .before .before .before .before .before .before .before .before .before .before .before .before .pre .1) first (c .before .before .before .before .before .before .before .before .before .before .before .before .before .before .before .before .before .before .before .before .read-entry .ensures) (c .before .before .before .before .before .before .before .before .before .before .before .before .before .before .before .before .before .before .site-of .ensures) (c .before .before .before .before .before .before .before .before .before .before .before .before .before .before .before .before .before .reply-to .result) (c .before .before .before .before .before .before .before .before .before .before .before .before .before .before .before .before .before .reply-to .ensures) (c .before .before .before .before .before .before .before .before .before .state-after .ensures)
+    (c .before .before .before .before .before .before .before .before .before .before .before .before .before .before .before .before .before .before .before .before .before .before .before .before .before .before .before .args .output .now) (c .before .before .before .before .before .before .before .before .before .before .before .before .before .before .before .has-room .ensures) (c .before .before .before .before .before .before .before .before .before .before .before .before .before .before .if1 .left) (c .before .before .before .before .before .before .before .before .before .before .before .before .write-entry .ensures) (c .before .before .before .before .before .before .sending-after .ensures) (c .before .before .before .before .before .send-reply .ensures)
 
 pub work-at-spec : {M : Type 1} → statement M
 work-at-spec =
@@ -68,16 +72,17 @@ work-at-spec =
     add-at
     read-entry-requires
     site-of-requires
-    perform-requires
+    reply-to-requires
     sub-has-room
     has-room-requires
     stopped-requires
     same-length
     returns
     write-entry-requires
+    state-after-requires
     sending-after-requires
-    send-outcome-requires
-    add-t15
+    send-reply-requires
+    add-t17
     same-length-2
     same-length-3
     returns-2)

@@ -1,0 +1,49 @@
+-- What the code's branches come to, as the state after a message and what it sends.
+use mathlib.Core.Path.{_≡_, _∙_, subst⁻¹}
+use Prim.Native.Nat.{ℕ, _+_, _-_, _≤_, _<_}
+use mathlib.Core.List.{List, [], _∷_}
+use borrow.Author.Tests.{lt-ltb, le-ltb, le-leb, lt-leb}
+use Rattle.model.specs.Doing.{after, counted, shelved, notPast, reply, sent, sentFor, requestHours, deliveryHours}
+use Rattle.model.specs.declared.Kind.{Kind}
+use Rattle.model.specs.declared.Message.{Message}
+use Rattle.model.specs.declared.State.{State}
+use Rattle.model.specs.declared.Site.{Site}
+
+module _ (site : Site) (m : Message) (hours to : ℕ) (kind : Kind) {l : List Message} where
+  -- a message past the last hour is not sent
+  pub past : site .last < m .hour + hours → l ≡ [] → l ≡ notPast (site .last) (reply site m hours to kind)
+  past h e = e ∙ rw (lt-leb (m .hour + hours) (site .last) h)
+
+  -- any other is
+  pub in-time : m .hour + hours ≤ site .last → l ≡ reply site m hours to kind ∷ [] → l ≡ notPast (site .last) (reply site m hours to kind)
+  in-time h e = e ∙ rw (le-leb (m .hour + hours) (site .last) h)
+
+-- the state after each kind
+module _ (s : State) (kind : Kind) where
+  pub one-failed : {origin n : ℕ} → kind ≡ Kind.Failure origin → n ≡ counted (s .failed) → record { stock = s .stock; failed = n; fitted = s .fitted; short = s .short } ≡ after s kind
+  one-failed e f = rw (e, f)
+
+  pub one-fitted : {origin n : ℕ} → kind ≡ Kind.Delivery origin → n ≡ counted (s .fitted) → record { stock = s .stock; failed = s .failed; fitted = n; short = s .short } ≡ after s kind
+  one-fitted e f = rw (e, f)
+
+  pub one-short : {origin n : ℕ} → kind ≡ Kind.Request origin → s .stock ≤ 0 → n ≡ counted (s .short) → record { stock = s .stock; failed = s .failed; fitted = s .fitted; short = n } ≡ after s kind
+  one-short e h f = rw (e, f, le-ltb 0 (s .stock) h)
+
+  pub one-less : {origin : ℕ} → kind ≡ Kind.Request origin → 0 < s .stock → record { stock = s .stock - 1; failed = s .failed; fitted = s .fitted; short = s .short } ≡ after s kind
+  one-less e h = rw (e, lt-ltb 0 (s .stock) h)
+
+  pub restocked : {quantity n : ℕ} → kind ≡ Kind.Restock quantity → n ≡ shelved (s .stock) quantity → record { stock = n; failed = s .failed; fitted = s .fitted; short = s .short } ≡ after s kind
+  restocked e f = rw (e, f)
+
+-- what a message of each kind sends
+module _ (site : Site) (s : State) (m : Message) {l : List Message} where
+  -- what is sent for the message's own kind
+  pub of-kind : (kind : Kind) → m .kind ≡ kind → l ≡ sentFor site s m kind → l ≡ sent site s m
+  unfolding sent
+  of-kind kind e g = subst⁻¹ (λ (k : Kind). l ≡ sentFor site s m k) e g
+
+  pub with-stock : (origin : ℕ) → m .kind ≡ Kind.Request origin → 0 < s .stock → l ≡ notPast (site .last) (reply site m deliveryHours origin (Kind.Delivery origin)) → l ≡ sent site s m
+  with-stock origin e h g = of-kind (Kind.Request origin) e (rw (lt-ltb 0 (s .stock) h) g)
+
+  pub without-stock : (origin : ℕ) → m .kind ≡ Kind.Request origin → s .stock ≤ 0 → l ≡ notPast (site .last) (reply site m requestHours (site .supplier) (Kind.Request origin)) → l ≡ sent site s m
+  without-stock origin e h g = of-kind (Kind.Request origin) e (rw (le-ltb 0 (s .stock) h) g)
