@@ -68,6 +68,12 @@ fn send(
     output.put_event(if cancel { Sense::Cancel } else { Sense::Plain }, message);
 }
 
+/// Whether the last of the messages equal to this one, before place `past`, is a cancel that waits; `None` if there is none.
+fn last_equal_waits(memory: &[u8], past: usize, message: &Message) -> Option<bool> {
+    let last = past.checked_sub(1)?;
+    (queued_message(memory, last) == *message).then(|| mark(memory, last) == WAITING)
+}
+
 pub fn take_plain(
     memory: &mut [u8],
     mut header: Header,
@@ -75,10 +81,7 @@ pub fn take_plain(
     output: &mut Output,
 ) -> Result<(), u32> {
     let past = past_equals(memory, &header, message);
-    let waits = past > 0
-        && mark(memory, past - 1) == WAITING
-        && queued_message(memory, past - 1) == *message;
-    if waits {
+    if last_equal_waits(memory, past, message) == Some(true) {
         check_room(output, WITH_SENSE)?;
         // Of equal waiting cancels the first goes; they are alike to the byte, so that any may.
         remove_place(memory, &mut header, past - 1);
@@ -104,10 +107,7 @@ pub fn take_cancel(
     output: &mut Output,
 ) -> Result<(), u32> {
     let past = past_equals(memory, &header, message);
-    let found = past > 0
-        && mark(memory, past - 1) != WAITING
-        && queued_message(memory, past - 1) == *message;
-    if found {
+    if last_equal_waits(memory, past, message) == Some(false) {
         let place = past - 1;
         check_undoing(memory, &header, place, output)?;
         let removed = entry(memory, place);
