@@ -6,9 +6,9 @@ use native.Mathlib.Omega.{arith}
 use mathlib.Core.Bool.{Bool}
 use mathlib.Core.List.{List}
 use lib.ListN.{length}
-use Rattle.buffer.specs.Slice.{write}
+use Rattle.buffer.specs.Slice.{write, Puts}
 use Rattle.model.specs.declared.Message.{Message}
-use Rattle.frame.specs.Writing.{written, Puts}
+use Rattle.frame.specs.Writing.{written}
 use Rattle.frame.specs.declared.Frame.{Frame}
 use Rattle.memory.specs.Layout.{outstandingAt}
 use Rattle.memory.specs.Codec.{sentBytes}

@@ -3,9 +3,9 @@ use mathlib.Core.Path.{_≡_}
 use Prim.Native.Nat.{ℕ, suc}
 use mathlib.Core.Bool.{Bool}
 use mathlib.Core.List.{List}
-use Rattle.buffer.specs.Slice.{write}
+use Rattle.buffer.specs.Slice.{write, Puts}
 use Rattle.model.specs.declared.Message.{Message}
-use Rattle.frame.specs.Writing.{written, Puts}
+use Rattle.frame.specs.Writing.{written}
 use Rattle.memory.specs.Codec.{sentBytes}
 use Rattle.memory.specs.Validity.{frameIf}
 use Rattle.memory.specs.declared.Header.{Header}

@@ -1,16 +1,17 @@
 -- Laws of what the writer puts into an output.
 use mathlib.Core.Path.{_≡_, refl, sym, _∙_, ap}
 use Prim.Native.Nat.{ℕ, zero, suc, _+_, _/_, _%_, _<_, _≤_}
-use native.Mathlib.Nat.{add-zero, zero-add, add-assoc}
+use native.Mathlib.Nat.{zero-add}
 use native.Mathlib.Omega.{arith}
 use mathlib.Core.Bool.{Bool, true, false, cond, not}
 use mathlib.Core.List.{List, [], _∷_, _++_, append-assoc, append-nil, map as mapped}
 use lib.Dec.{leb, eqb}
 use lib.ListN.{length, set, length-append}
 use borrow.Author.Tests.{le-leb, lt-leb, eq-eqb, ne-eqb, not-true, not-false}
-use Rattle.buffer.specs.Slice.{write}
+use Rattle.buffer.specs.Slice.{write, Puts}
 use Rattle.buffer.specs.Number.{bytesOf}
-use Rattle.buffer.proofs.Writes.{write-nil, set-write, write-snoc, write-join, length-write}
+use Rattle.buffer.proofs.Putting.{puts-nothing, puts-byte, puts-more}
+use Rattle.buffer.proofs.Writes.{set-write, write-snoc, write-join}
 use Rattle.buffer.proofs.Numbers.{length-bytesOf}
 use Rattle.model.specs.Messages.{kindNumber, originOf, quantityOf}
 use Rattle.model.specs.declared.Kind.{Kind}
@@ -18,7 +19,7 @@ use Rattle.model.specs.declared.Kind.the-variants.{Failure, Request, Delivery, 
 use Rattle.model.specs.declared.Message.{Message}
 use Rattle.frame.specs.Layout.{widths, odd, standing, total, joined, wholeLength}
 use Rattle.frame.specs.Kinds.{mapOf, mapOfKind, senseNumber}
-use Rattle.frame.specs.Writing.{contents, written, wellFormed, writing, Puts, Outcome}
+use Rattle.frame.specs.Writing.{contents, written, wellFormed, writing, Outcome}
 use Rattle.frame.specs.Steps.{headBytes, lampBytes, bodyOf, bodyBytes, senseBytes}
 use Rattle.frame.specs.declared.Frame.{Frame}
 use Rattle.frame.specs.declared.Sense.{Sense}
@@ -29,19 +30,8 @@ pub one-byte : (n : ℕ) → n < 256 → bytesOf 1 n ≡ n ∷ []
 unfolding bytesOf
 one-byte n h = ap (λ (x : ℕ). x ∷ []) (omega arith)
 
-pub puts-none : (at : ℕ) (m : List ℕ) → Puts at [] m m at
-puts-none at m = record { position = omega arith; output = sym (write-nil at m) }
-
 pub puts-as : {at behind : ℕ} {xs ys m after : List ℕ} → Puts at xs m after behind → xs ≡ ys → Puts at ys m after behind
 puts-as p e = record { position = p .position ∙ rw e; output = p .output ∙ rw e }
-
--- bytes put behind others
-pub puts-join : {at middle behind : ℕ} {xs ys m between after : List ℕ} → Puts at xs m between middle → Puts middle ys between after behind
-    → at + length xs ≤ length m → Puts at (xs ++ ys) m after behind
-puts-join {at} {xs = xs} {ys = ys} {m = m} p q h = record {
-  position = q .position ∙ rw (p .position, length-append, add-assoc);
-  output = q .output ∙ rw (p .position, p .output) (write-join at xs ys m h);
-}
 
 length-head : (map : ℕ) (m : Message) → length (headBytes map m) ≡ 4
 unfolding headBytes
@@ -74,7 +64,7 @@ lamp-put at origin lamp m room size small e = record {
 module _ {sense number : ℕ} (e : number ≡ sense) (at : ℕ) (m : List ℕ) where
   pub sense-absent : number ≡ 0 → Puts at (senseBytes sense) m m at
   unfolding senseBytes
-  sense-absent z = puts-as (puts-none at m) (rw (lt-leb 1 sense (omega arith)))
+  sense-absent z = puts-as (puts-nothing at m) (rw (lt-leb 1 sense (omega arith)))
 
   module _ (z : number ≡ 0 → ⊥) where
     present : senseBytes sense ≡ bytesOf 1 sense
@@ -87,13 +77,13 @@ module _ {sense number : ℕ} (e : number ≡ sense) (at : ℕ) (m : List ℕ) w
     pub sense-put : at + length (senseBytes sense) ≤ length m → number < 256 → Puts at (senseBytes sense) m (set m at number) (at + 1)
     sense-put h small =
         let bytes : senseBytes sense ≡ number ∷ [] = present ∙ rw (← e) (one-byte number small) in
-        puts-as (record { position = refl; output = set-write m at number (sense-room h) }) (sym bytes)
+        puts-as (puts-byte at number m (sense-room h)) (sym bytes)
 
 -- hour, origin, lamp and quantity
 module _ (message : Message) {kind : ℕ} (e : kind ≡ kindNumber (message .kind)) (at : ℕ) (m : List ℕ) where
   pub body-start : kind ≡ 4 → Puts at (bodyBytes message) m m at
   unfolding bodyOf
-  body-start k = puts-as (puts-none at m) (rw (eq-eqb (kindNumber (message .kind)) 4 (sym e ∙ k)))
+  body-start k = puts-as (puts-nothing at m) (rw (eq-eqb (kindNumber (message .kind)) 4 (sym e ∙ k)))
 
   module _ (d : kind ≡ 4 → ⊥) where
     with-hour : bodyBytes message ≡ bytesOf 4 (message .hour) ++ cond (leb kind 2) (lampBytes (originOf (message .kind)) (message .lamp)) (cond (eqb kind 3) (bytesOf 2 (quantityOf (message .kind))) [])
@@ -111,10 +101,10 @@ module _ (message : Message) {kind : ℕ} (e : kind ≡ kindNumber (message .kin
 
       behind-hour : {ys after : List ℕ} {behind : ℕ} → bodyBytes message ≡ bytesOf 4 (message .hour) ++ ys → Puts (at + 4) ys between after behind
           → Puts at (bodyBytes message) m after behind
-      behind-hour p q = puts-as (puts-join hour-put q (rw length-bytesOf (hour-room room))) (sym p)
+      behind-hour p q = puts-as (puts-more (rw length-bytesOf (hour-room room)) hour-put q) (sym p)
 
       pub body-hour : 2 < kind → (kind ≡ 3 → ⊥) → Puts at (bodyBytes message) m between (at + 4)
-      body-hour l q = behind-hour (with-hour ∙ rw (lt-leb kind 2 l, ne-eqb kind 3 q)) (puts-none (at + 4) between)
+      body-hour l q = behind-hour (with-hour ∙ rw (lt-leb kind 2 l, ne-eqb kind 3 q)) (puts-nothing (at + 4) between)
 
       module _ (q : kind ≡ 3) where
         is-quantity : bodyBytes message ≡ bytesOf 4 (message .hour) ++ bytesOf 2 (quantityOf (message .kind))
@@ -199,8 +189,8 @@ module _ (f : Frame) where
 
         pub frame-put : {behind : ℕ} {three : List ℕ} → map ≡ mapOf f → Puts end (senseBytes (senseNumber (f .sense))) two three behind → Puts at (written f) m three behind
         frame-put e t =
-            let body = puts-join b t body-room in
-            let all = puts-join h body (rw length-head head-room) in
+            let body = puts-more body-room b t in
+            let all = puts-more (rw length-head head-room) h body in
             puts-as all (rw e (sym written-parts))
 
 -- a frame's map

@@ -19,14 +19,7 @@ pub getD-part : (m : List ℕ) (at n i : ℕ) → i < n → getD (part m at n) i
 unfolding part
 getD-part m at n i h = rw (getD-take, getD-drop)
 
-take-zero : (l : List ℕ) → take 0 l ≡ []
-take-zero [] = refl
-take-zero (x ∷ l) = refl
-
--- a part of m copied byte by byte into an array of n bytes: at the start, after one more byte, at the end
-pub lamp-start : (l p : List ℕ) → take 0 l ≡ take 0 p
-lamp-start l p = take-zero l ∙ sym (take-zero p)
-
+-- a part of m copied byte by byte into an array of n bytes: after one more byte, at the end
 pub lamp-turn : (m l : List ℕ) (at n i : ℕ) → at + n ≤ length m → length l ≡ n → i < n → take i l ≡ take i (part m at n)
     → take (i + 1) (set l i (getD m (at + i) 0)) ≡ take (i + 1) (part m at n)
 lamp-turn m l at n i fits size h e =

@@ -71,11 +71,6 @@ wellFormed f =
     && lampFits (f .message)
     && gatewaysAgree (f .message .from) (f .message .to) (f .message .kind)
 
--- bytes put into an output from a position on: the position behind them, and the output afterwards
-pub record Puts (at : ℕ) (bytes before after : List ℕ) (behind : ℕ) : Type 0 where
-  pub position : behind ≡ at + length bytes
-  pub output : after ≡ write at bytes before
-
 -- this paper's number of an answer: 1 no frame, 5 no room
 abbrev pub answerNumber : Answer → ℕ
 answerNumber (Written count) = 0

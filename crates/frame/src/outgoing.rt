@@ -4,7 +4,8 @@ use crate::writer::put;
 ghost use mathlib.Core.Path.{_≡_};
 ghost use Prim.Native.Nat.{_+_, _≤_};
 ghost use lib.ListN.{length};
-ghost use Rattle.frame.specs.Writing.{written, Puts};
+ghost use Rattle.buffer.specs.Slice.{Puts};
+ghost use Rattle.frame.specs.Writing.{written};
 ghost use Rattle.frame.specs.Outgoing.{advanced};
 
 // The output that is lent, and the position of the next frame.

@@ -18,8 +18,9 @@ ghost use mathlib.Core.Path.{_≡_};
 ghost use Prim.Native.Nat.{_+_, _<_, _≤_};
 ghost use mathlib.Core.Bool.{_&&_};
 ghost use lib.ListN.{length};
+ghost use Rattle.buffer.specs.Slice.{Puts};
 ghost use Rattle.frame.specs.Kinds.{mapOf, senseNumber};
-ghost use Rattle.frame.specs.Writing.{senseAllowed, hourFits, wellFormed, writing, written, Puts};
+ghost use Rattle.frame.specs.Writing.{senseAllowed, hourFits, wellFormed, writing, written};
 ghost use Rattle.frame.specs.Steps.{headBytes, bodyBytes, lampBytes, senseBytes};
 
 // Writes a frame at the start of an output. Where it is refused nothing is written.

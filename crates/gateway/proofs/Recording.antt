@@ -7,13 +7,13 @@ use native.Mathlib.Nat.{zero-add, sub-zero, add-zero, mul-zero}
 use native.Mathlib.Omega.{arith}
 use lib.ListN.{length, take, drop, getD, length-append}
 use borrow.Author.Tests.{lt-ltb, le-ltb, le-leb, lt-leb}
-use Rattle.buffer.specs.Slice.{part, write}
+use Rattle.buffer.specs.Slice.{part, write, Puts}
 use Rattle.buffer.proofs.Writes.{write-join, length-write, length-part}
 use Rattle.model.specs.Doing.{after}
 use Rattle.model.specs.declared.State.{State}
 use Rattle.frame.specs.Layout.{wholeLength}
 use Rattle.frame.specs.Kinds.{mapOf}
-use Rattle.frame.specs.Writing.{written, Puts}
+use Rattle.frame.specs.Writing.{written}
 use Rattle.frame.specs.declared.Frame.{Frame}
 use Rattle.frame.proofs.Output.{whole-size}
 use Rattle.memory.specs.Codec.{placesAt, entryOf, messageOf, stateBytes, decode, encode}

@@ -9,11 +9,11 @@ use lib.Dec.{leb, lit<}
 use lib.ListN.{length, take, drop, length-append, length-take, length-drop, length-map, take-append-drop}
 use borrow.Author.Tests.{le-leb, leb-true, not-true, not-false}
 use Rattle.buffer.proofs.Writes.{length-write, write-join}
-use Rattle.buffer.specs.Slice.{Bytes, write}
+use Rattle.buffer.specs.Slice.{Bytes, write, Puts}
 use Rattle.model.specs.declared.Message.{Message}
 use Rattle.frame.specs.Layout.{wholeLength}
 use Rattle.frame.specs.Kinds.{mapOf}
-use Rattle.frame.specs.Writing.{written, Puts}
+use Rattle.frame.specs.Writing.{written}
 use Rattle.frame.specs.declared.Frame.{Frame}
 use Rattle.memory.specs.Records.{Gateway, siteOf}
 use Rattle.memory.specs.Codec.{placesAt, entryOf, headerFront, headerBack, decode, encode}

@@ -9,12 +9,12 @@ use lib.ListN.{length, take, drop, length-append, length-take, length-drop, leng
 use lib.Seq.{take-at, drop-at}
 use borrow.Author.Tests.{le-leb, lt-leb, leb-true, not-true, not-false}
 use Rattle.buffer.proofs.Writes.{length-write, write-join}
-use Rattle.buffer.specs.Slice.{Bytes}
+use Rattle.buffer.specs.Slice.{Bytes, Puts}
 use Rattle.model.specs.declared.Kind.{Kind}
 use Rattle.model.specs.declared.Message.{Message}
 use Rattle.frame.specs.Layout.{wholeLength}
 use Rattle.frame.specs.Kinds.{mapOf}
-use Rattle.frame.specs.Writing.{written, Puts}
+use Rattle.frame.specs.Writing.{written}
 use Rattle.frame.specs.declared.Frame.{Frame}
 use Rattle.frame.specs.declared.Sense.the-variants.{Acknowledgment, CancelAcknowledgment}
 use Rattle.frame.proofs.Output.{whole-size}

@@ -40,9 +40,10 @@ use denote.Triple.Walked.{says, needs, Stays, stay-none, walkOf, goes-none, Walk
 use denote.Exit.{yes}
 use denote.Signature.{namedLft}
 use denote.Signature.Struct.{inStruct, makes}
+use Rattle.buffer.specs.Slice.{Puts}
 use Rattle.frame.specs.declared.outgoing.Writer.{Writer}
 use Rattle.frame.specs.declared.Frame.{Frame}
-use Rattle.frame.specs.Writing.{written, Puts}
+use Rattle.frame.specs.Writing.{written}
 use Rattle.frame.proofs.Frame as Fr
 use Rattle.frame.proofs.Frame.Laws as Fr′
 use Rattle.frame.proofs.outgoing.Writer as T

@@ -5,7 +5,7 @@ use Prim.Native.Nat.{_≤_, _-_}
 use native.Mathlib.Omega.{arith}
 use lib.ListN.{length, take, length-set}
 use Rattle.buffer.specs.Slice.{part}
-use Rattle.frame.proofs.Places.{lamp-start, lamp-turn, lamp-end}
+use Rattle.frame.proofs.Places.{lamp-turn, lamp-end}
 use Rattle.frame.proofs.reader.read_lamp.Statement.{statement}
 use Rattle.frame.proofs.reader.read_lamp.Tie as tie
 
@@ -16,7 +16,7 @@ abbrev μ-loop : tie.MeasureT-loop
 μ-loop bytes at lamp₀ i₀ lamp i = 18 - i
 
 loop-holds : tie.Need-loop-holds Inv-loop μ-loop
-loop-holds c = (omega arith, refl, search lamp-start)
+loop-holds c = (omega arith, refl, search needs)
 
 add-lamp : tie.Need-add-lamp Inv-loop μ-loop
 add-lamp c = search needs
