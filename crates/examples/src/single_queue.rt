@@ -15,8 +15,9 @@ use memory::place::write_state;
 use model::Message;
 use model::Site;
 use model::State;
-use model::event::Outcome;
-use model::event::perform;
+use model::event::Reply;
+use model::event::reply_to;
+use model::event::state_after;
 ghost use mathlib.Core.Path.{_≡_};
 ghost use Prim.Native.Nat.{_+_, _*_, _≤_, _<_};
 ghost use lib.ListN.{length};
@@ -128,11 +129,11 @@ fn step(
 {
     let entry = read_entry(queue, 256 + 64 * k);
     let message = entry.message;
-    let outcome = do_message(machine, message);
-    finish(queue, output, record0, record1, machine, message, outcome)
+    let state = state_for(machine, message);
+    finish(queue, output, record0, record1, machine, message, state)
 }
 
-// Enters what a message sent, and puts the message at the end of its gateway's record.
+// Enters what a message sends in that state, and puts the message at the end of its gateway's record.
 fn finish(
     queue: &mut [u8],
     output: &mut [u8],
@@ -140,14 +141,16 @@ fn finish(
     record1: &mut [u8],
     machine: Machine,
     message: Message,
-    outcome: Outcome,
+    state: State,
 ) -> Machine
     requires { ⌜ (256 + 64 * machine .count ≤ length (now queue)) × (machine .end0 ≤ length (now record0)) × (machine .end1 ≤ length (now record1)) ⌝ }
     ensures { λ r. ⌜ (256 + 64 * r .count ≤ length (now (queue .entry))) × (r .end0 ≤ length (now (record0 .entry))) × (r .end1 ≤ length (now (record1 .entry))) ⌝ }
 {
-    let state = outcome.state;
-    let count = enter_sent(queue, machine.count, outcome);
-    let mut next = put_event(output, record0, record1, machine, message, state);
+    let reply = reply_at(state, message);
+    let count = enter_sent(queue, machine.count, reply);
+    let kind = message.kind;
+    let after = state_after(state, kind);
+    let mut next = put_event(output, record0, record1, machine, message, after);
     next.count = count;
     next
 }
@@ -175,29 +178,32 @@ fn put_event(
     next
 }
 
-// Does a message by the lamp model, at the gateway that it is to. Supplier of both is gateway 1, and the last hour is 100.
-fn do_message(machine: Machine, message: Message) -> Outcome {
+// The state of the gateway that a message is to.
+fn state_for(machine: Machine, message: Message) -> State {
+    if message.to == 0 {
+        return machine.state0;
+    }
+    machine.state1
+}
+
+// What a message sends by the lamp model, at the gateway that it is to. Supplier of both is gateway 1, and the last hour is 100.
+fn reply_at(state: State, message: Message) -> Reply {
     let site = Site {
         own: message.to,
         supplier: 1,
         last: 100,
     };
-    if message.to == 0 {
-        let state = machine.state0;
-        return perform(site, state, message);
-    }
-    let state = machine.state1;
-    perform(site, state, message)
+    reply_to(site, state, message)
 }
 
-fn enter_sent(queue: &mut [u8], count: usize, outcome: Outcome) -> usize
+fn enter_sent(queue: &mut [u8], count: usize, reply: Reply) -> usize
     requires { ⌜ 256 + 64 * count ≤ length (now queue) ⌝ }
     ensures { λ r. ⌜ (count ≤ r) × (256 + 64 * r ≤ length (now (queue .entry))) ⌝ }
 {
-    if !outcome.sends {
+    if !reply.sends {
         return count;
     }
-    let message = outcome.sent;
+    let message = reply.sent;
     enter(queue, count, message)
 }
 
