@@ -9,11 +9,10 @@ use frame::writer::map_of;
 use memory::Entry;
 use memory::Header;
 use memory::Mark;
-use memory::header_bytes::read_header;
 use memory::place::read_entry;
 use memory::place::write_state;
 use memory::rules::frame_if;
-use memory::soundness::sound;
+use memory::soundness::checked;
 use model::event::state_after;
 ghost use mathlib.Core.Path.{_≡_};
 ghost use Prim.Native.Nat.{_≤_, _<_};
@@ -27,11 +26,11 @@ ghost use Rattle.gateway.specs.Premises.{Known, recorded};
 pub fn commit(memory: &mut [u8], output: &mut [u8]) -> Answer
     ensures { λ r. ⌜ record { answer = r; memory = now (memory .exit); output = now (output .exit) } ≡ committed (now (memory .entry)) (now (output .entry)) ⌝ }
 {
-    if !sound(memory) {
+    let found = checked(memory);
+    if !found.sound {
         return refused(10);
     }
-    let header = read_header(memory);
-    commit_oldest(memory, output, header)
+    commit_oldest(memory, output, found.header)
 }
 
 // Any event at the agreed hour stays, as a message of that very hour may still come.

@@ -2,17 +2,16 @@
 use crate::Answer;
 use crate::refused;
 use crate::round_steps::start_round;
-use memory::header_bytes::read_header;
-use memory::soundness::sound;
+use memory::soundness::checked;
 ghost use mathlib.Core.Path.{_≡_};
 ghost use Rattle.gateway.specs.Calls.{started};
 
 pub fn start(memory: &mut [u8], output: &mut [u8]) -> Answer
     ensures { λ r. ⌜ record { answer = r; memory = now (memory .exit); output = now (output .exit) } ≡ started (now (memory .entry)) (now (output .entry)) ⌝ }
 {
-    if !sound(memory) {
+    let found = checked(memory);
+    if !found.sound {
         return refused(10);
     }
-    let header = read_header(memory);
-    start_round(memory, output, header)
+    start_round(memory, output, found.header)
 }

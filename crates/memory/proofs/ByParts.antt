@@ -2,7 +2,7 @@
 use mathlib.Core.Path.{_≡_, refl, sym, _∙_}
 use Prim.Native.Nat.{ℕ, _+_, _*_, _<_, _≤_}
 use native.Mathlib.Nat.{add-zero}
-use mathlib.Core.Bool.{Bool, true, false, not, _&&_, and-false}
+use mathlib.Core.Bool.{Bool, true, false, not, _&&_, and-false, false≢true}
 use mathlib.Core.List.{List}
 use lib.ListN.{length}
 use borrow.Author.Tests.{leb-true, le-leb, lt-leb}
@@ -84,9 +84,13 @@ module _ (m : List ℕ) (ok : headerSound m ≡ true) where
       (every (sentValid (g .settings)) (g .outstanding)))
 
 module _ (m : List ℕ) where
-  pub sound-short : length m < 256 → false ≡ sound m
+  sound-short : length m < 256 → false ≡ sound m
   unfolding sound headerSound
   sound-short h = rw (lt-leb 256 (length m) h)
+
+  -- whatever header is given beside it
+  pub checked-short : length m < 256 → {h : Header} → (false ≡ sound m) × (false ≡ true → h ≡ headerAt m)
+  checked-short h = (sound-short h, λ e. absurd (false≢true e))
 
   module _ {h : Header} {ok : Bool} (e : h ≡ headerAt m) (p : ok ≡ headerSound m) where
     pub sound-header : not ok ≡ true → false ≡ sound m

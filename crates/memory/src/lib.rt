@@ -61,3 +61,9 @@ pub struct Header {
     pub queued: u16,
     pub outstanding: u16,
 }
+
+// What is found in lent memory: whether it is sound, and its header, which counts only where it is.
+pub struct Checked {
+    pub sound: bool,
+    pub header: Header,
+}

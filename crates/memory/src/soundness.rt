@@ -1,7 +1,10 @@
 // Whether lent memory is sound: its header, then one pass over the used queue places and one over the used outstanding places.
+use crate::Checked;
 use crate::Entry;
 use crate::Header;
 use crate::Mark;
+use crate::Phase;
+use crate::Round;
 use crate::Sent;
 use crate::Settings;
 use crate::header_bytes::read_header;
@@ -18,13 +21,14 @@ use crate::rules::size_for;
 use buffer::read16;
 use buffer::read32;
 use model::Message;
+use model::State;
 use model::kind_number;
 use model::order::Comparison;
 use model::order::compare;
 use model::origin_of;
 use model::quantity_of;
 ghost use mathlib.Core.Path.{_≡_};
-ghost use mathlib.Core.Bool.{_&&_, _||_};
+ghost use mathlib.Core.Bool.{true, _&&_, _||_};
 ghost use Prim.Native.Nat.{_+_, _*_, _≤_};
 ghost use lib.ListN.{length, drop, replicate};
 ghost use Rattle.memory.specs.Codec.{headerAt, entryBytes, entryOf, sentBytes, sentOf};
@@ -33,14 +37,56 @@ ghost use Rattle.buffer.specs.Slice.{sameBytes};
 ghost use Rattle.memory.specs.Soundness.{headerSound, sound};
 ghost use Rattle.memory.specs.Passes.{entryFits, entryFollows, comparedFollows, messageExact, queueSound, outstandingSound};
 
-// Whether lent memory is sound. To memory that is not, every call answers 10.
-pub fn sound(memory: &[u8]) -> bool
-    ensures { λ r. ⌜ r ≡ sound (now (memory .entry)) ⌝ }
+// Whether lent memory is sound, and its header. To memory that is not, every call answers 10.
+pub fn checked(memory: &[u8]) -> Checked
+    ensures { λ r. ⌜ (r .sound ≡ sound (now (memory .entry))) × (r .sound ≡ true → r .header ≡ headerAt (now (memory .entry))) ⌝ }
 {
     if memory.len() < 256 {
-        return false;
+        return Checked {
+            sound: false,
+            header: no_header(),
+        };
     }
     let header = read_header(memory);
+    Checked {
+        sound: all_sound(memory, header),
+        header,
+    }
+}
+
+// A header of zeros, for memory that is too short for one.
+fn no_header() -> Header {
+    Header {
+        settings: Settings {
+            n: 0,
+            own: 0,
+            supplier: 0,
+            last: 0,
+            q: 0,
+            u: 0,
+        },
+        state: State {
+            stock: 0,
+            failed: 0,
+            fitted: 0,
+            short: 0,
+        },
+        agreed: 0,
+        round: Round {
+            phase: Phase::Idle,
+            arrived: 0,
+            note: 0,
+        },
+        queued: 0,
+        outstanding: 0,
+    }
+}
+
+// Whether memory that is long enough for a header is sound.
+fn all_sound(memory: &[u8], header: Header) -> bool
+    requires { ⌜ (256 ≤ length (now memory)) × (header ≡ headerAt (now memory)) ⌝ }
+    ensures { λ r. ⌜ r ≡ sound (now (memory .entry)) ⌝ }
+{
     let settings = header.settings;
     let round = header.round;
     if !header_sound(memory, header) {

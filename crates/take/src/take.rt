@@ -14,8 +14,7 @@ use gateway::round_steps::take_lvt;
 use gateway::round_steps::take_start;
 use gateway::round_steps::take_update;
 use memory::Header;
-use memory::header_bytes::read_header;
-use memory::soundness::sound;
+use memory::soundness::checked;
 use model::Message;
 use model::kind_number;
 ghost use mathlib.Core.Path.{_≡_};
@@ -36,11 +35,11 @@ ghost use Rattle.take.specs.Usable.{usable};
 pub fn take(memory: &mut [u8], frame: &[u8], output: &mut [u8]) -> Answer
     ensures { λ r. ⌜ record { answer = r; memory = now (memory .exit); output = now (output .exit) } ≡ taken (now (memory .entry)) (now (frame .entry)) (now (output .entry)) ⌝ }
 {
-    if !sound(memory) {
+    let found = checked(memory);
+    if !found.sound {
         return refused(10);
     }
-    let header = read_header(memory);
-    take_bytes(memory, frame, output, header)
+    take_bytes(memory, frame, output, found.header)
 }
 
 // A byte string that is no frame, or a frame that no call takes, is 1.

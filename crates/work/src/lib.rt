@@ -4,9 +4,8 @@ pub mod event; // event.rt: one event
 use crate::event::work_one;
 use gateway::Worked;
 use memory::Header;
-use memory::header_bytes::read_header;
 use memory::header_bytes::write_header;
-use memory::soundness::sound;
+use memory::soundness::checked;
 ghost use mathlib.Core.Path.{_≡_};
 ghost use Prim.Native.Nat.{_≤_};
 ghost use lib.ListN.{length};
@@ -27,15 +26,15 @@ pub struct Turn {
 pub fn work(memory: &mut [u8], output: &mut [u8], budget: u32) -> Worked
     ensures { λ r. ⌜ record { answer = r; memory = now (memory .exit); output = now (output .exit) } ≡ workedOff budget (now (memory .entry)) (now (output .entry)) ⌝ }
 {
-    if !sound(memory) {
+    let found = checked(memory);
+    if !found.sound {
         return Worked {
             count: 0,
             why: 10,
             written: 0,
         };
     }
-    let header = read_header(memory);
-    work_off(memory, output, budget, header)
+    work_off(memory, output, budget, found.header)
 }
 
 // Works off the events on sound memory. Each search for the next message begins behind the last event done.

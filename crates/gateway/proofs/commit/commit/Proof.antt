@@ -1,14 +1,14 @@
 -- `gateway::commit::commit` meets its contract.
 use mathlib.Core.Path.{_∙_}
 use Rattle.gateway.specs.Committing.{commit}
-use Rattle.gateway.proofs.Calling.{header-room, known, call-unsound, call-sound}
+use Rattle.gateway.proofs.Calling.{known, call-unsound, call-sound}
 use Rattle.gateway.proofs.Recording.{commit-call}
 use borrow.Author.Needs.{needs}
 use Rattle.gateway.proofs.commit.commit.Statement.{statement}
 use Rattle.gateway.proofs.commit.commit.Tie as tie
 
-sound-requires : tie.Need-sound-requires
-sound-requires c κs = search needs
+checked-requires : tie.Need-checked-requires
+checked-requires c κs = search needs
 
 refused-requires : tie.Need-refused-requires
 refused-requires c κs = search needs
@@ -17,13 +17,10 @@ same-length : tie.Need-same-length
 same-length c = search needs
 
 returns : tie.Need-returns
-returns c = call-unsound _ (c .before .before .sound .ensures) commit _ (c .before .if1 .taken) (c .refused .ensures) ∙ commit-call _ _
-
-read-header-requires : tie.Need-read-header-requires
-read-header-requires c κs = header-room _ (c .before .before .sound .ensures) (c .before .if1 .left)
+returns c = call-unsound _ (c .before .before .before .checked .ensures) commit _ (c .before .if1 .taken) (c .refused .ensures) ∙ commit-call _ _
 
 commit-oldest-requires : tie.Need-commit-oldest-requires
-commit-oldest-requires c κs = known _ (c .before .before .before .before .before .sound .ensures) (c .before .before .before .before .if1 .left) (c .before .before .read-header .ensures)
+commit-oldest-requires c κs = known _ (c .before .before .before .before .checked .ensures) (c .before .before .if1 .left)
 
 same-length-2 : tie.Need-same-length-2
 same-length-2 c = search needs
@@ -32,17 +29,16 @@ same-length-3 : tie.Need-same-length-3
 same-length-3 c = search needs
 
 returns-2 : tie.Need-returns-2
-returns-2 c = call-sound _ (c .before .before .before .before .before .before .before .before .before .before .sound .ensures) commit _ (c .before .before .before .before .before .before .before .before .before .if1 .left) (c .before .before .before .before .commit-oldest .ensures) ∙ commit-call _ _
+returns-2 c = call-sound _ (c .before .before .before .before .before .before .before .before .before .checked .ensures) commit _ (c .before .before .before .before .before .before .before .if1 .left) (c .before .before .before .before .commit-oldest .ensures) ∙ commit-call _ _
 
 pub commit-spec : {M : Type 1} → statement M
 commit-spec =
     tie.close
     (tie.spec
-    sound-requires
+    checked-requires
     refused-requires
     same-length
     returns
-    read-header-requires
     commit-oldest-requires
     same-length-2
     same-length-3

@@ -1,13 +1,13 @@
 -- `gateway::start::start` meets its contract.
 use mathlib.Core.Path.{_∙_}
 use Rattle.gateway.specs.Rounds.{start}
-use Rattle.gateway.proofs.Calling.{header-room, known, call-unsound, call-sound, start-call}
+use Rattle.gateway.proofs.Calling.{known, call-unsound, call-sound, start-call}
 use borrow.Author.Needs.{needs}
 use Rattle.gateway.proofs.start.start.Statement.{statement}
 use Rattle.gateway.proofs.start.start.Tie as tie
 
-sound-requires : tie.Need-sound-requires
-sound-requires c κs = search needs
+checked-requires : tie.Need-checked-requires
+checked-requires c κs = search needs
 
 refused-requires : tie.Need-refused-requires
 refused-requires c κs = search needs
@@ -16,13 +16,10 @@ same-length : tie.Need-same-length
 same-length c = search needs
 
 returns : tie.Need-returns
-returns c = call-unsound _ (c .before .before .sound .ensures) start _ (c .before .if1 .taken) (c .refused .ensures) ∙ start-call _ _
-
-read-header-requires : tie.Need-read-header-requires
-read-header-requires c κs = header-room _ (c .before .before .sound .ensures) (c .before .if1 .left)
+returns c = call-unsound _ (c .before .before .before .checked .ensures) start _ (c .before .if1 .taken) (c .refused .ensures) ∙ start-call _ _
 
 start-round-requires : tie.Need-start-round-requires
-start-round-requires c κs = known _ (c .before .before .before .before .before .sound .ensures) (c .before .before .before .before .if1 .left) (c .before .before .read-header .ensures)
+start-round-requires c κs = known _ (c .before .before .before .before .checked .ensures) (c .before .before .if1 .left)
 
 same-length-2 : tie.Need-same-length-2
 same-length-2 c = search needs
@@ -31,17 +28,16 @@ same-length-3 : tie.Need-same-length-3
 same-length-3 c = search needs
 
 returns-2 : tie.Need-returns-2
-returns-2 c = call-sound _ (c .before .before .before .before .before .before .before .before .before .before .sound .ensures) start _ (c .before .before .before .before .before .before .before .before .before .if1 .left) (c .before .before .before .before .start-round .ensures) ∙ start-call _ _
+returns-2 c = call-sound _ (c .before .before .before .before .before .before .before .before .before .checked .ensures) start _ (c .before .before .before .before .before .before .before .if1 .left) (c .before .before .before .before .start-round .ensures) ∙ start-call _ _
 
 pub start-spec : {M : Type 1} → statement M
 start-spec =
     tie.close
     (tie.spec
-    sound-requires
+    checked-requires
     refused-requires
     same-length
     returns
-    read-header-requires
     start-round-requires
     same-length-2
     same-length-3
