@@ -10,5 +10,4 @@ pub mod runs;
 pub mod tally;
 pub mod world;
 
-/// What went wrong.
-pub type Wrong = String;
+pub use peer::under_way::Wrong;

@@ -129,7 +129,7 @@ fn bring(
         return Ok(());
     }
     let place = if habits.newest { count - 1 } else { usize::from(generator.half()) % count };
-    let is_round = !matches!(world.frame(place).0, Frame::Event { .. });
+    let is_round = !matches!(world.frame(place), Frame::Event { .. });
     if habits.slow_rounds == Some(is_round) && generator.below(12) != 0 {
         return Ok(());
     }

@@ -3,7 +3,8 @@
 use crate::frame::Frame;
 use crate::generator::Generator;
 use crate::model::NOTHING_DUE;
-use crate::run::{Run, Wrong, AMPLE};
+use crate::run::{Run, AMPLE};
+use crate::under_way::Wrong;
 
 /// Events that a gateway works off in a turn.
 const TURN_BUDGET: u32 = 4;

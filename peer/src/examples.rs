@@ -4,7 +4,8 @@ use crate::carrier::{self, End};
 use crate::forecast;
 use crate::record;
 use crate::routing;
-use crate::run::{Run, Wrong};
+use crate::run::Run;
+use crate::under_way::Wrong;
 
 /// A line for each result.
 pub fn lines() -> Result<String, Wrong> {

@@ -18,3 +18,4 @@ pub mod samples;
 pub mod stream;
 pub mod table;
 pub mod trials;
+pub mod under_way;

@@ -6,43 +6,21 @@ use crate::model::{Done, Hour, NOTHING_DUE};
 use crate::queue;
 use crate::record;
 use crate::round;
-use crate::routing;
+use crate::under_way::{check_agreed, Carried, UnderWay, Wrong};
 
 /// An output length that is enough for every call.
 pub const AMPLE: usize = 1 << 20;
 
-/// What went wrong.
-pub type Wrong = String;
-
 pub struct Run {
     gateways: Vec<Gateway>,
-    /// Written for the carrier and not yet accepted, in the order in which they wait.
-    under_way: Vec<UnderWay>,
+    under_way: UnderWay,
     /// What the commits of each gateway wrote.
     records: Vec<Vec<Done>>,
     /// The whole records of the single queue.
     whole: Vec<Vec<Done>>,
     /// Each gateway's agreed time after the last call.
     agreed: Vec<Hour>,
-    rounds: Vec<RoundTaken>,
     tally: Tally,
-}
-
-struct UnderWay {
-    frame: Frame,
-    /// Counts what was written in the run: the smaller, the older.
-    number: usize,
-    /// For the frames of the round, which one.
-    round: Option<usize>,
-}
-
-/// What a round took.
-#[derive(Default)]
-struct RoundTaken {
-    messages: usize,
-    closed: bool,
-    /// The gateways that have accepted its Update.
-    updated: Vec<u8>,
 }
 
 /// What happened in a run.
@@ -64,11 +42,10 @@ impl Run {
         let set_up = |setup| Gateway::set_up(setup).map_err(|why| format!("set up: {why:?}"));
         let gateways = setups.iter().map(set_up).collect::<Result<Vec<_>, _>>()?;
         Ok(Run {
-            under_way: Vec::new(),
+            under_way: UnderWay::new(gateways.len()),
             records: vec![Vec::new(); gateways.len()],
             whole: queue::records(setups),
             agreed: vec![0; gateways.len()],
-            rounds: Vec::new(),
             tally: Tally::default(),
             gateways,
         })
@@ -79,11 +56,11 @@ impl Run {
     }
 
     pub fn frames_under_way(&self) -> usize {
-        self.under_way.len()
+        self.under_way.carried().len()
     }
 
     pub fn frame(&self, place: usize) -> Frame {
-        self.under_way[place].frame
+        self.under_way.carried()[place].frame
     }
 
     pub fn agreed(&self, own: u8) -> Hour {
@@ -95,7 +72,8 @@ impl Run {
     }
 
     pub fn tally(&self) -> Tally {
-        self.tally
+        let (written, rounds) = (self.under_way.written(), self.under_way.completed_rounds());
+        Tally { written, rounds, ..self.tally }
     }
 
     /// What a run that goes on must change at last: the agreed times and the events committed.
@@ -108,19 +86,19 @@ impl Run {
         let nothing_to_commit =
             |gateway: &Gateway| gateway.clone().commit(AMPLE) == Err(Refusal::Nothing);
         self.agreed.iter().all(|&agreed| agreed == NOTHING_DUE)
-            && self.under_way.is_empty()
+            && self.under_way.carried().is_empty()
             && self.gateways.iter().all(nothing_to_commit)
     }
 
     /// No gateway can work, and no message, cancel or acknowledgment under way would be accepted.
     pub fn is_blocked(&self) -> bool {
         let idle = |gateway: &Gateway| gateway.clone().work(1, AMPLE).count == 0;
-        let refused = |UnderWay { frame, .. }: &UnderWay| {
+        let refused = |Carried { frame, .. }: &Carried| {
             let mut gateway = self.gateways[usize::from(frame.addressee())].clone();
             let is_event = matches!(frame, Frame::Event { .. });
             !is_event || gateway.take(&frame::write(frame), AMPLE).is_err()
         };
-        self.gateways.iter().all(idle) && self.under_way.iter().all(refused)
+        self.gateways.iter().all(idle) && self.under_way.carried().iter().all(refused)
     }
 
     pub fn work(&mut self, own: u8, budget: u32, room: usize) -> Result<(), Wrong> {
@@ -129,25 +107,22 @@ impl Run {
         if stopped_early != worked.why.is_some() {
             return Err(format!("work of {own} did {} of {budget}", worked.count));
         }
-        self.write(own, worked.output, None)?;
+        self.write(own, worked.output)?;
         self.check()
     }
 
     /// Brings a frame under way to its gateway; a refused one goes to the end of the line.
     pub fn bring(&mut self, place: usize, room: usize) -> Result<(), Wrong> {
-        self.swap_for_oldest(place);
-        let brought = self.under_way.remove(place);
+        let brought = self.under_way.take_out(place);
         let own = brought.frame.addressee();
         match self.gateways[usize::from(own)].take(&frame::write(&brought.frame), room) {
             Ok(output) => {
-                self.write(own, output, brought.round)?;
-                if let (Frame::Update { .. }, Some(round)) = (brought.frame, brought.round) {
-                    self.updated(own, round)?;
-                }
+                self.count_cancels(&output);
+                self.under_way.accept(own, brought, output)?;
             }
             Err(Refusal::NoRoom) => {
                 self.tally.refused += 1;
-                self.under_way.push(brought);
+                self.under_way.put_back(brought);
             }
             Err(why) => return Err(format!("{:?} refused with {why:?}", brought.frame)),
         }
@@ -156,14 +131,10 @@ impl Run {
 
     /// The start call at any gateway.
     pub fn start(&mut self, own: u8, room: usize) -> Result<(), Wrong> {
-        let in_turn = own == 0 && self.rounds.last().is_none_or(|round| round.closed);
+        let in_turn = own == 0 && self.under_way.may_start();
         let answer = self.gateways[usize::from(own)].start(room);
         match answer {
-            Ok(output) if in_turn => {
-                self.rounds.push(RoundTaken { closed: self.nodes() == 1, ..Default::default() });
-                self.write(own, output, None)?;
-                self.count_if_completed(self.rounds.len() - 1)?;
-            }
+            Ok(output) if in_turn => self.under_way.start(output)?,
             Err(Refusal::NoRoom) if in_turn => {}
             Err(Refusal::OutOfTurn) if !in_turn => {}
             _ => return Err(format!("start of {own} answered {answer:?}")),
@@ -199,67 +170,14 @@ impl Run {
         bytes(&self.records) == bytes(&self.whole)
     }
 
-    /// Of equal frames under way the oldest counts as brought.
-    fn swap_for_oldest(&mut self, place: usize) {
-        let frame = self.under_way[place].frame;
-        let equal = (0..self.under_way.len()).filter(|&at| self.under_way[at].frame == frame);
-        let oldest = equal.min_by_key(|&at| self.under_way[at].number);
-        self.under_way.swap(place, oldest.unwrap_or(place));
+    fn write(&mut self, own: u8, output: Vec<Frame>) -> Result<(), Wrong> {
+        self.count_cancels(&output);
+        self.under_way.write(own, output)
     }
 
-    /// Output of gateway `own` for the carrier; `relayed` is the round of an Update that it took.
-    fn write(&mut self, own: u8, output: Vec<Frame>, relayed: Option<usize>) -> Result<(), Wrong> {
-        let closes = own == 0 && output.iter().any(|frame| matches!(frame, Frame::Update { .. }));
-        for frame in output {
-            let round = match frame {
-                Frame::Event { sense, .. } => {
-                    self.tally.cancels += usize::from(sense == Sense::Cancel);
-                    None
-                }
-                Frame::Update { .. } if own != 0 => relayed,
-                _ => Some(self.open_round()?),
-            };
-            if let Some(round) = round {
-                self.rounds[round].messages += 1;
-            }
-            self.under_way.push(UnderWay { frame, number: self.tally.written, round });
-            self.tally.written += 1;
-        }
-        if closes {
-            let round = self.open_round()?;
-            self.rounds[round].closed = true;
-        }
-        Ok(())
-    }
-
-    fn open_round(&self) -> Result<usize, Wrong> {
-        let open = self.rounds.iter().rposition(|round| !round.closed);
-        open.ok_or("a round's frame is written while none is open".into())
-    }
-
-    /// Gateway `own` accepted the Update of a round.
-    fn updated(&mut self, own: u8, round: usize) -> Result<(), Wrong> {
-        if self.rounds[round].updated.contains(&own) {
-            return Err(format!("{own} takes the Update of round {round} twice"));
-        }
-        self.rounds[round].updated.push(own);
-        self.count_if_completed(round)
-    }
-
-    /// A completed round took two messages an arc and an Update for each gateway but 0.
-    fn count_if_completed(&mut self, round: usize) -> Result<(), Wrong> {
-        let RoundTaken { messages, closed, ref updated } = self.rounds[round];
-        if !closed || updated.len() < self.gateways.len() - 1 {
-            return Ok(());
-        }
-        self.tally.rounds += 1;
-        let nodes = self.nodes().into();
-        let arcs = routing::arcs(nodes).map_or(0, |arcs| arcs.len());
-        let expected = routing::round_messages(nodes, arcs);
-        if messages != expected {
-            return Err(format!("round {round} took {messages} messages, not {expected}"));
-        }
-        Ok(())
+    fn count_cancels(&mut self, output: &[Frame]) {
+        let is_cancel = |frame: &&Frame| matches!(frame, Frame::Event { sense: Sense::Cancel, .. });
+        self.tally.cancels += output.iter().filter(is_cancel).count();
     }
 
     /// No agreed time has fallen, and none is past an hour that waits or is under way.
@@ -268,21 +186,11 @@ impl Run {
         let cancel_waits = self.gateways.iter().any(Gateway::has_waiting_cancel);
         self.tally.cancels_waiting += usize::from(cancel_waits);
 
-        let carried = |carried: &UnderWay| match carried.frame {
-            Frame::Event { message, .. } => message.hour,
-            _ => NOTHING_DUE,
-        };
-        let under_way = round::least(self.under_way.iter().map(carried));
+        let under_way = self.under_way.least();
         let waiting = round::least(self.gateways.iter().map(Gateway::least_waiting));
         for (own, gateway) in self.gateways.iter().enumerate() {
-            let (before, agreed) = (self.agreed[own], gateway.agreed());
-            if agreed < before {
-                return Err(format!("the agreed time of {own} fell from {before} to {agreed}"));
-            }
-            if agreed > under_way.min(waiting) {
-                return Err(format!("{own} has {agreed}: {waiting} waits, {under_way} under way"));
-            }
-            self.agreed[own] = agreed;
+            check_agreed(own, self.agreed[own], gateway.agreed(), waiting, under_way)?;
+            self.agreed[own] = gateway.agreed();
         }
         Ok(())
     }
@@ -300,12 +208,14 @@ mod tests {
     /// The given gateways work and all frames but the held ones are brought, until nothing is left.
     fn settle(run: &mut Run, working: &[u8], held: impl Fn(&Frame) -> bool) {
         let mut written = usize::MAX;
-        while written != run.tally.written {
-            written = run.tally.written;
+        while written != run.tally().written {
+            written = run.tally().written;
             for &own in working {
                 run.work(own, 100, AMPLE).unwrap();
             }
-            while let Some(place) = run.under_way.iter().position(|carried| !held(&carried.frame)) {
+            while let Some(place) =
+                run.under_way.carried().iter().position(|carried| !held(&carried.frame))
+            {
                 run.bring(place, AMPLE).unwrap();
             }
         }
@@ -335,7 +245,7 @@ mod tests {
         settle(&mut run, &[0, 1, 2], |frame| !is_message(frame) || own_cancel(frame));
         settle(&mut run, &[], is_message);
         assert_eq!(run.agreed, [43_830; 3]);
-        assert!(run.under_way.iter().any(|carried| own_cancel(&carried.frame)));
+        assert!(run.under_way.carried().iter().any(|carried| own_cancel(&carried.frame)));
 
         assert_eq!(carrier::finish(&mut run), Ok(End::Finished));
         assert!(run.agrees());
@@ -347,14 +257,15 @@ mod tests {
         let mut run = Run::new(&crate::forecast::example()).unwrap();
         for _ in 0..2 {
             run.start(0, AMPLE).unwrap();
-            run.bring(run.under_way.len() - 1, AMPLE).unwrap();
-            run.bring(run.under_way.len() - 1, AMPLE).unwrap();
+            run.bring(run.frames_under_way() - 1, AMPLE).unwrap();
+            run.bring(run.frames_under_way() - 1, AMPLE).unwrap();
         }
-        let rounds = |run: &Run| -> Vec<_> { run.under_way.iter().map(|at| at.round).collect() };
-        assert_eq!(run.under_way[0].frame, run.under_way[1].frame, "two equal Updates");
+        let rounds =
+            |run: &Run| -> Vec<_> { run.under_way.carried().iter().map(|at| at.round).collect() };
+        assert_eq!(run.frame(0), run.frame(1), "two equal Updates");
         assert_eq!(rounds(&run), [Some(0), Some(1)]);
         run.bring(1, AMPLE).unwrap();
-        assert_eq!((rounds(&run), run.tally.rounds), (vec![Some(1)], 1));
+        assert_eq!((rounds(&run), run.tally().rounds), (vec![Some(1)], 1));
     }
 
     /// Rounds over all forms of the graph, those that share the bottom row among them.
@@ -372,7 +283,7 @@ mod tests {
             let mut run = Run::new(&setups).unwrap();
             assert_eq!(carrier::finish(&mut run), Ok(End::Finished), "{nodes} gateways");
             assert!(run.agrees());
-            assert!(run.tally.rounds > 1 && run.rounds.iter().all(|round| round.closed));
+            assert!(run.tally().rounds > 1 && run.under_way.may_start());
         }
     }
 }

@@ -4,7 +4,8 @@ use crate::carrier::{self, End};
 use crate::forecast::{self, MOST_PLACES};
 use crate::gateway::Setup;
 use crate::generator::Generator;
-use crate::run::{Run, Tally, Wrong};
+use crate::run::{Run, Tally};
+use crate::under_way::Wrong;
 
 /// Random calls of a trial; the turns of the fixed order bring the rest to an end.
 const RANDOM_CALLS: usize = 20_000;
