@@ -1,5 +1,8 @@
 -- Laws of parts, writes and numbers as bytes.
 pub mod Writes
+pub mod Readings
+pub mod Standing
+pub mod Moves
 pub mod Numbers
 pub mod Putting
 pub mod Equality

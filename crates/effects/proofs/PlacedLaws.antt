@@ -23,7 +23,7 @@ use Rattle.memory.specs.declared.Sent.{Sent}
 use Rattle.memory.specs.declared.Round.{Round}
 use Rattle.memory.specs.declared.Phase.{Phase}
 use Rattle.memory.specs.declared.Phase.the-variants.{Idle, Counting, Stopped}
-use Rattle.memory.proofs.Standing.{Stands, write-stands, write-swap, write-covers, stands-written, stands-before, stands-after}
+use Rattle.buffer.proofs.Standing.{Stands, write-stands, write-swap, write-covers, stands-written, stands-before, stands-after}
 use Rattle.memory.proofs.Places.{all-append, all-front, all-back, all-map, length-places, length-read, read-add, read-stored}
 use Rattle.memory.proofs.RoundTrips.{entry-length, entry-kept, sent-length, sent-kept}
 use Rattle.memory.proofs.Holding.{length-queue, length-outstanding, encode-by}

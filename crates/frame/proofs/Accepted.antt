@@ -14,7 +14,7 @@ use Rattle.frame.specs.Layout.{odd, wholeLength, cut}
 use Rattle.frame.specs.Kinds.{mapOfKind, hasLamp}
 use Rattle.frame.specs.Writing.{lampFits, gatewaysAgree}
 use Rattle.frame.specs.Reasons.{fieldsOf, frameOf, mapFits, senseFits, unless, fieldsForm, formOf, formNumber, readAs, reading}
-use Rattle.frame.proofs.Places.{read-one}
+use Rattle.buffer.proofs.Readings.{read-one}
 use Rattle.frame.specs.Lamps.{isGood, carriesLamp}
 use Rattle.frame.specs.declared.Frame.{Frame}
 use Rattle.frame.specs.declared.Form.{Form}

@@ -13,7 +13,7 @@ use Rattle.buffer.specs.Number.{bytesOf, numberOf}
 use Rattle.buffer.proofs.Writes.{part-nil, length-part}
 use Rattle.buffer.proofs.Numbers.{bytes-of-number, number-below}
 use Rattle.frame.specs.Layout.{odd, standing, total, joined, cut}
-use Rattle.frame.proofs.Places.{getD-part}
+use Rattle.buffer.proofs.Readings.{getD-part}
 
 -- the fields of a byte string, joined, are its bytes
 pub joined-cut : (at map : ℕ) (ws s : List ℕ) → length s ≡ at + total (standing map ws) → joined (standing map (cut at map ws s)) ≡ drop at s

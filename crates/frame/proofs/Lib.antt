@@ -4,7 +4,6 @@ pub mod Between
 pub mod Agreement
 pub mod Branches
 pub mod Walking
-pub mod Places
 pub mod Turning
 pub mod Output
 pub mod Accepted

@@ -1,6 +1,6 @@
 -- Laws of what the writer puts into an output.
 use mathlib.Core.Path.{_≡_, refl, sym, _∙_, ap}
-use Prim.Native.Nat.{ℕ, zero, suc, _+_, _/_, _%_, _<_, _≤_}
+use Prim.Native.Nat.{ℕ, suc, _+_, _/_, _<_, _≤_}
 use native.Mathlib.Nat.{zero-add}
 use native.Mathlib.Omega.{arith}
 use mathlib.Core.Bool.{Bool, true, false, cond, not}
@@ -19,7 +19,7 @@ use Rattle.model.specs.declared.Kind.the-variants.{Failure, Request, Delivery, 
 use Rattle.model.specs.declared.Message.{Message}
 use Rattle.frame.specs.Layout.{widths, odd, standing, total, joined, wholeLength}
 use Rattle.frame.specs.Kinds.{mapOf, mapOfKind, senseNumber}
-use Rattle.frame.specs.Writing.{contents, written, wellFormed, writing, Outcome}
+use Rattle.frame.specs.Writing.{contents, written, wellFormed, writing}
 use Rattle.frame.specs.Steps.{headBytes, lampBytes, bodyOf, bodyBytes, senseBytes}
 use Rattle.frame.specs.declared.Frame.{Frame}
 use Rattle.frame.specs.declared.Sense.{Sense}

@@ -23,7 +23,7 @@ use Rattle.memory.specs.Layout.{outstandingAt}
 use Rattle.memory.specs.Codec.{headerFront, headerBack, entryBytes, sentBytes, placesBytes, decode, encode}
 use Rattle.memory.specs.declared.Header.{Header}
 use Rattle.memory.specs.Fits.{Room}
-use Rattle.memory.proofs.Standing.{write-stands}
+use Rattle.buffer.proofs.Standing.{write-stands}
 use Rattle.memory.proofs.RoundTrips.{length-front, length-back}
 use Rattle.memory.proofs.FourWrites.{four-writes}
 use Rattle.memory.proofs.Holding.{length-queue, length-outstanding}

@@ -20,7 +20,7 @@ use Rattle.memory.specs.declared.Sent.{Sent}
 use Rattle.memory.specs.Fits.{All, GatewayFits, Room}
 use Rattle.memory.proofs.RoundTrips.{length-front, length-back}
 use Rattle.memory.proofs.Validated.{ValidSettings, settings-facts}
-use Rattle.memory.proofs.Standing.{Stands, stands-before}
+use Rattle.buffer.proofs.Standing.{Stands, stands-before}
 use Rattle.memory.proofs.Places.{all-append, all-front, all-back, Sized, remove-place, length-read}
 use Rattle.memory.proofs.Holding.{Holds, queue-sized, outstanding-sized}
 use Rattle.memory.proofs.SoundMemory.{sound-facts, sound-holds, sound-room, sound-fits, header-held}

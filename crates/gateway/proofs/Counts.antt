@@ -10,7 +10,7 @@ use Rattle.buffer.proofs.Numbers.{length-bytesOf}
 use Rattle.memory.specs.Codec.{headerFront, headerBack}
 use Rattle.memory.specs.declared.Header.{Header}
 use Rattle.memory.proofs.RoundTrips.{length-front}
-use Rattle.memory.proofs.Standing.{Stands, write-stands, write-replaced}
+use Rattle.buffer.proofs.Standing.{Stands, write-stands, write-replaced}
 
 module _ (h : Header) (m : List ℕ) (long : 40 ≤ length m) (front : Stands 0 (headerFront h) m) (back : Stands 6 (headerBack h) m) where
   abbrev q : List ℕ

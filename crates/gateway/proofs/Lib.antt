@@ -11,7 +11,6 @@ pub mod Keeps
 pub mod Openings
 pub mod SoundAfter
 pub mod Table
-pub mod Moves
 pub mod Positions
 pub mod Neighbours
 pub mod Matching

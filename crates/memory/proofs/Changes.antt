@@ -12,7 +12,7 @@ use Rattle.memory.specs.Codec.{entryBytes, sentBytes, headerFront, heade
 use Rattle.memory.specs.declared.Entry.{Entry}
 use Rattle.memory.specs.declared.Sent.{Sent}
 use Rattle.memory.specs.Fits.{All, EntryFits, SentFits, GatewayFits, Room}
-use Rattle.memory.proofs.Standing.{Stands, write-stands, write-covers, stands-after}
+use Rattle.buffer.proofs.Standing.{Stands, write-stands, write-covers, stands-after}
 use Rattle.memory.proofs.FourWrites.{headed}
 use Rattle.memory.proofs.Places.{all-map, length-places, append-places, append-place, replace-place, remove-place, insert-place}
 use Rattle.memory.proofs.RoundTrips.{entry-length, sent-length}

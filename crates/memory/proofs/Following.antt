@@ -1,9 +1,8 @@
 -- Two neighbours of the queue, by how they compare.
 use mathlib.Core.Path.{_≡_, refl, sym, _∙_}
 use Prim.Native.Nat.{_<_}
-use mathlib.Core.Bool.{Bool, true, false, not, _&&_}
+use mathlib.Core.Bool.{Bool, true, not, _&&_}
 use Rattle.model.specs.EventOrder.{key, compared, different}
-use Rattle.model.specs.declared.Message.{Message}
 use Rattle.model.specs.declared.order.Comparison.{Comparison}
 use Rattle.model.specs.declared.order.Comparison.the-variants.{Before, Same, After}
 use Rattle.model.proofs.Comparing.{less}

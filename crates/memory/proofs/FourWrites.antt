@@ -6,9 +6,14 @@ use native.Mathlib.Omega.{arith}
 use mathlib.Core.List.{List}
 use lib.ListN.{length}
 use Rattle.buffer.specs.Slice.{part, write}
-use Rattle.buffer.proofs.Writes.{length-write}
-use Rattle.memory.specs.Claims.{Apart, before}
-use Rattle.memory.proofs.Standing.{Stands, write-stands, stands-written, part-apart, write-swap}
+use Rattle.buffer.proofs.Writes.{length-write, part-before-write, part-after-write}
+use Rattle.buffer.proofs.Standing.{Stands, write-stands, stands-written, write-swap}
+use Rattle.memory.specs.Claims.{Apart, before, after}
+
+-- a write leaves the bytes apart from it
+pub part-apart : (at : ℕ) (xs m : List ℕ) (from n : ℕ) → at + length xs ≤ length m → Apart from n at (length xs) → part (write at xs m) from n ≡ part m from n
+part-apart at xs m from n fits (before h) = part-before-write at xs m from n fits h
+part-apart at xs m from n fits (after h) = part-after-write at xs m from n fits h
 
 -- the header's two writes
 abbrev pub headed : List ℕ → List ℕ → List ℕ → List ℕ

@@ -17,7 +17,7 @@ use Rattle.model.specs.declared.Kind.the-variants.{Failure, Request, Delivery, 
 use Rattle.memory.specs.Ranges.{RangedState}
 use Rattle.memory.specs.Codec.{phaseNumber, phaseOf, stateOf, messageOf, entryOf, sentOf, headerAt, headerFront, headerBack, placesAt}
 use Rattle.memory.specs.Fits.{All, nil, cons, MessageFits, EntryFits, SentFits, HeaderFits}
-use Rattle.memory.proofs.Standing.{part-add}
+use Rattle.buffer.proofs.Standing.{part-add}
 use Rattle.memory.proofs.RoundTrips.{byte-back}
 
 -- a part of bytes is bytes

@@ -10,7 +10,7 @@ use Rattle.memory.specs.Records.{Gateway, headerOf}
 use Rattle.memory.specs.Layout.{headerSize, outstandingAt, sizeFor}
 use Rattle.memory.specs.Claims.{Untouched}
 use Rattle.memory.specs.Codec.{entryBytes, entryOf, sentBytes, sentOf, headerAt, headerFront, headerBack, placesAt, placesBytes, decode, encode}
-use Rattle.memory.proofs.Standing.{Stands}
+use Rattle.buffer.proofs.Standing.{Stands}
 use Rattle.memory.proofs.FourWrites.{headed, FourWrites, four-writes}
 use Rattle.memory.proofs.Places.{Sized, all-map, length-places, read-stored}
 use Rattle.memory.specs.Fits.{GatewayFits, Room, All}

@@ -7,7 +7,6 @@ pub mod Passing
 pub mod Following
 pub mod EventLaws
 pub mod Validated
-pub mod Standing
 pub mod Places
 pub mod Fitting
 pub mod RoundTrips

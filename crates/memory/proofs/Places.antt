@@ -10,10 +10,11 @@ use lib.ListN.{length, length-append}
 use Rattle.routing.specs.Arcs.{_∈_}
 use Rattle.buffer.specs.Slice.{part, write}
 use Rattle.buffer.proofs.Writes.{part-nil}
+use Rattle.buffer.proofs.Standing.{Stands, part-add, part-within, stands-front, stands-back, write-past-front, write-replaced, write-removed, write-inserted}
 use Rattle.memory.specs.Fits.{All, nil, cons}
 use Rattle.memory.specs.Codec.{placesAt, placesBytes}
 use Rattle.memory.specs.Claims.{Apart}
-use Rattle.memory.proofs.Standing.{Stands, part-add, part-within, part-apart, stands-front, stands-back, write-past-front, write-replaced, write-removed, write-inserted}
+use Rattle.memory.proofs.FourWrites.{part-apart}
 
 -- laws of every element having a property
 module _ {A : Type 0} {p : A → Type 0} where

@@ -11,7 +11,7 @@ use Rattle.buffer.specs.Slice.{part}
 use Rattle.buffer.specs.Number.{bytesOf, numberOf}
 use Rattle.buffer.proofs.Numbers.{number-of-bytes}
 use Rattle.buffer.proofs.Writes.{part-part}
-use Rattle.frame.proofs.Places.{getD-part}
+use Rattle.buffer.proofs.Readings.{getD-part}
 use Rattle.model.specs.Messages.{kindNumber, originOf, quantityOf, kindOf}
 use Rattle.model.specs.declared.Kind.{Kind}
 use Rattle.model.specs.declared.Kind.the-variants.{Failure, Request, Delivery, Restock, Start, Lvt, Update}
@@ -28,7 +28,7 @@ use Rattle.memory.specs.declared.Phase.{Phase}
 use Rattle.memory.specs.declared.Phase.the-variants.{Idle, Counting, Stopped}
 use Rattle.memory.specs.Fits.{MessageFits, EntryFits, SentFits, HeaderFits}
 use Rattle.memory.proofs.Stored.{length-state, length-message, length-entry, length-sent}
-use Rattle.memory.proofs.Standing.{part-front, part-back}
+use Rattle.buffer.proofs.Standing.{part-front, part-back}
 use Rattle.memory.proofs.Places.{ReadBack}
 
 -- one byte

@@ -20,7 +20,7 @@ use Rattle.memory.specs.declared.Phase.{Phase}
 use Rattle.memory.specs.declared.Phase.the-variants.{Idle, Counting, Stopped}
 use Rattle.memory.specs.Fits.{All, GatewayFits, Room}
 use Rattle.memory.proofs.Validated.{Valid, valid-facts, facts-settings, every-each, each-every, and-left, and-right, and-both}
-use Rattle.memory.proofs.Standing.{stands-part}
+use Rattle.buffer.proofs.Standing.{stands-part}
 use Rattle.memory.proofs.Places.{all-of, all-each, Exact, all-map, length-read, stored-exact, exact-stands}
 use Rattle.memory.proofs.Fitting.{valid-fits, fits-ranged}
 use Rattle.memory.proofs.RoundTrips.{length-front, length-back, entry-kept, sent-kept, phase-byte}

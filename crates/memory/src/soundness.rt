@@ -201,11 +201,11 @@ fn follows(before: Entry, entry: Entry) -> bool
     }
     let first_mark = before.mark;
     let second_mark = entry.mark;
-    follow(compare(first, second), first_mark, second_mark)
+    may_follow(compare(first, second), first_mark, second_mark)
 }
 
 // The same by how the two compare.
-fn follow(found: Comparison, first: Mark, second: Mark) -> bool
+fn may_follow(found: Comparison, first: Mark, second: Mark) -> bool
     ensures { λ r. ⌜ r ≡ comparedFollows found first second ⌝ }
 {
     match found {

@@ -15,7 +15,7 @@ use Rattle.memory.specs.Layout.{headerSize, queueAt}
 use Rattle.memory.specs.Codec.{entryBytes, entryOf, placesBytes}
 use Rattle.memory.specs.Fits.{All, nil, cons, MessageFits, EntryFits}
 use Rattle.memory.specs.declared.Entry.{Entry}
-use Rattle.memory.proofs.Standing.{Stands, stands-written}
+use Rattle.buffer.proofs.Standing.{Stands, stands-written}
 use Rattle.memory.proofs.Places.{all-map, all-append, all-front, all-back, length-places, length-read, read-stored}
 use Rattle.memory.proofs.RoundTrips.{entry-length, entry-kept}
 use Rattle.memory.proofs.FromBytes.{bytes-part}

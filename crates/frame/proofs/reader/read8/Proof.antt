@@ -1,6 +1,6 @@
 -- `frame::reader::read8` meets its contract.
 use borrow.Author.Needs.{needs}
-use Rattle.frame.proofs.Places.{read-one}
+use Rattle.buffer.proofs.Readings.{read-one}
 use Rattle.frame.proofs.reader.read8.Statement.{statement}
 use Rattle.frame.proofs.reader.read8.Tie as tie
 

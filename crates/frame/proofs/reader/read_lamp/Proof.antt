@@ -5,7 +5,7 @@ use Prim.Native.Nat.{_≤_, _-_}
 use native.Mathlib.Omega.{arith}
 use lib.ListN.{length, take, length-set}
 use Rattle.buffer.specs.Slice.{part}
-use Rattle.frame.proofs.Places.{lamp-turn, lamp-end}
+use Rattle.buffer.proofs.Readings.{part-turn, part-end}
 use Rattle.frame.proofs.reader.read_lamp.Statement.{statement}
 use Rattle.frame.proofs.reader.read_lamp.Tie as tie
 
@@ -34,10 +34,10 @@ loop-less : tie.Need-loop-less Inv-loop μ-loop
 loop-less c = search needs
 
 loop-again : tie.Need-loop-again Inv-loop μ-loop
-loop-again c = (omega arith, simp length-set (omega arith), search lamp-turn)
+loop-again c = (omega arith, simp length-set (omega arith), search part-turn)
 
 returns : tie.Need-returns Inv-loop μ-loop
-returns c = search lamp-end
+returns c = search part-end
 
 pub read-lamp-spec : {M : Type 1} → statement M
 read-lamp-spec =

@@ -4,7 +4,7 @@ use Prim.Native.Nat.{_≤_, _-_}
 use native.Mathlib.Omega.{arith}
 use lib.ListN.{length, length-set}
 use Rattle.buffer.specs.Slice.{part, write}
-use Rattle.gateway.proofs.Moves.{down-start, down-turn, down-end}
+use Rattle.buffer.proofs.Moves.{down-start, down-turn, down-end}
 use borrow.Author.Needs.{needs}
 use Rattle.gateway.proofs.places.move_down.Statement.{statement}
 use Rattle.gateway.proofs.places.move_down.Tie as tie

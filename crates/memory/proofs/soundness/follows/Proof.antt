@@ -10,11 +10,11 @@ returns c = search later-hour
 compare-requires : tie.Need-compare-requires
 compare-requires c κs = search needs
 
-follow-requires : tie.Need-follow-requires
-follow-requires c κs = search needs
+may-follow-requires : tie.Need-may-follow-requires
+may-follow-requires c κs = search needs
 
 returns-2 : tie.Need-returns-2
 returns-2 c = search compared-so
 
 pub follows-spec : {M : Type 1} → statement M
-follows-spec = tie.close (tie.spec returns compare-requires follow-requires returns-2)
+follows-spec = tie.close (tie.spec returns compare-requires may-follow-requires returns-2)

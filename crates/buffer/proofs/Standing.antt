@@ -1,4 +1,4 @@
--- Laws of bytes that stand at a position of the memory: a write of them changes nothing, a write apart leaves them.
+-- Laws of bytes that stand at a position of a slice: a write of them changes nothing, a write apart leaves them.
 use mathlib.Core.Path.{_≡_, refl, sym, _∙_, ap}
 use Prim.Native.Nat.{ℕ, _+_, _-_, _≤_}
 use native.Mathlib.Nat.{add-zero}
@@ -6,9 +6,8 @@ use native.Mathlib.Omega.{arith}
 use mathlib.Core.List.{List, _++_, append-assoc}
 use lib.ListN.{length, take, drop, length-append, length-take, length-drop, take-append-drop}
 use lib.Seq.{take-at, drop-at, drop-drop, take-add, take-all, length-take-le}
 use Rattle.buffer.specs.Slice.{part, write}
-use Rattle.memory.specs.Claims.{Apart, before, after}
 use Rattle.buffer.proofs.Writes.{length-part, length-write, part-written, write-join, part-before-write, part-after-write, part-part}
 
 -- the bytes xs stand at position at of m
 abbrev pub Stands : ℕ → List ℕ → List ℕ → Type 0
@@ -75,10 +74,6 @@ module _ (at : ℕ) (xs m : List ℕ) (fits : at + length xs ≤ length m) where
 
   pub stands-after : (from : ℕ) (ys : List ℕ) → at + length xs ≤ from → Stands from ys m → Stands from ys (write at xs m)
   stands-after from ys h s = part-after-write at xs m from (length ys) fits h ∙ s
-
-pub part-apart : (at : ℕ) (xs m : List ℕ) (from n : ℕ) → at + length xs ≤ length m → Apart from n at (length xs) → part (write at xs m) from n ≡ part m from n
-part-apart at xs m from n fits (before h) = part-before-write at xs m from n fits h
-part-apart at xs m from n fits (after h) = part-after-write at xs m from n fits h
 
 -- a longer write of which the front or the back stands there already
 module _ (at : ℕ) (xs ys m : List ℕ) (fits : at + length xs + length ys ≤ length m) where

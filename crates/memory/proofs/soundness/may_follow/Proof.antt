@@ -1,8 +1,8 @@
--- `memory::soundness::follow` meets its contract.
+-- `memory::soundness::may_follow` meets its contract.
 use borrow.Author.Needs.{needs}
 use Rattle.memory.proofs.Following.{marks-decide}
-use Rattle.memory.proofs.soundness.follow.Statement.{statement}
-use Rattle.memory.proofs.soundness.follow.Tie as tie
+use Rattle.memory.proofs.soundness.may_follow.Statement.{statement}
+use Rattle.memory.proofs.soundness.may_follow.Tie as tie
 
 enum-told : tie.Need-enum-told
 enum-told c = search needs
@@ -25,5 +25,5 @@ returns-2 c = search marks-decide
 returns-3 : tie.Need-returns-3
 returns-3 c = search needs
 
-pub follow-spec : {M : Type 1} → statement M
-follow-spec = tie.close (tie.spec enum-told enum-told-2 one-waits-requires enum-told-3 returns returns-2 returns-3)
+pub may-follow-spec : {M : Type 1} → statement M
+may-follow-spec = tie.close (tie.spec enum-told enum-told-2 one-waits-requires enum-told-3 returns returns-2 returns-3)
