@@ -27,14 +27,11 @@ pub struct Run {
 #[derive(Clone, Copy, Debug, Default)]
 pub struct Tally {
     pub calls: usize,
-    pub written: usize,
     /// Takes and commits that were refused with 5.
     pub refused: usize,
     pub cancels: usize,
     /// Calls after which some cancel waited for its message.
     pub cancels_waiting: usize,
-    /// Rounds that all gateways have taken the Update of.
-    pub rounds: usize,
 }
 
 impl Run {
@@ -72,8 +69,17 @@ impl Run {
     }
 
     pub fn tally(&self) -> Tally {
-        let (written, rounds) = (self.under_way.written(), self.under_way.completed_rounds());
-        Tally { written, rounds, ..self.tally }
+        self.tally
+    }
+
+    /// Frames written in the run.
+    pub fn written(&self) -> usize {
+        self.under_way.written()
+    }
+
+    /// Rounds that every gateway has taken the Update of.
+    pub fn completed_rounds(&self) -> usize {
+        self.under_way.completed_rounds()
     }
 
     /// What a run that goes on must change at last: the agreed times and the events committed.
@@ -208,8 +214,8 @@ mod tests {
     /// The given gateways work and all frames but the held ones are brought, until nothing is left.
     fn settle(run: &mut Run, working: &[u8], held: impl Fn(&Frame) -> bool) {
         let mut written = usize::MAX;
-        while written != run.tally().written {
-            written = run.tally().written;
+        while written != run.written() {
+            written = run.written();
             for &own in working {
                 run.work(own, 100, AMPLE).unwrap();
             }
@@ -265,7 +271,7 @@ mod tests {
         assert_eq!(run.frame(0), run.frame(1), "two equal Updates");
         assert_eq!(rounds(&run), [Some(0), Some(1)]);
         run.bring(1, AMPLE).unwrap();
-        assert_eq!((rounds(&run), run.tally().rounds), (vec![Some(1)], 1));
+        assert_eq!((rounds(&run), run.completed_rounds()), (vec![Some(1)], 1));
     }
 
     /// Rounds over all forms of the graph, those that share the bottom row among them.
@@ -283,7 +289,7 @@ mod tests {
             let mut run = Run::new(&setups).unwrap();
             assert_eq!(carrier::finish(&mut run), Ok(End::Finished), "{nodes} gateways");
             assert!(run.agrees());
-            assert!(run.tally().rounds > 1 && run.under_way.may_start());
+            assert!(run.completed_rounds() > 1 && run.under_way.may_start());
         }
     }
 }

@@ -74,7 +74,8 @@ fn has_most_places(setup: &Setup) -> bool {
 
 fn summary(run: &Run) -> String {
     let events: usize = run.records().iter().map(Vec::len).sum();
-    let Tally { calls, written, refused, cancels, cancels_waiting, rounds } = run.tally();
+    let Tally { calls, refused, cancels, cancels_waiting } = run.tally();
+    let (written, rounds) = (run.written(), run.completed_rounds());
     format!(
         "{} gateways, {events} events, {calls} calls, {written} frames, {cancels} cancels, \
          {cancels_waiting} calls with a waiting cancel, {refused} refused, {rounds} rounds",

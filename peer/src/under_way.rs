@@ -97,10 +97,10 @@ impl UnderWay {
 
     /// Gateway `own` accepted a frame, and wrote these.
     pub fn accept(&mut self, own: u8, brought: Carried, output: Vec<Frame>) -> Result<(), Wrong> {
+        self.write_for(own, output, brought.round)?;
         let (Frame::Update { .. }, Some(round)) = (brought.frame, brought.round) else {
-            return self.write(own, output);
+            return Ok(());
         };
-        self.write_for(own, output, Some(round))?;
         if self.rounds[round].updated.contains(&own) {
             return Err(format!("{own} takes the Update of round {round} twice"));
         }
@@ -108,23 +108,23 @@ impl UnderWay {
         self.count_if_completed(round)
     }
 
-    /// Gateway `own` wrote frames that relay no Update.
+    /// Gateway `own` wrote frames without taking one.
     pub fn write(&mut self, own: u8, output: Vec<Frame>) -> Result<(), Wrong> {
         self.write_for(own, output, None)
     }
 
-    /// `relayed` is the round of an Update that gateway `own` took.
+    /// `taken` is the round of the frame that gateway `own` took; an Update that it relays counts for that round.
     fn write_for(
         &mut self,
         own: u8,
         output: Vec<Frame>,
-        relayed: Option<usize>,
+        taken: Option<usize>,
     ) -> Result<(), Wrong> {
         let closes = own == 0 && output.iter().any(|frame| matches!(frame, Frame::Update { .. }));
         for frame in output {
             let round = match frame {
                 Frame::Event { .. } => None,
-                Frame::Update { .. } if own != 0 => relayed,
+                Frame::Update { .. } if own != 0 => taken,
                 _ => Some(self.open_round()?),
             };
             if let Some(round) = round {
