@@ -73,7 +73,7 @@ uint32_t hurfaith_route(uint32_t gateways, uint32_t own, uint16_t *neighbours, s
 /* Makes a gateway of `memory`, whatever it held. `gateways` is N, 1 to 255; `own` and `supplier` are below N; `stock` is at most
  * 65,535; `last_hour` at most 4,294,967,294; queue_places and outstanding_places are 1 to 512. `list` is the opening list: whole
  * frames, one behind the other, plain Failure and Restock only, from and to this gateway; it may be empty. The agreed time is 0.
- * Answers 0; or 8; or the first frame's 1, 2 or 3; or 5 where the list has more frames than there are queue places. */
+ * Answers 0; or 8; or 1, 2 or 3 of the first frame that is refused; or 5 where the list has more frames than there are queue places. */
 uint32_t hurfaith_set_up(uint8_t *memory, size_t memory_len, const uint8_t *list, size_t list_len,
     uint32_t gateways, uint32_t own, uint32_t supplier, uint32_t stock, uint32_t last_hour,
     uint32_t queue_places, uint32_t outstanding_places);
@@ -90,7 +90,7 @@ uint64_t hurfaith_take(uint8_t *memory, size_t memory_len, const uint8_t *frame,
 uint64_t hurfaith_start(uint8_t *memory, size_t memory_len, uint8_t *out, size_t out_len);
 
 /* Commits the oldest processed event if its hour is below the agreed time: it leaves the queue, and its record is written, its frame
- * and then the state after it (stock 2 bytes; failed, fitted and short 4 each; high byte first). At most 42 bytes.
+ * and then the state after it (stock 2 bytes; failed, fitted and short 4 each; high byte first). At most 41 bytes.
  * Answers 0, or 10, 6, 5. */
 uint64_t hurfaith_commit(uint8_t *memory, size_t memory_len, uint8_t *out, size_t out_len);
 

@@ -4,7 +4,7 @@ use libc::STDOUT_FILENO;
 
 // Prints the listing of an input by way of out.
 fn print(input: &[u8], out: &mut [u8]) {
-    let put = listing::render(input, out);
+    let put = rendering::render(input, out);
     let length = put.length;
     io::write_all(STDOUT_FILENO, &out[..length]);
 }

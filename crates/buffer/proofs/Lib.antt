@@ -4,5 +4,6 @@ pub mod Readings
 pub mod Standing
 pub mod Moves
 pub mod Numbers
-pub mod Putting
 pub mod Equality
+pub mod Putting
+pub mod Lent

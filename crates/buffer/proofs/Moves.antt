@@ -24,8 +24,10 @@ module _ (at : ℕ) (xs m : List ℕ) (fits : at + length xs ≤ length m) where
   write-cons : (x k : ℕ) → at ≡ suc k → set (write at xs m) k x ≡ write k (x ∷ xs) m
   unfolding write
   write-cons x k e =
-      let front : take k (write at xs m) ≡ take k m = sym (take-take k at (write at xs m) (omega arith)) ∙ ap (take k) (take-write at xs m fits) ∙ take-take k at m (omega arith) in
-      let back : drop at (write at xs m) ≡ xs ++ drop (at + length xs) m = drop-at (take at m) (xs ++ drop (at + length xs) m) at (length-take-le at m (omega arith)) in
+      let front : take k (write at xs m) ≡ take k m = sym (take-take k at (write at xs m) (omega arith)) ∙ ap (take k) (take-write at xs m
+      fits) ∙ take-take k at m (omega arith) in
+      let back : drop at (write at xs m) ≡ xs ++ drop (at + length xs) m = drop-at (take at m) (xs ++ drop (at + length xs) m) at
+      (length-take-le at m (omega arith)) in
       let n : k + suc (length xs) ≡ at + length xs = omega arith in
       let h : k < length (write at xs m) = omega (arith, length-write at xs m fits) in
       set-split (write at xs m) k x h
@@ -65,9 +67,11 @@ up-turn at from count left m now above fits h p e =
     let next : from + (left - 1) + 1 ≡ from + left = omega arith in
     let longer : part m (from + (left - 1)) (count - (left - 1)) ≡ getD m (from + (left - 1)) 0 ∷ part m (from + left) (count - left) =
     rw (more, ← next) (part-cons m (from + (left - 1)) (count - left) (omega arith)) in
-    rw (same, e, longer) (write-cons (at + left) (part m (from + left) (count - left)) m (omega arith) (getD m (from + (left - 1)) 0) (at + (left - 1)) (omega arith))
+    rw (same, e, longer) (write-cons (at + left) (part m (from + left) (count - left)) m (omega arith) (getD m (from + (left - 1)) 0) (at +
+    (left - 1)) (omega arith))
 
-pub up-end : (at from count left : ℕ) (m now : List ℕ) → left ≤ 0 → now ≡ write (at + left) (part m (from + left) (count - left)) m → now ≡ write at (part m from count) m
+pub up-end : (at from count left : ℕ) (m now : List ℕ) → left ≤ 0 → now ≡ write (at + left) (part m (from + left) (count - left)) m → now ≡
+    write at (part m from count) m
 up-end at from count left m now h e =
     let z : left ≡ 0 = omega arith in
     let a : at + left ≡ at = omega arith in

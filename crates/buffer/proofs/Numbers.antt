@@ -1,5 +1,5 @@
 -- Laws of numbers as bytes, over the width: each direction undoes the other.
-use mathlib.Core.Path.{_≡_, refl, sym, _∙_, ap, ap₂}
+use mathlib.Core.Path.{_≡_, refl, _∙_, ap, ap₂}
 use Prim.Native.Nat.{ℕ, zero, suc, _+_, _*_, _/_, _%_, _^_, _<_, _≤_}
 use native.Mathlib.Nat.{pow-succ', add-mul, zero-add, mul-assoc, mod-eq-of-lt, add-assoc}
 use native.Mathlib.Omega.{arith}
@@ -75,7 +75,16 @@ pub read-four : (m : List ℕ) (at : ℕ) {a b c d : ℕ} → at + 4 ≤ length 
     → (a * 256 + b) * 65536 + (c * 256 + d) ≡ numberOf (part m at 4)
 unfolding numberOf numberFrom
 read-four m at h p q r t =
-    rw (part-cons m at 3 (omega arith), part-cons m (at + 1) 2 (omega arith), part-cons m (at + 1 + 1) 1 (omega arith), part-cons m (at + 1 + 1 + 1) 0 (omega arith), part-nil, add-assoc at 1 1, add-assoc at 2 1)
+    rw (
+      part-cons m at 3 (omega arith),
+      part-cons m (at + 1) 2 (omega arith),
+      part-cons m (at + 1 + 1) 1 (omega arith),
+      part-cons m (at + 1
+          + 1 + 1) 0 (omega arith),
+      part-nil,
+      add-assoc at 1 1,
+      add-assoc at 2 1,
+    )
     (omega arith)
 
 -- a number's bytes stored one behind the other
@@ -95,4 +104,17 @@ stored-four m at n h small =
     let c : ℕ = n / 256 % 256 in
     let high : n / 256 ^ 3 % 256 ≡ n / 16777216 = omega arith in
     let low : n / 256 ^ 0 % 256 ≡ n % 256 = omega arith in
-    rw (set-write m at a (omega arith), write-snoc at (a ∷ []) m b (at + 1) (omega arith) refl, write-snoc at (a ∷ b ∷ []) m c (at + 2) (omega arith) refl, write-snoc at (a ∷ b ∷ c ∷ []) m (n % 256) (at + 3) (omega arith) refl, high, low)
+    rw (
+      set-write m at a (omega arith),
+      write-snoc at (a ∷ []) m b (at + 1) (omega arith) refl,
+      write-snoc at (a ∷ b ∷ []) m c (at + 2)
+          (omega arith) refl,
+      write-snoc at (a ∷ b ∷ c ∷ []) m (n % 256) (at + 3) (omega arith) refl,
+      high,
+      low,
+    )
+
+-- a number of one byte
+pub one-byte : (n : ℕ) → n < 256 → bytesOf 1 n ≡ n ∷ []
+unfolding bytesOf
+one-byte n h = ap (λ (x : ℕ). x ∷ []) (omega arith)

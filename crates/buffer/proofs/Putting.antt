@@ -5,7 +5,7 @@ use Prim.Native.Nat.{ℕ, _+_, _≤_, _<_}
 use native.Mathlib.Omega.{arith}
 use lib.ListN.{length, set, length-append}
 use Rattle.buffer.specs.Slice.{write, Puts}
-use Rattle.buffer.proofs.Writes.{write-nil, write-join, write-snoc, length-write, set-write}
+use Rattle.buffer.proofs.Writes.{write-nil, write-join, length-write, set-write}
 
 -- nothing
 pub puts-nothing : (at : ℕ) (m : List ℕ) → Puts at [] m m at

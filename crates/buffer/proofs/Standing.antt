@@ -83,7 +83,8 @@ module _ (at : ℕ) (xs ys m : List ℕ) (fits : at + length xs + length ys ≤ 
   pub write-past-back : Stands (at + length xs) ys m → write at (xs ++ ys) m ≡ write at xs m
   write-past-back s =
       sym (write-join at xs ys m (omega arith))
-      ∙ write-stands (at + length xs) ys (write at xs m) (rw (length-write at xs m (omega arith)) fits) (stands-after at xs m (omega arith) (at + length xs) ys (omega arith) s)
+      ∙ write-stands (at + length xs) ys (write at xs m) (rw (length-write at xs m (omega arith)) fits) (stands-after at xs m (omega arith)
+      (at + length xs) ys (omega arith) s)
 
 -- a write into a list that is given in three pieces
 pub write-pieces : (at : ℕ) (xs p q r : List ℕ) → length p ≡ at → length q ≡ length xs → write at xs (p ++ (q ++ r)) ≡ p ++ (xs ++ r)
@@ -126,11 +127,13 @@ pub write-swap : (at : ℕ) (xs : List ℕ) (from : ℕ) (ys m : List ℕ) → a
 write-swap at xs from ys m apart fits =
     let gap : ℕ = from - (at + length xs) in
     let behind : List ℕ = drop (length xs) (drop at m) in
-    let cut : take at m ++ (take (length xs) (drop at m) ++ (take gap behind ++ (take (length ys) (drop gap behind) ++ drop (length ys) (drop gap behind)))) ≡ m =
+    let cut : take at m ++ (take (length xs) (drop at m) ++ (take gap behind ++ (take (length ys) (drop gap behind) ++ drop (length ys)
+    (drop gap behind)))) ≡ m =
     simp take-append-drop
     in
     rw cut at
-    (swap-pieces at from xs ys (take at m) (take (length xs) (drop at m)) (take gap behind) (take (length ys) (drop gap behind)) (drop (length ys) (drop gap behind))
+    (swap-pieces at from xs ys (take at m) (take (length xs) (drop at m)) (take gap behind) (take (length ys) (drop gap behind)) (drop
+    (length ys) (drop gap behind))
     (length-take-le at m (omega arith))
     (simp (length-take, length-drop) (omega arith))
     (simp (length-take, length-drop) (omega arith))

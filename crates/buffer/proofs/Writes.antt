@@ -1,12 +1,13 @@
 -- Laws of a part of a slice and of bytes written into a slice.
 use mathlib.Core.Path.{_≡_, refl, sym, _∙_, ap}
-use Prim.Native.Nat.{ℕ, zero, suc, _+_, _-_, _≤_, _<_, min}
+use Prim.Native.Nat.{ℕ, zero, suc, _+_, _-_, _≤_, _<_}
 use native.Mathlib.Nat.{add-assoc, add-zero, zero-add, suc-add}
 use native.Mathlib.Numerals.{add-one}
 use native.Mathlib.Omega.{arith}
 use mathlib.Core.List.{List, [], _∷_, _++_, append-assoc}
-use lib.ListN.{length, take, drop, set, getD, length-append, length-take, length-drop, take-append-drop, List·getD-append}
-use lib.Seq.{take-at, drop-at, drop-drop, take-add, set-split, getD-take, getD-drop, getD-append-add, take-append-le, drop-append-le, length-take-le, take-take, drop-append-add, take-nil, drop-cons, take-suc, take-all}
+use lib.ListN.{length, take, drop, set, getD, length-append, length-take, length-drop, take-append-drop}
+use lib.Seq.{take-at, drop-at, drop-drop, set-split}
+use lib.Seq.{length-take-le, take-take, drop-append-add, take-nil, drop-cons, take-suc, take-all}
 use Rattle.buffer.specs.Slice.{part, write}
 
 pub length-part : (m : List ℕ) (at n : ℕ) → at + n ≤ length m → length (part m at n) ≡ n
@@ -62,7 +63,8 @@ write-join at xs ys m h =
     let e : length (take at m ++ xs) ≡ at + length xs = simp (length-append, length-take) (omega arith) in
     let front : take (at + length xs) (write at xs m) ≡ take at m ++ xs = rw write-split (take-at _ _ _ e) in
     let rest : drop (at + length xs + length ys) (write at xs m) ≡ drop (at + length xs + length ys) m =
-    rw (write-split, ← e) (drop-append-add (take at m ++ xs) (drop (length (take at m ++ xs)) m) (length ys) ∙ drop-drop (length ys) (length (take at m ++ xs)) m)
+    rw (write-split, ← e) (drop-append-add (take at m ++ xs) (drop (length (take at m ++ xs)) m) (length ys) ∙ drop-drop (length ys) (length
+    (take at m ++ xs)) m)
     in
     rw (write-split (at + length xs), write-split at (xs ++ ys), front, rest, length-append, add-assoc) (simp append-assoc)
 

@@ -67,3 +67,27 @@ fn wide32(byte: u8) -> u32
 {
     byte as u32
 }
+
+// Moves count bytes down from one position to another, the first first.
+pub fn move_down(memory: &mut [u8], from: usize, at: usize, count: usize)
+    requires { ⌜ (at ≤ from) × (from + count ≤ length (now memory)) ⌝ }
+    ensures { λ _. ⌜ now (memory .exit) ≡ write at (part (now (memory .entry)) from count) (now (memory .entry)) ⌝ }
+{
+    let mut i = 0;
+    while i < count {
+        memory[at + i] = memory[from + i];
+        i += 1;
+    }
+}
+
+// Moves count bytes up from one position to another, the last first.
+pub fn move_up(memory: &mut [u8], from: usize, at: usize, count: usize)
+    requires { ⌜ (from ≤ at) × (at + count ≤ length (now memory)) ⌝ }
+    ensures { λ _. ⌜ now (memory .exit) ≡ write at (part (now (memory .entry)) from count) (now (memory .entry)) ⌝ }
+{
+    let mut left = count;
+    while left > 0 {
+        left -= 1;
+        memory[at + left] = memory[from + left];
+    }
+}

@@ -8,15 +8,17 @@ use mathlib.Core.Bool.{Bool}
 use mathlib.Core.List.{List, [], _∷_, _++_}
 use lib.ListN.{length, getD, take, drop, length-append}
 use lib.Seq.{take-at, drop-at, split-at}
+use Rattle.lists.specs.Lists.{joined, All, nil, cons}
+use Rattle.lists.proofs.ListLaws.{all-append, all-left, all-right, all-map}
 use Rattle.buffer.specs.Slice.{Bytes, part, write}
 use Rattle.buffer.proofs.Writes.{length-write, write-nil}
 use Rattle.model.specs.declared.Message.{Message}
 use Rattle.model.specs.declared.State.{State}
 use Rattle.memory.specs.Records.{Gateway}
-use Rattle.memory.specs.Layout.{headerSize, queueAt, outstandingAt, sizeFor}
-use Rattle.memory.specs.Codec.{entryBytes, entryOf, sentBytes, sentOf, headerFront, headerBack, placesAt, placesBytes, decode, encode}
+use Rattle.memory.specs.Layout.{headerSize, queueAt, outstandingAt, sizeFor, outstandingSize, queueSize}
+use Rattle.memory.specs.Codec.{entryBytes, entryOf, sentBytes, sentOf, headerFront, headerBack, placesAt, decode, encode}
 use Rattle.memory.specs.Ranges.{RangedState}
-use Rattle.memory.specs.Fits.{All, nil, cons, MessageFits, EntryFits, SentFits, RoundFits, HeaderFits}
+use Rattle.memory.specs.inside.Fits.{MessageFits, EntryFits, SentFits, RoundFits, HeaderFits, GatewayFits}
 use Rattle.memory.specs.declared.Header.{Header}
 use Rattle.memory.specs.declared.Entry.{Entry}
 use Rattle.memory.specs.declared.Sent.{Sent}
@@ -24,16 +26,16 @@ use Rattle.memory.specs.declared.Round.{Round}
 use Rattle.memory.specs.declared.Phase.{Phase}
 use Rattle.memory.specs.declared.Phase.the-variants.{Idle, Counting, Stopped}
 use Rattle.buffer.proofs.Standing.{Stands, write-stands, write-swap, write-covers, stands-written, stands-before, stands-after}
-use Rattle.memory.proofs.Places.{all-append, all-front, all-back, all-map, length-places, length-read, read-add, read-stored}
+use Rattle.memory.proofs.Places.{length-places, length-read, read-add, read-stored}
 use Rattle.memory.proofs.RoundTrips.{entry-length, entry-kept, sent-length, sent-kept}
 use Rattle.memory.proofs.Holding.{length-queue, length-outstanding, encode-by}
 use Rattle.memory.proofs.SoundMemory.{sound-facts, sound-holds, sound-room, sound-fits, header-held}
 use Rattle.memory.proofs.Changes.{queueWritten, outstandingWritten, queue-over, one-sent, entry-replaced, entry-inserted, entry-removed}
 use Rattle.gateway.specs.Effects.{withQueue, withState, withAgreed, withRound, loweredIn, noted, sentOne}
-use Rattle.gateway.specs.Premises.{Known}
-use Rattle.gateway.proofs.Recording.{place-at}
-use Rattle.effects.specs.Sending.{headerSent}
-use Rattle.effects.specs.Placed.{Placed}
+use Rattle.gateway.specs.inside.Premises.{Known}
+use Rattle.memory.proofs.Places.{place-at}
+use Rattle.effects.specs.inside.Sending.{headerSent}
+use Rattle.effects.specs.inside.Placed.{Placed}
 
 -- sound memory as a call finds it
 pub placed-first : (m : List ℕ) (h : Header) → Bytes m → Known m h → Placed m m h (decode m)
@@ -43,15 +45,20 @@ placed-first m h bytes k =
     let fits = sound-fits m bytes s in
     let room = sound-room m bytes s in
     let held = sound-holds m bytes s in
-    let queue : queueWritten (g .queue) m ≡ m = write-stands headerSize (placesBytes entryBytes (g .queue)) m (rw (length-queue g fits) (omega (arith, room .long, room .queued))) (held .queue) in
+    let queue : queueWritten (g .queue) m ≡ m = write-stands headerSize (joined entryBytes (g .queue)) m (rw (length-queue g fits) (omega
+    (arith, room .long, room .queued))) (held .queue) in
     let sent : outstandingWritten (g .settings .q) (g .outstanding) m ≡ m =
-    write-stands (outstandingAt (g .settings .q) 0) (placesBytes sentBytes (g .outstanding)) m (rw (length-outstanding g fits) (omega (arith, room .long, room .sent))) (held .outstanding)
+    write-stands (outstandingAt (g .settings .q) 0) (joined sentBytes (g .outstanding)) m (rw (length-outstanding g fits) (omega (
+      arith,
+      room .long,
+      room .sent,
+    ))) (held .outstanding)
     in
     record { fits = fits; room = room; header = k .header ∙ sym (header-held m bytes s); places = sym (rw queue sent) }
 
 -- the places that a header counts lie inside the memory
 pub record Inside (memory : List ℕ) (h : Header) : Type 0 where
-  pub long : 256 + 64 * h .settings .q + 32 * h .settings .u ≤ length memory
+  pub long : sizeFor (h .settings .q) (h .settings .u) ≤ length memory
   pub queued : h .queued ≤ h .settings .q
   pub outstanding : h .outstanding ≤ h .settings .u
   pub q : h .settings .q < 65536
@@ -59,35 +66,37 @@ pub record Inside (memory : List ℕ) (h : Header) : Type 0 where
 
 module _ {before memory : List ℕ} {h : Header} {g : Gateway} (p : Placed before memory h g) where
   -- the bytes of the queue and of what is outstanding lie in the memory, one behind the other
-  queue-first : headerSize + length (placesBytes entryBytes (g .queue)) ≤ outstandingAt (g .settings .q) 0
+  queue-first : headerSize + length (joined entryBytes (g .queue)) ≤ outstandingAt (g .settings .q) 0
   queue-first = rw (length-queue g (p .fits)) (omega (arith, p .room .queued))
 
-  sent-inside : outstandingAt (g .settings .q) 0 + length (placesBytes sentBytes (g .outstanding)) ≤ length before
+  sent-inside : outstandingAt (g .settings .q) 0 + length (joined sentBytes (g .outstanding)) ≤ length before
   sent-inside = rw (length-outstanding g (p .fits)) (omega (arith, p .room .long, p .room .sent))
 
-  queue-inside : headerSize + length (placesBytes entryBytes (g .queue)) ≤ length before
+  queue-inside : headerSize + length (joined entryBytes (g .queue)) ≤ length before
   queue-inside = omega (arith, queue-first, sent-inside)
 
   queue-long : length (queueWritten (g .queue) before) ≡ length before
-  queue-long = length-write headerSize (placesBytes entryBytes (g .queue)) before queue-inside
+  queue-long = length-write headerSize (joined entryBytes (g .queue)) before queue-inside
 
   -- the memory is as long as it was
   pub placed-length : length memory ≡ length before
   placed-length =
       rw (p .places)
-      (length-write (outstandingAt (g .settings .q) 0) (placesBytes sentBytes (g .outstanding)) (queueWritten (g .queue) before) (rw queue-long sent-inside) ∙ queue-long)
+      (length-write (outstandingAt (g .settings .q) 0) (joined sentBytes (g .outstanding)) (queueWritten (g .queue) before) (rw queue-long
+      sent-inside) ∙ queue-long)
 
   -- what stands in it
-  pub placed-outstanding : Stands (outstandingAt (g .settings .q) 0) (placesBytes sentBytes (g .outstanding)) memory
+  pub placed-outstanding : Stands (outstandingAt (g .settings .q) 0) (joined sentBytes (g .outstanding)) memory
   placed-outstanding =
-      rw (p .places) (stands-written (outstandingAt (g .settings .q) 0) (placesBytes sentBytes (g .outstanding)) (queueWritten (g .queue) before) (rw queue-long sent-inside))
+      rw (p .places) (stands-written (outstandingAt (g .settings .q) 0) (joined sentBytes (g .outstanding)) (queueWritten (g .queue) before)
+      (rw queue-long sent-inside))
 
-  pub placed-queue : Stands headerSize (placesBytes entryBytes (g .queue)) memory
+  pub placed-queue : Stands headerSize (joined entryBytes (g .queue)) memory
   placed-queue =
       rw (p .places)
-      (stands-before (outstandingAt (g .settings .q) 0) (placesBytes sentBytes (g .outstanding)) (queueWritten (g .queue) before) (rw queue-long sent-inside)
-      headerSize (placesBytes entryBytes (g .queue)) queue-first
-      (stands-written headerSize (placesBytes entryBytes (g .queue)) before queue-inside))
+      (stands-before (outstandingAt (g .settings .q) 0) (joined sentBytes (g .outstanding)) (queueWritten (g .queue) before) (rw queue-long sent-inside)
+      headerSize (joined entryBytes (g .queue)) queue-first
+      (stands-written headerSize (joined entryBytes (g .queue)) before queue-inside))
 
   -- what the header says of the memory
   pub placed-inside : Inside memory h
@@ -136,16 +145,18 @@ module _ {before memory : List ℕ} {h : Header} {g : Gateway} (p : Placed befor
       let all : All SentFits (g .outstanding ++ (new-sent ∷ [])) = all-append (old .outstanding) (cons fits-new nil) in
       let q = g .settings .q in
       let long = placed-length p in
-      let k = length-places sentBytes 32 (all-map sent-length (old .outstanding)) in
-      let l = length-places sentBytes 32 (all-map sent-length all) in
+      let k = length-places sentBytes outstandingSize (all-map sent-length (old .outstanding)) in
+      let l = length-places sentBytes outstandingSize (all-map sent-length all) in
       let n = count-sent in
       let under = queueWritten (g .queue) before in
       let as-long : length under ≡ length before = queue-long p in
-      let added : outstandingWritten q (g .outstanding ++ (new-sent ∷ [])) memory ≡ write (outstandingAt q (length (g .outstanding))) (sentBytes new-sent) memory =
+      let added : outstandingWritten q (g .outstanding ++ (new-sent ∷ [])) memory ≡ write (outstandingAt q (length (g .outstanding)))
+      (sentBytes new-sent) memory =
       one-sent memory q (g .outstanding) new-sent (old .outstanding) fits-new (rw long (omega (arith, p .room .long, free))) (placed-outstanding p)
       in
-      let over : outstandingWritten q (g .outstanding ++ (new-sent ∷ [])) (outstandingWritten q (g .outstanding) under) ≡ outstandingWritten q (g .outstanding ++ (new-sent ∷ [])) under =
-      write-covers (outstandingAt q 0) (placesBytes sentBytes (g .outstanding ++ (new-sent ∷ []))) (placesBytes sentBytes (g .outstanding)) under
+      let over : outstandingWritten q (g .outstanding ++ (new-sent ∷ [])) (outstandingWritten q (g .outstanding) under) ≡ outstandingWritten
+      q (g .outstanding ++ (new-sent ∷ [])) under =
+      write-covers (outstandingAt q 0) (joined sentBytes (g .outstanding ++ (new-sent ∷ []))) (joined sentBytes (g .outstanding)) under
       (rw (l, n, as-long) (omega (arith, p .room .long, free))) (rw (k, l, n) (omega arith))
       in
       record {
@@ -154,7 +165,11 @@ module _ {before memory : List ℕ} {h : Header} {g : Gateway} (p : Placed befor
             settings = old .header .settings;
             state = old .header .state;
             agreed = old .header .agreed;
-            round = record { arrived = old .header .round .arrived; note = lowered-fits (g .round .phase) (g .round .note) (m .hour) (old .header .round .note) };
+            round = record {
+              arrived = old .header .round .arrived;
+              note = lowered-fits (g .round .phase) (g .round .note) (m .hour)
+                  (old .header .round .note);
+            };
             queued = old .header .queued;
             outstanding = rw n (omega (arith, free, old .header .settings .u));
           };
@@ -173,17 +188,33 @@ module _ {before memory : List ℕ} {h : Header} {g : Gateway} (p : Placed befor
         places = e ∙ (rw (p .header) (sym added) ∙ (ap (outstandingWritten q (g .outstanding ++ (new-sent ∷ []))) (p .places) ∙ over));
       }
 
+-- a gateway whose numbers fit, with another queue that its places hold
+queue-fits : {g : Gateway} → GatewayFits g → (queue : List Entry) → All EntryFits queue → length queue ≤ g .settings .q
+    → GatewayFits (withQueue queue g)
+queue-fits f queue all place = record {
+  header = record {
+    settings = f .header .settings;
+    state = f .header .state;
+    agreed = f .header .agreed;
+    round = f .header .round;
+    queued = omega (arith, place, f .header .settings .q);
+    outstanding = f .header .outstanding;
+  };
+  queue = all;
+  outstanding = f .outstanding;
+}
+
 -- another queue that is as long or longer, written over the memory
 module _ {before memory : List ℕ} {h : Header} {g : Gateway} (p : Placed before memory h g) (queue : List Entry) (all : All EntryFits queue)
     (longer : length (g .queue) ≤ length queue) (place : length queue ≤ g .settings .q) where
   queue-again : queueWritten queue memory ≡ outstandingWritten (g .settings .q) (g .outstanding) (queueWritten queue before)
   queue-again =
       let at = outstandingAt (g .settings .q) 0 in
-      let sent = placesBytes sentBytes (g .outstanding) in
+      let sent = joined sentBytes (g .outstanding) in
       let old = queueWritten (g .queue) before in
-      let l = length-places entryBytes 64 (all-map entry-length all) in
+      let l = length-places entryBytes queueSize (all-map entry-length all) in
       let swapped : queueWritten queue (write at sent old) ≡ write at sent (queueWritten queue old) =
-      sym (write-swap headerSize (placesBytes entryBytes queue) at sent old (rw l (omega arith)) (rw (queue-long p) (sent-inside p)))
+      sym (write-swap headerSize (joined entryBytes queue) at sent old (rw l (omega arith)) (rw (queue-long p) (sent-inside p)))
       in
       ap (queueWritten queue) (p .places)
       ∙ (swapped ∙ ap (write at sent) (queue-over before (p .fits .queue) all longer (omega (arith, p .room .long))))
@@ -192,28 +223,17 @@ module _ {before memory : List ℕ} {h : Header} {g : Gateway} (p : Placed befor
       → h′ ≡ record { settings = h .settings; state = h .state; agreed = h .agreed; round = h .round; queued = length queue; outstanding = h .outstanding }
       → Placed before memory′ h′ (withQueue queue g)
   placed-queued e d = record {
-    fits = record {
-      header = record {
-        settings = p .fits .header .settings;
-        state = p .fits .header .state;
-        agreed = p .fits .header .agreed;
-        round = p .fits .header .round;
-        queued = omega (arith, place, p .fits .header .settings .q);
-        outstanding = p .fits .header .outstanding;
-      };
-      queue = all;
-      outstanding = p .fits .outstanding;
-    };
+    fits = queue-fits (p .fits) queue all place;
     room = record { long = p .room .long; queued = place; sent = p .room .sent };
     header = d ∙ rw (p .header);
     places = e ∙ queue-again;
   }
 
 all-behind : {p : Entry → Type 0} (xs : List Entry) (x : Entry) (zs : List Entry) → All p (xs ++ (x ∷ zs)) → All p zs
-all-behind xs x zs ps = all-back (x ∷ []) zs (all-back xs (x ∷ zs) ps)
+all-behind xs x zs ps = all-right (x ∷ []) zs (all-right xs (x ∷ zs) ps)
 
 all-at : {p : Entry → Type 0} (xs : List Entry) (x : Entry) (zs : List Entry) → All p (xs ++ (x ∷ zs)) → p x
-all-at {p = p} xs x zs ps = first (all-back xs (x ∷ zs) ps)
+all-at {p = p} xs x zs ps = first (all-right xs (x ∷ zs) ps)
   where
     first : All p (x ∷ zs) → p x
     first (cons h hs) = h
@@ -224,10 +244,10 @@ module _ {before memory : List ℕ} {h : Header} {g : Gateway} (p : Placed befor
   same-count : length (xs ++ (y ∷ zs)) ≡ length (g .queue)
   same-count = length-append xs (y ∷ zs) ∙ (sym (length-append xs (x ∷ zs)) ∙ sym (ap length e))
 
-  pub placed-replaced : {memory′ : List ℕ} → memory′ ≡ write (256 + 64 * k) (entryBytes y) memory → Placed before memory′ h (withQueue (xs ++ (y ∷ zs)) g)
+  pub placed-replaced : {memory′ : List ℕ} → memory′ ≡ write (queueAt k) (entryBytes y) memory → Placed before memory′ h (withQueue (xs ++ (y ∷ zs)) g)
   placed-replaced w =
       let fits : All EntryFits (xs ++ (x ∷ zs)) = rw (← e) (p .fits .queue) in
-      let all : All EntryFits (xs ++ (y ∷ zs)) = all-append (all-front xs (x ∷ zs) fits) (cons new (all-behind xs x zs fits)) in
+      let all : All EntryFits (xs ++ (y ∷ zs)) = all-append (all-left xs (x ∷ zs) fits) (cons new (all-behind xs x zs fits)) in
       let inside : queueAt (length xs + 1 + length zs) ≤ length memory =
       rw (placed-length p) (omega (arith, p .room .long, p .room .queued, ap length e, length-append xs (x ∷ zs)))
       in
@@ -236,7 +256,15 @@ module _ {before memory : List ℕ} {h : Header} {g : Gateway} (p : Placed befor
       in
       placed-queued p (xs ++ (y ∷ zs)) all (omega (arith, same-count)) (omega (arith, same-count, p .room .queued))
       (w ∙ (rw at (sym stored)))
-      (λ i. record { settings = h .settings; state = h .state; agreed = h .agreed; round = h .round; queued = (ap (λ (k : Header). k .queued) (p .header) ∙ sym same-count) i; outstanding = h .outstanding })
+      (λ i. record {
+        settings = h .settings;
+        state = h .state;
+        agreed = h .agreed;
+        round = h .round;
+        queued = (ap (λ (k : Header).
+            k .queued) (p .header) ∙ sym same-count) i;
+        outstanding = h .outstanding;
+      })
 
 -- an entry is put into the queue, those from its place on moved up
 module _ {before memory : List ℕ} {h : Header} {g : Gateway} (p : Placed before memory h g) (xs zs : List Entry)
@@ -251,98 +279,90 @@ module _ {before memory : List ℕ} {h : Header} {g : Gateway} (p : Placed befor
   places-is = ap (λ (k : Header). k .settings .q) (p .header)
 
   pub placed-inserted : {memory′ : List ℕ} {h′ : Header}
-      → memory′ ≡ write (256 + 64 * k) (entryBytes x) (write (256 + 64 * k + 64) (part memory (256 + 64 * k) (64 * (h .queued - k))) memory)
+      → memory′ ≡ write (queueAt k) (entryBytes x) (write (queueAt k + queueSize) (part memory (queueAt k) (queueSize * (h .queued - k))) memory)
       → h′ ≡ record { settings = h .settings; state = h .state; agreed = h .agreed; round = h .round; queued = h .queued + 1; outstanding = h .outstanding }
       → Placed before memory′ h′ (withQueue (xs ++ (x ∷ zs)) g)
   placed-inserted w d =
       let fits : All EntryFits (xs ++ zs) = rw (← e) (p .fits .queue) in
-      let all : All EntryFits (xs ++ (x ∷ zs)) = all-append (all-front xs zs fits) (cons new (all-back xs zs fits)) in
+      let all : All EntryFits (xs ++ (x ∷ zs)) = all-append (all-left xs zs fits) (cons new (all-right xs zs fits)) in
       let n = one-more in
       let m = length-append xs zs in
       let inside : queueAt (length xs + 1 + length zs) ≤ length memory =
       rw (placed-length p) (omega (arith, p .room .long, place, places-is, queued-is, ap length e, m))
       in
-      let next : queueAt (length xs + 1) ≡ 256 + 64 * k + 64 = rw at (omega arith) in
+      let next : queueAt (length xs + 1) ≡ queueAt k + queueSize = rw at (omega arith) in
       let rest : length zs ≡ h .queued - k = rw at (omega (arith, queued-is, ap length e, m)) in
       let stored = rw (next, rest, ← at) at (entry-inserted memory xs x zs all inside (rw (← e) (placed-queue p))) in
       placed-queued p (xs ++ (x ∷ zs)) all (omega (arith, n, queued-is)) (omega (arith, n, place, places-is)) (w ∙ sym stored) (rw n d)
 
 -- reading: the places hold the queue and what is outstanding
 module _ {before memory : List ℕ} {h : Header} {g : Gateway} (p : Placed before memory h g) where
-  pub placed-entries : placesAt entryOf 64 memory 256 (h .queued) ≡ g .queue
-  placed-entries = rw (p .header) (read-stored entryBytes entryOf 64 memory 256 (all-map entry-kept (p .fits .queue)) (placed-queue p))
+  pub placed-entries : placesAt entryOf queueSize memory headerSize (h .queued) ≡ g .queue
+  placed-entries = rw (p .header) (read-stored entryBytes entryOf queueSize memory headerSize (all-map entry-kept (p .fits .queue)) (placed-queue p))
 
-  pub placed-sent-places : placesAt sentOf 32 memory (256 + 64 * h .settings .q) (h .outstanding) ≡ g .outstanding
+  pub placed-sent-places : placesAt sentOf outstandingSize memory (queueAt (h .settings .q)) (h .outstanding) ≡ g .outstanding
   placed-sent-places =
       rw (p .header)
-      (rw add-zero at (read-stored sentBytes sentOf 32 memory (outstandingAt (g .settings .q) 0) (all-map sent-kept (p .fits .outstanding)) (placed-outstanding p)))
+      (rw add-zero at (read-stored sentBytes sentOf outstandingSize memory (outstandingAt (g .settings .q) 0) (all-map sent-kept (p .fits .outstanding))
+      (placed-outstanding p)))
 
   pub placed-count : length (g .queue) ≡ h .queued
   placed-count = rw (p .header)
 
   -- the places before place k, and those from it on
   module _ (k : ℕ) (below : k ≤ h .queued) where
-    in-two : placesAt entryOf 64 memory 256 k ++ placesAt entryOf 64 memory (256 + 64 * k) (h .queued - k) ≡ g .queue
+    in-two : placesAt entryOf queueSize memory headerSize k ++ placesAt entryOf queueSize memory (queueAt k) (h .queued - k) ≡ g .queue
     in-two =
         let e : k + (h .queued - k) ≡ h .queued = omega arith in
-        sym (read-add entryOf 64 memory 256 k (h .queued - k)) ∙ rw e placed-entries
+        sym (read-add entryOf queueSize memory headerSize k (h .queued - k)) ∙ rw e placed-entries
 
-    pub placed-front : placesAt entryOf 64 memory 256 k ≡ take k (g .queue)
-    placed-front = rw (← in-two) (sym (take-at (placesAt entryOf 64 memory 256 k) (placesAt entryOf 64 memory (256 + 64 * k) (h .queued - k)) k (length-read entryOf 64 memory 256 k)))
+    pub placed-front : placesAt entryOf queueSize memory headerSize k ≡ take k (g .queue)
+    placed-front = rw (← in-two) (sym (take-at (placesAt entryOf queueSize memory headerSize k) (placesAt entryOf queueSize memory (queueAt k) (h .queued -
+        k)) k (length-read entryOf queueSize memory headerSize k)))
 
-    pub placed-rest : placesAt entryOf 64 memory (256 + 64 * k) (h .queued - k) ≡ drop k (g .queue)
-    placed-rest = rw (← in-two) (sym (drop-at (placesAt entryOf 64 memory 256 k) (placesAt entryOf 64 memory (256 + 64 * k) (h .queued - k)) k (length-read entryOf 64 memory 256 k)))
+    pub placed-rest : placesAt entryOf queueSize memory (queueAt k) (h .queued - k) ≡ drop k (g .queue)
+    placed-rest = rw (← in-two) (sym (drop-at (placesAt entryOf queueSize memory headerSize k) (placesAt entryOf queueSize memory (queueAt k) (h .queued - k))
+        k (length-read entryOf queueSize memory headerSize k)))
 
   -- the entry in place k
   module _ (k : ℕ) (below : k < h .queued) where
-    pub placed-entry : (d : Entry) → entryOf (part memory (256 + 64 * k) 64) ≡ getD (g .queue) k d
-    placed-entry d = rw (← placed-entries) (sym (place-at entryOf 64 memory 256 (h .queued) k d below))
+    pub placed-entry : (d : Entry) → entryOf (part memory (queueAt k) queueSize) ≡ getD (g .queue) k d
+    placed-entry d = rw (← placed-entries) (sym (place-at entryOf queueSize memory headerSize (h .queued) k d below))
 
-    pub placed-split : {x : Entry} → x ≡ entryOf (part memory (256 + 64 * k) 64) → g .queue ≡ take k (g .queue) ++ (x ∷ drop (suc k) (g .queue))
+    pub placed-split : {x : Entry} → x ≡ entryOf (part memory (queueAt k) queueSize) → g .queue ≡ take k (g .queue) ++ (x ∷ drop (suc k) (g .queue))
     placed-split {x} e = rw (e, placed-entry x) (split-at (g .queue) k x (rw placed-count below))
 
-    pub placed-fits : {x : Entry} → x ≡ entryOf (part memory (256 + 64 * k) 64) → EntryFits x
+    pub placed-fits : {x : Entry} → x ≡ entryOf (part memory (queueAt k) queueSize) → EntryFits x
     placed-fits {x} e = all-at (take k (g .queue)) x (drop (suc k) (g .queue)) (subst (λ (l : List Entry). All EntryFits l) (placed-split e) (p .fits .queue))
 
 -- an entry is taken out of the memory as the call found it, those behind it moved down
 module _ {m : List ℕ} {h : Header} {g : Gateway} (p : Placed m m h g) (xs : List Entry) (x : Entry) (zs : List Entry)
     (e : g .queue ≡ xs ++ (x ∷ zs)) {k : ℕ} (at : k ≡ length xs) where
   pub placed-removed : {memory′ : List ℕ} {h′ : Header}
-      → memory′ ≡ write (256 + 64 * k) (part m (256 + 64 * k + 64) (64 * (h .queued - k - 1))) m
+      → memory′ ≡ write (queueAt k) (part m (queueAt k + queueSize) (queueSize * (h .queued - k - 1))) m
       → h′ ≡ record { settings = h .settings; state = h .state; agreed = h .agreed; round = h .round; queued = h .queued - 1; outstanding = h .outstanding }
       → Placed m memory′ h′ (withQueue (xs ++ zs) g)
   placed-removed w d =
       let old : All EntryFits (xs ++ (x ∷ zs)) = rw (← e) (p .fits .queue) in
-      let all : All EntryFits (xs ++ zs) = all-append (all-front xs (x ∷ zs) old) (all-behind xs x zs old) in
+      let all : All EntryFits (xs ++ zs) = all-append (all-left xs (x ∷ zs) old) (all-behind xs x zs old) in
       let n : length (g .queue) ≡ length xs + suc (length zs) = ap length e ∙ length-append xs (x ∷ zs) in
       let c : length (g .queue) ≡ h .queued = placed-count p in
       let fewer : length (xs ++ zs) ≡ h .queued - 1 = length-append xs zs ∙ omega arith in
       let inside : queueAt (length xs + 1 + length zs) ≤ length m = omega (arith, p .room .long, p .room .queued) in
-      let next : queueAt (length xs + 1) ≡ 256 + 64 * k + 64 = rw at (omega arith) in
+      let next : queueAt (length xs + 1) ≡ queueAt k + queueSize = rw at (omega arith) in
       let rest : length zs ≡ h .queued - k - 1 = omega arith in
       let stored = rw (next, rest, ← at) at (entry-removed m xs x zs old inside (rw (← e) (placed-queue p))) in
-      let l = length-places entryBytes 64 (all-map entry-length all) in
+      let l = length-places entryBytes queueSize (all-map entry-length all) in
       let q = g .settings .q in
       let room : length (xs ++ zs) ≤ q = omega (arith, fewer, p .room .queued) in
-      let fit : headerSize + length (placesBytes entryBytes (xs ++ zs)) ≤ outstandingAt q 0 = rw l (omega arith) in
-      let sent = placesBytes sentBytes (g .outstanding) in
+      let fit : headerSize + length (joined entryBytes (xs ++ zs)) ≤ outstandingAt q 0 = rw l (omega arith) in
+      let sent = joined sentBytes (g .outstanding) in
       let still : Stands (outstandingAt q 0) sent (queueWritten (xs ++ zs) m) =
-      stands-after headerSize (placesBytes entryBytes (xs ++ zs)) m (omega (arith, fit, p .room .long)) (outstandingAt q 0) sent fit (placed-outstanding p)
+      stands-after headerSize (joined entryBytes (xs ++ zs)) m (omega (arith, fit, p .room .long)) (outstandingAt q 0) sent fit (placed-outstanding p)
       in
-      let long : length (queueWritten (xs ++ zs) m) ≡ length m = length-write headerSize (placesBytes entryBytes (xs ++ zs)) m (omega (arith, fit, p .room .long)) in
+      let long : length (queueWritten (xs ++ zs) m) ≡ length m = length-write headerSize (joined entryBytes (xs ++ zs)) m (omega (arith, fit, p .room .long)) in
       record {
-        fits = record {
-          header = record {
-            settings = p .fits .header .settings;
-            state = p .fits .header .state;
-            agreed = p .fits .header .agreed;
-            round = p .fits .header .round;
-            queued = omega (arith, room, p .fits .header .settings .q);
-            outstanding = p .fits .header .outstanding;
-          };
-          queue = all;
-          outstanding = p .fits .outstanding;
-        };
+        fits = queue-fits (p .fits) (xs ++ zs) all room;
         room = record { long = p .room .long; queued = room; sent = p .room .sent };
         header = d ∙ rw (← fewer, p .header);
         places = w ∙ (sym stored ∙ sym (write-stands (outstandingAt q 0) sent (queueWritten (xs ++ zs) m) (rw long (sent-inside p)) still));
@@ -351,10 +371,17 @@ module _ {m : List ℕ} {h : Header} {g : Gateway} (p : Placed m m h g) (xs : Li
 -- nothing queued and nothing outstanding
 pub placed-none : (m : List ℕ) (h : Header) → HeaderFits h → h .queued ≡ 0 → h .outstanding ≡ 0 → sizeFor (h .settings .q) (h .settings .u) ≤ length m
     → Placed m m h (record { settings = h .settings; state = h .state; agreed = h .agreed; round = h .round; queue = []; outstanding = [] })
-unfolding placesBytes
+unfolding joined
 placed-none m h fits none sent long = record {
   fits = record {
-    header = record { settings = fits .settings; state = fits .state; agreed = fits .agreed; round = fits .round; queued = omega arith; outstanding = omega arith };
+    header = record {
+      settings = fits .settings;
+      state = fits .state;
+      agreed = fits .agreed;
+      round = fits .round;
+      queued = omega arith;
+      outstanding = omega arith;
+    };
     queue = nil;
     outstanding = nil;
   };

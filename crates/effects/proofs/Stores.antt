@@ -10,14 +10,14 @@ use Rattle.buffer.specs.Slice.{write, Puts}
 use Rattle.model.specs.declared.Message.{Message}
 use Rattle.frame.specs.Writing.{written}
 use Rattle.frame.specs.declared.Frame.{Frame}
-use Rattle.memory.specs.Layout.{outstandingAt}
+use Rattle.memory.specs.Layout.{outstandingAt, outstandingSize}
 use Rattle.memory.specs.Codec.{sentBytes}
 use Rattle.memory.specs.Validity.{frameIf}
 use Rattle.memory.specs.declared.Header.{Header}
 use Rattle.memory.specs.declared.Round.{Round}
 use Rattle.memory.specs.declared.Phase.the-variants.{Idle, Counting, Stopped}
 use Rattle.gateway.specs.Effects.{loweredIn, noted}
-use Rattle.effects.specs.Sending.{PutsSent, headerSent}
+use Rattle.effects.specs.inside.Sending.{PutsSent, headerSent}
 use Rattle.effects.specs.declared.Sending.{Sending}
 
 -- the note in each phase
@@ -40,7 +40,15 @@ module _ (hour : ℕ) (r : Round) where
 
 -- one more is counted
 pub header-counted : (h : Header) (hour : ℕ) {round : Round} → round ≡ noted hour (h .round)
-    → record { settings = h .settings; state = h .state; agreed = h .agreed; round = round; queued = h .queued; outstanding = h .outstanding + 1 } ≡ headerSent hour h
+    → record {
+      settings = h .settings;
+      state = h .state;
+      agreed = h .agreed;
+      round = round;
+      queued = h .queued;
+      outstanding = h .outstanding
+          + 1;
+    } ≡ headerSent hour h
 header-counted h hour e = λ i. record {
   settings = h .settings;
   state = h .state;
@@ -52,7 +60,8 @@ header-counted h hour e = λ i. record {
 
 module _ (cancel : Bool) (m : Message) {frame : Frame} (e : frame ≡ frameIf cancel m) where
   -- the output has room for the frame
-  pub frame-room : (position : ℕ) (output : List ℕ) → position + length (written (frameIf cancel m)) ≤ length output → position + length (written frame) ≤ length output
+  pub frame-room : (position : ℕ) (output : List ℕ) → position + length (written (frameIf cancel m)) ≤ length output → position + length
+      (written frame) ≤ length output
   frame-room position output h = rw e h
 
   -- the place is written and the frame put out
@@ -75,10 +84,13 @@ pub record Sends (memory output memory′ output′ : List ℕ) (s : Sending) (c
   pub position : r .written ≡ s .written + length (written (frameIf cancel m))
 
 -- sending: the place and the frame, then the header
-module _ {memory output : List ℕ} {s : Sending} {cancel : Bool} {m : Message} {place : ℕ} (at : place ≡ outstandingAt (s .header .settings .q) (s .header .outstanding)) where
-  pub may-put : MaySend memory output s cancel m → (place + 32 ≤ length memory) × (s .written + length (written (frameIf cancel m)) ≤ length output)
+module _ {memory output : List ℕ} {s : Sending} {cancel : Bool} {m : Message} {place : ℕ} (at : place ≡ outstandingAt
+    (s .header .settings .q) (s .header .outstanding)) where
+  pub may-put : MaySend memory output s cancel m → (place + outstandingSize ≤ length memory) × (s .written + length (written (frameIf cancel
+      m)) ≤ length output)
   may-put may = (omega (arith, at, may .place), may .room)
 
-  pub sends : {memory′ output′ : List ℕ} {behind : ℕ} {h : Header} → PutsSent memory output memory′ output′ place (s .written) cancel m behind → h ≡ headerSent (m .hour) (s .header)
+  pub sends : {memory′ output′ : List ℕ} {behind : ℕ} {h : Header} → PutsSent memory output memory′ output′ place (s .written) cancel m
+      behind → h ≡ headerSent (m .hour) (s .header)
       → Sends memory output memory′ output′ s cancel m (record { header = h; written = behind })
   sends p e = record { stored = rw at at (p .stored); put = p .put .output; header = e; position = p .put .position }

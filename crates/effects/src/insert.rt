@@ -1,18 +1,20 @@
 // An entry that is not processed, and an entry put into its queue place, those from there on moved up.
-use gateway::places::move_up;
+use buffer::move_up;
+use encoding::write_entry;
 use memory::Entry;
+use memory::HEADER_SIZE;
 use memory::Mark;
-use memory::place::write_entry;
+use memory::QUEUE_SIZE;
 use model::Message;
 use model::State;
 ghost use mathlib.Core.Path.{_≡_};
-ghost use Prim.Native.Nat.{_+_, _*_, _-_, _≤_};
+ghost use Prim.Native.Nat.{_+_, _≤_};
 ghost use lib.ListN.{length};
-ghost use Rattle.buffer.specs.Slice.{part, write};
-ghost use Rattle.memory.specs.Codec.{entryBytes};
+ghost use Rattle.memory.specs.Layout.{queueSize, queueAt};
 ghost use Rattle.memory.specs.Validity.{noState};
 ghost use Rattle.gateway.specs.Undoing.{pendingEntry};
 ghost use Rattle.gateway.specs.Taking.{waitingEntry};
+ghost use Rattle.effects.specs.inside.Placed.{entryInserted};
 
 // A plain message that is not processed.
 pub fn pending(message: Message) -> Entry
@@ -50,10 +52,10 @@ fn no_state() -> State
 
 // Puts an entry into queue place k of so many that are used.
 pub fn insert_place(memory: &mut [u8], queued: usize, k: usize, entry: Entry)
-    requires { ⌜ (k ≤ queued) × (256 + 64 * queued + 64 ≤ length (now memory)) ⌝ }
-    ensures { λ _. ⌜ now (memory .exit) ≡ write (256 + 64 * k) (entryBytes entry) (write (256 + 64 * k + 64) (part (now (memory .entry)) (256 + 64 * k) (64 * (queued - k))) (now (memory .entry))) ⌝ }
+    requires { ⌜ (k ≤ queued) × (queueAt queued + queueSize ≤ length (now memory)) ⌝ }
+    ensures { λ _. ⌜ now (memory .exit) ≡ entryInserted queued k entry (now (memory .entry)) ⌝ }
 {
-    let at = 256 + 64 * k;
-    move_up(memory, at, at + 64, 64 * (queued - k));
+    let at = HEADER_SIZE + QUEUE_SIZE * k;
+    move_up(memory, at, at + QUEUE_SIZE, QUEUE_SIZE * (queued - k));
     write_entry(memory, at, entry);
 }

@@ -1,27 +1,32 @@
 // Sending a message or a cancel: it takes an outstanding place, its frame goes to the output, and it lowers the note.
-use frame::outgoing::put_frame;
+use encoding::write_sent;
+use memory::HEADER_SIZE;
 use memory::Header;
+use memory::OUTSTANDING_SIZE;
 use memory::Phase;
+use memory::QUEUE_SIZE;
 use memory::Round;
 use memory::Sent;
-use memory::place::write_sent;
-use memory::rules::frame_if;
 use model::Message;
+use validity::frame_if;
+use writer::outgoing::put_frame;
 ghost use mathlib.Core.Path.{_≡_};
 ghost use Prim.Native.Nat.{_+_, _≤_, _<_};
 ghost use lib.ListN.{length};
 ghost use Rattle.frame.specs.Writing.{written};
-ghost use Rattle.memory.specs.Layout.{outstandingAt};
+ghost use Rattle.memory.specs.Layout.{outstandingAt, outstandingSize};
 ghost use Rattle.memory.specs.Validity.{frameIf};
 ghost use Rattle.gateway.specs.Effects.{noted};
-ghost use Rattle.effects.specs.Sending.{PutsSent, headerSent};
+ghost use Rattle.effects.specs.inside.Sending.{PutsSent, headerSent};
 
 // Where the next outstanding place begins.
 pub fn outstanding_at(header: Header) -> usize
     ensures { λ r. ⌜ r ≡ outstandingAt (header .settings .q) (header .outstanding) ⌝ }
 {
     let settings = header.settings;
-    256 + 64 * (settings.q as usize) + 32 * (header.outstanding as usize)
+    HEADER_SIZE
+        + QUEUE_SIZE * (settings.q as usize)
+        + OUTSTANDING_SIZE * (header.outstanding as usize)
 }
 
 // Puts a message or its cancel into an outstanding place, and its frame into the output; gives the position behind the frame.
@@ -33,7 +38,7 @@ pub fn put_sent(
     cancel: bool,
     message: Message,
 ) -> usize
-    requires { ⌜ (place + 32 ≤ length (now memory)) × (position + length (written (frameIf cancel message)) ≤ length (now output)) ⌝ }
+    requires { ⌜ (place + outstandingSize ≤ length (now memory)) × (position + length (written (frameIf cancel message)) ≤ length (now output)) ⌝ }
     ensures { λ r. ⌜ PutsSent (now (memory .entry)) (now (output .entry)) (now (memory .exit)) (now (output .exit)) place position cancel message r ⌝ }
 {
     let sent = Sent { message, cancel };

@@ -1,20 +1,18 @@
 // The program examples: prints document 01's examples that are compared with a second program. Which of 22 and 23 gateways share
 // a bottom row; then the records of the last example's two gateways, a line an event, and whether the single queue gives the same.
-mod carrier; // carrier.rt: the two gateways, and a carrier between them
 mod opening_list; // opening_list.rt: the opening list of the example
-mod single_queue; // single_queue.rt: the single queue
 
-use crate::carrier::Ends;
-use crate::carrier::run;
-use crate::carrier::size_at;
 use crate::opening_list::put_list;
 use check::same;
+use decoding::state_of;
 use libc::STDOUT_FILENO;
-use memory::place::state_of;
+use lines::Ends;
+use lines::size_at;
+use memory::STATE_SIZE;
 use model::State;
 use routing::mids_of;
-ghost use mathlib.Core.Path.{_≡_};
-ghost use Prim.Native.Nat.{_+_, _≤_, _<_};
+use two_gateways::run;
+ghost use Prim.Native.Nat.{_≤_, _<_};
 ghost use lib.ListN.{length};
 
 fn main() {
@@ -106,10 +104,10 @@ fn print_event(own: u8, events: &[u8], at: usize) -> usize
     ensures { λ r. ⌜ (at < r) × (r ≤ length (now (events .entry))) ⌝ }
 {
     let middle = at + size_at(events, at);
-    if events.len() - middle < 14 {
+    if events.len() - middle < STATE_SIZE {
         return events.len();
     }
-    let end = middle + 14;
+    let end = middle + STATE_SIZE;
     io::print_decimal(STDOUT_FILENO, own as u64);
     print_frame(&events[at..middle]);
     print_state(state_of(&events[middle..end]));

@@ -1,8 +1,6 @@
 // Gateway 0's opening list: at hour 10, Failures of L00000000000000001 and L00000000000000002.
-use crate::carrier::append;
-use frame::Answer;
-use frame::writer::write;
-use memory::rules::frame_if;
+use lines::append;
+use lines::put_plain;
 use model::Kind;
 use model::Message;
 
@@ -25,14 +23,5 @@ fn failure(digit: u8) -> Message {
         to: 0,
         kind: Kind::Failure { origin: 0 },
         lamp,
-    }
-}
-
-// Puts a plain message's frame at the beginning of the output, and answers its length, 0 where there is no room.
-pub fn put_plain(output: &mut [u8], message: Message) -> usize {
-    match write(output, frame_if(false, message)) {
-        Answer::Written(count) => count,
-        Answer::NoFrame => 0,
-        Answer::NoRoom => 0,
     }
 }

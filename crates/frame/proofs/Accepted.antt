@@ -1,17 +1,16 @@
 -- What is known of a byte string that is read.
 use mathlib.Core.Path.{_≡_, refl, sym, _∙_, ap}
-use Prim.Native.Nat.{ℕ, zero, suc, _+_, _*_, _/_, _%_, _^_, _<_, _≤_}
+use Prim.Native.Nat.{ℕ, zero, suc, _<_, _≤_}
 use native.Mathlib.Omega.{arith}
-use mathlib.Core.Bool.{Bool, true, false, cond, not, _&&_, _||_, false≢true}
+use mathlib.Core.Bool.{Bool, true, false, _||_, false≢true}
 use mathlib.Core.Logic.{_⊎_, inl, inr, ⊎-elim}
-use mathlib.Core.List.{List, [], _∷_}
-use lib.Dec.{leb, ltb, eqb}
+use mathlib.Core.List.{List}
+use lib.Dec.{eqb}
 use lib.ListN.{length, getD}
-use borrow.Author.Tests.{leb-true, ltb-true, eqb-true, not-true, not-false, le-leb}
-use Rattle.buffer.specs.Slice.{part}
+use borrow.Author.Tests.{leb-true, ltb-true, eqb-true}
+use Rattle.lists.proofs.BoolLaws.{and-left, and-right}
 use Rattle.model.specs.Messages.{kindNumber, kindOf}
-use Rattle.frame.specs.Layout.{odd, wholeLength, cut}
-use Rattle.frame.specs.Kinds.{mapOfKind, hasLamp}
+use Rattle.frame.specs.Layout.{odd, wholeLength}
 use Rattle.frame.specs.Writing.{lampFits, gatewaysAgree}
 use Rattle.frame.specs.Reasons.{fieldsOf, frameOf, mapFits, senseFits, unless, fieldsForm, formOf, formNumber, readAs, reading}
 use Rattle.buffer.proofs.Readings.{read-one}
@@ -19,7 +18,6 @@ use Rattle.frame.specs.Lamps.{isGood, carriesLamp}
 use Rattle.frame.specs.declared.Frame.{Frame}
 use Rattle.frame.specs.declared.Form.{Form}
 use Rattle.frame.specs.declared.Form.the-variants.{Good, TooShort, WrongMap, WrongLength, WrongSense, WrongLamp, WrongGateways}
-use Rattle.frame.specs.declared.Reading.{Reading}
 
 -- each test was passed
 pub record Passes (s : List ℕ) : Type 0 where
@@ -77,15 +75,6 @@ either : (a b : Bool) → (a || b) ≡ true → (a ≡ true) ⊎ (b ≡ true)
 either true b e = inl refl
 either false b e = inr e
 
--- both parts of a test
-pub first : (a b : Bool) → (a && b) ≡ true → a ≡ true
-first true b e = refl
-first false b e = e
-
-pub second : (a b : Bool) → (a && b) ≡ true → b ≡ true
-second true b e = e
-second false b e = absurd (false≢true e)
-
 with-lamp : (map kind : ℕ) → kind ≤ 2 → (eqb map 63 || eqb map 191) ≡ true → Table map kind
 with-lamp map kind h e = ⊎-elim (λ p. plain (eqb-true map 63 p) h) (λ p. sensed (eqb-true map 191 p) h) (either (eqb map 63) (eqb map 191) e)
 
@@ -102,7 +91,7 @@ table map (suc (suc (suc (suc zero)))) e = start (without-lamp map 7 e) refl
 table map (suc (suc (suc (suc (suc zero))))) e = hourly (without-lamp map 15 e) (omega arith) (omega arith)
 table map (suc (suc (suc (suc (suc (suc zero)))))) e = hourly (without-lamp map 15 e) (omega arith) (omega arith)
 table map (suc (suc (suc (suc (suc (suc (suc kind))))))) e =
-    let below : suc (suc (suc (suc (suc (suc (suc kind)))))) < 7 = ltb-true _ 7 (first _ _ e) in
+    let below : suc (suc (suc (suc (suc (suc (suc kind)))))) < 7 = ltb-true _ 7 (and-left _ _ e) in
     absurd (omega arith)
 
 pub kind-back : (kind origin quantity : ℕ) → kind < 7 → kindNumber (kindOf kind origin quantity) ≡ kind
@@ -143,8 +132,8 @@ good-form WrongGateways e = absurd (false≢true e)
 pub lamp-inside : (s : List ℕ) → carriesLamp (reading s) ≡ true → 27 ≤ length s
 unfolding wholeLength
 lamp-inside s e =
-    let p : Passes s = accepted s (good-form (reading s .form) (first _ _ e)) in
-    by p (table (getD s 0 0) (getD s 1 0) (p .map)) (leb-true _ 2 (second (isGood (reading s .form)) _ e))
+    let p : Passes s = accepted s (good-form (reading s .form) (and-left _ _ e)) in
+    by p (table (getD s 0 0) (getD s 1 0) (p .map)) (leb-true _ 2 (and-right (isGood (reading s .form)) _ e))
   where
     kind : (p : Passes s) → getD s 1 0 < 7 → kindNumber (reading s .frame .message .kind) ≡ getD s 1 0
     kind p h = ap (λ (f : Frame). kindNumber (f .message .kind)) (p .frame) ∙ kind-back (fieldsOf s .kind) _ _ (rw (kind-byte s p) h) ∙ kind-byte s p

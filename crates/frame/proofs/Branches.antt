@@ -1,28 +1,24 @@
 -- The reader's tests, a law for each branch of the code that makes them.
 use mathlib.Core.Path.{_≡_, refl, sym, _∙_, ap}
 use Prim.Native.Nat.{ℕ, zero, suc, _+_, _<_, _≤_}
-use mathlib.Core.Bool.{Bool, true, false, cond, not, _&&_, _||_}
+use mathlib.Core.Bool.{Bool, true, false, not}
 use native.Mathlib.Omega.{arith}
-use lib.Dec.{leb, ltb, eqb}
+use lib.Dec.{leb, eqb}
 use lib.ListN.{length, getD}
 use mathlib.Core.List.{List}
 use borrow.Author.Tests.{le-leb, lt-leb, lt-ltb, le-ltb, eq-eqb, ne-eqb, not-true, not-false}
-use Rattle.model.specs.Messages.{kindNumber, kindOf}
-use Rattle.model.specs.declared.Kind.the-variants.{Failure, Request, Delivery, Restock, Start, Lvt, Update}
+use Rattle.model.specs.Messages.{kindNumber}
 use Rattle.frame.specs.Layout.{wholeLength}
 use Rattle.frame.specs.Kinds.{mapOfKind, senseOf}
 use Rattle.frame.specs.Writing.{lampFits, gatewaysAgree}
-use Rattle.frame.specs.Reasons.{mapFits, senseFits, fieldsOf, frameOf, fieldsForm, formOf, reading, readAs, refusedAs}
+use Rattle.frame.specs.Reasons.{mapFits, senseFits, formNumber, fieldsOf, frameOf, fieldsForm, reading, readAs, refusedAs}
 use Rattle.frame.specs.Lamps.{isGood, carriesLamp}
 use Rattle.frame.specs.declared.Sense.the-variants.{Plain}
 use Rattle.frame.specs.declared.Frame.{Frame}
+use Rattle.frame.specs.declared.Form.{Form}
 use Rattle.frame.specs.declared.Form.the-variants.{Good, TooShort, WrongMap, WrongLength, WrongSense, WrongLamp, WrongGateways}
 use Rattle.frame.specs.declared.Reading.{Reading}
-use Rattle.frame.specs.declared.reader.Fields.{Fields}
-
-pub kind-last : (n origin quantity : ℕ) → (n ≡ 0 → ⊥) → (n ≡ 1 → ⊥) → (n ≡ 2 → ⊥) → (n ≡ 3 → ⊥) → (n ≡ 4 → ⊥) → (n ≡ 5 → ⊥)
-    → Update ≡ kindOf n origin quantity
-kind-last n origin quantity a b c d e f = rw (ne-eqb n 0 a, ne-eqb n 1 b, ne-eqb n 2 c, ne-eqb n 3 d, ne-eqb n 4 e, ne-eqb n 5 f)
+use Rattle.frame.specs.declared.Fields.{Fields}
 
 pub sense-last : (n : ℕ) → (n ≡ 1 → ⊥) → (n ≡ 2 → ⊥) → (n ≡ 3 → ⊥) → Plain ≡ senseOf n
 sense-last n a b c = rw (ne-eqb n 1 a, ne-eqb n 2 b, ne-eqb n 3 c)
@@ -121,3 +117,13 @@ module _ (r : Reading) {good : Bool} (e : good ≡ isGood (r .form)) where
 
   pub lamp-read : {number : ℕ} → not good ≡ false → number ≡ kindNumber (r .frame .message .kind) → leb number 2 ≡ carriesLamp r
   lamp-read h k = rw (sym e ∙ not-false good h, k)
+
+-- a form is good just where its number is 0
+pub good-number : (form : Form) → isGood form ≡ eqb (formNumber form) 0
+good-number Good = refl
+good-number TooShort = refl
+good-number WrongMap = refl
+good-number WrongLength = refl
+good-number WrongSense = refl
+good-number WrongLamp = refl
+good-number WrongGateways = refl

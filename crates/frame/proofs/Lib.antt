@@ -1,8 +1,5 @@
 -- Laws of frames.
 pub mod Entries
-pub mod Between
-pub mod Agreement
-pub mod Branches
 pub mod Walking
 pub mod Turning
 pub mod Output
@@ -11,5 +8,5 @@ pub mod Cutting
 pub mod ReadFirst
 pub mod WriteFirst
 pub mod Laws
-pub mod HeldWriter
-pub mod LendingAgain
+pub mod Branches
+pub mod Sizes

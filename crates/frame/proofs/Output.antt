@@ -8,6 +8,8 @@ use mathlib.Core.List.{List, [], _∷_, _++_, append-assoc, append-nil, map as m
 use lib.Dec.{leb, eqb}
 use lib.ListN.{length, set, length-append}
 use borrow.Author.Tests.{le-leb, lt-leb, eq-eqb, ne-eqb, not-true, not-false}
+use Rattle.buffer.proofs.Numbers.{one-byte}
+use Rattle.lists.specs.Lists.{tally, joined}
 use Rattle.buffer.specs.Slice.{write, Puts}
 use Rattle.buffer.specs.Number.{bytesOf}
 use Rattle.buffer.proofs.Putting.{puts-nothing, puts-byte, puts-more}
@@ -17,18 +19,13 @@ use Rattle.model.specs.Messages.{kindNumber, originOf, quantityOf}
 use Rattle.model.specs.declared.Kind.{Kind}
 use Rattle.model.specs.declared.Kind.the-variants.{Failure, Request, Delivery, Restock, Start, Lvt, Update}
 use Rattle.model.specs.declared.Message.{Message}
-use Rattle.frame.specs.Layout.{widths, odd, standing, total, joined, wholeLength}
+use Rattle.frame.specs.Layout.{widths, odd, standing, wholeLength}
 use Rattle.frame.specs.Kinds.{mapOf, mapOfKind, senseNumber}
 use Rattle.frame.specs.Writing.{contents, written, wellFormed, writing}
-use Rattle.frame.specs.Steps.{headBytes, lampBytes, bodyOf, bodyBytes, senseBytes}
+use Rattle.frame.specs.inside.Steps.{headBytes, lampBytes, bodyOf, bodyBytes, senseBytes}
 use Rattle.frame.specs.declared.Frame.{Frame}
 use Rattle.frame.specs.declared.Sense.{Sense}
-use Rattle.frame.specs.declared.Answer.the-variants.{Written, NoFrame, NoRoom}
-
--- a number of one byte
-pub one-byte : (n : ℕ) → n < 256 → bytesOf 1 n ≡ n ∷ []
-unfolding bytesOf
-one-byte n h = ap (λ (x : ℕ). x ∷ []) (omega arith)
+use Rattle.frame.specs.declared.WriteAnswer.the-variants.{Written, NoFrame, NoRoom}
 
 pub puts-as : {at behind : ℕ} {xs ys m after : List ℕ} → Puts at xs m after behind → xs ≡ ys → Puts at ys m after behind
 puts-as p e = record { position = p .position ∙ rw e; output = p .output ∙ rw e }
@@ -43,11 +40,23 @@ pub head-put : (map : ℕ) (message : Message) (at : ℕ) (m : List ℕ) {kind :
     → Puts at (headBytes map message) m (set (set (set (set m at map) (at + 1) kind) (at + 2) (message .from)) (at + 3) (message .to)) (at + 4)
 unfolding headBytes
 head-put map message at m {kind} room e k f t =
-    let bytes : headBytes map message ≡ map ∷ kind ∷ message .from ∷ message .to ∷ [] = rw (one-byte (message .from) f, one-byte (message .to) t, ← e, one-byte kind k) in
+    let bytes : headBytes map message ≡ map ∷ kind ∷ message .from ∷ message .to ∷ [] = rw (
+      one-byte (message .from) f,
+      one-byte
+          (message .to) t,
+      ← e,
+      one-byte kind k,
+    ) in
     record {
       position = rw (length-head map message);
       output =
-          rw (bytes, set-write m at map (omega arith), write-snoc at (map ∷ []) m kind (at + 1) (omega arith) refl, write-snoc at (map ∷ kind ∷ []) m (message .from) (at + 2) (omega arith) refl)
+          rw (
+            bytes,
+            set-write m at map (omega arith),
+            write-snoc at (map ∷ []) m kind (at + 1) (omega arith) refl,
+            write-snoc at (map ∷
+                kind ∷ []) m (message .from) (at + 2) (omega arith) refl,
+          )
           (write-snoc at (map ∷ kind ∷ message .from ∷ []) m (message .to) (at + 3) (omega arith) refl);
     }
 
@@ -86,7 +95,8 @@ module _ (message : Message) {kind : ℕ} (e : kind ≡ kindNumber (message .kin
   body-start k = puts-as (puts-nothing at m) (rw (eq-eqb (kindNumber (message .kind)) 4 (sym e ∙ k)))
 
   module _ (d : kind ≡ 4 → ⊥) where
-    with-hour : bodyBytes message ≡ bytesOf 4 (message .hour) ++ cond (leb kind 2) (lampBytes (originOf (message .kind)) (message .lamp)) (cond (eqb kind 3) (bytesOf 2 (quantityOf (message .kind))) [])
+    with-hour : bodyBytes message ≡ bytesOf 4 (message .hour) ++ cond (leb kind 2) (lampBytes (originOf (message .kind)) (message .lamp))
+        (cond (eqb kind 3) (bytesOf 2 (quantityOf (message .kind))) [])
     unfolding bodyOf
     with-hour = rw (ne-eqb (kindNumber (message .kind)) 4 (λ q. d (e ∙ q)), e)
 
@@ -134,22 +144,22 @@ module _ (a b c d e l q s : List ℕ) where
   abbrev fields : List (List ℕ)
   fields = a ∷ b ∷ c ∷ d ∷ e ∷ l ∷ q ∷ s ∷ []
 
-  lamp-shape : (has : Bool) → joined (standing (cond has (63 + 128) 63) fields) ≡ a ++ (b ++ (c ++ (d ++ (e ++ (l ++ cond has s [])))))
+  lamp-shape : (has : Bool) → joined (λ x. x) (standing (cond has (63 + 128) 63) fields) ≡ a ++ (b ++ (c ++ (d ++ (e ++ (l ++ cond has s [])))))
   unfolding standing joined
   lamp-shape true = simp append-nil
   lamp-shape false = refl
 
-  quantity-shape : (has : Bool) → joined (standing (cond has (79 + 128) 79) fields) ≡ a ++ (b ++ (c ++ (d ++ (q ++ cond has s []))))
+  quantity-shape : (has : Bool) → joined (λ x. x) (standing (cond has (79 + 128) 79) fields) ≡ a ++ (b ++ (c ++ (d ++ (q ++ cond has s []))))
   unfolding standing joined
   quantity-shape true = simp append-nil
   quantity-shape false = refl
 
-  start-shape : (has : Bool) → joined (standing (cond has (7 + 128) 7) fields) ≡ a ++ (b ++ (c ++ cond has s []))
+  start-shape : (has : Bool) → joined (λ x. x) (standing (cond has (7 + 128) 7) fields) ≡ a ++ (b ++ (c ++ cond has s []))
   unfolding standing joined
   start-shape true = simp append-nil
   start-shape false = refl
 
-  hour-shape : (has : Bool) → joined (standing (cond has (15 + 128) 15) fields) ≡ a ++ (b ++ (c ++ (d ++ cond has s [])))
+  hour-shape : (has : Bool) → joined (λ x. x) (standing (cond has (15 + 128) 15) fields) ≡ a ++ (b ++ (c ++ (d ++ cond has s [])))
   unfolding standing joined
   hour-shape true = simp append-nil
   hour-shape false = refl
@@ -187,21 +197,12 @@ module _ (f : Frame) where
         pub tail-room : end + length (senseBytes (senseNumber (f .sense))) ≤ length two
         tail-room = let size = written-size in let place = rw length-head at (h .position) in let next = b .position in omega arith
 
-        pub frame-put : {behind : ℕ} {three : List ℕ} → map ≡ mapOf f → Puts end (senseBytes (senseNumber (f .sense))) two three behind → Puts at (written f) m three behind
+        pub frame-put : {behind : ℕ} {three : List ℕ} → map ≡ mapOf f → Puts end (senseBytes (senseNumber (f .sense))) two three behind →
+            Puts at (written f) m three behind
         frame-put e t =
             let body = puts-more body-room b t in
             let all = puts-more (rw length-head head-room) h body in
             puts-as all (rw e (sym written-parts))
-
--- a frame's map
-pub kind-below : (k : Kind) → kindNumber k < 7
-kind-below (Failure origin) = omega arith
-kind-below (Request origin) = omega arith
-kind-below (Delivery origin) = omega arith
-kind-below (Restock quantity) = omega arith
-kind-below Start = omega arith
-kind-below Lvt = omega arith
-kind-below Update = omega arith
 
 pub map-below : (k : Kind) → mapOfKind (kindNumber k) < 128
 unfolding mapOfKind
@@ -223,14 +224,14 @@ module _ (f : Frame) {kind plain sense : ℕ} (k : kind ≡ kindNumber (f .messa
   map-sense z = rw (p, k, le-leb 1 (senseNumber (f .sense)) (omega arith))
 
 -- the length of a frame's bytes is its map's
-joined-size : (map : ℕ) (parts : List (List ℕ)) → length (joined (standing map parts)) ≡ total (standing map (mapped length parts))
-unfolding joined standing total
+joined-size : (map : ℕ) (parts : List (List ℕ)) → length (joined (λ x. x) (standing map parts)) ≡ tally (λ n. n) (standing map (mapped length parts))
+unfolding joined standing tally
 joined-size map [] = refl
 joined-size map (p ∷ ps) = by (odd map) (joined-size (map / 2) ps)
   where
-    by : (b : Bool) → length (joined (standing (map / 2) ps)) ≡ total (standing (map / 2) (mapped length ps))
-        → length (joined (cond b (p ∷ standing (map / 2) ps) (standing (map / 2) ps)))
-        ≡ total (cond b (length p ∷ standing (map / 2) (mapped length ps)) (standing (map / 2) (mapped length ps)))
+    by : (b : Bool) → length (joined (λ x. x) (standing (map / 2) ps)) ≡ tally (λ n. n) (standing (map / 2) (mapped length ps))
+        → length (joined (λ x. x) (cond b (p ∷ standing (map / 2) ps) (standing (map / 2) ps)))
+        ≡ tally (λ n. n) (cond b (length p ∷ standing (map / 2) (mapped length ps)) (standing (map / 2) (mapped length ps)))
     by true e = length-append p _ ∙ rw e
     by false e = e
 
@@ -240,7 +241,8 @@ contents-sizes f e = simp (length-bytesOf, e)
 
 pub whole-size : (f : Frame) → length (f .message .lamp) ≡ 18 → length (written f) ≡ wholeLength (mapOf f)
 unfolding written wholeLength
-whole-size f e = ap (λ (n : ℕ). suc n) (joined-size (mapOf f) (contents f) ∙ ap (λ (l : List ℕ). total (standing (mapOf f) l)) (contents-sizes f e)) ∙ omega arith
+whole-size f e = ap (λ (n : ℕ). suc n) (joined-size (mapOf f) (contents f) ∙ ap (λ (l : List ℕ). tally (λ n. n) (standing (mapOf f) l))
+    (contents-sizes f e)) ∙ omega arith
 
 module _ (f : Frame) (m : List ℕ) {ok : Bool} (e : ok ≡ wellFormed f) where
   pub no-frame : not ok ≡ true → record { answer = NoFrame; output = m } ≡ writing f m

@@ -4,11 +4,14 @@ use mathlib.Core.Logic.{_⊎_, inl, inr}
 use Prim.Native.Nat.{ℕ, zero, suc, _+_, _/_, _^_, _<_, _≤_}
 use native.Mathlib.Nat.{lt-of-lt-of-le, one-le-pow, pow-le-pow-right}
 use native.Mathlib.Omega.{arith}
-use mathlib.Core.Bool.{Bool, true, false, cond, _&&_, _||_, false≢true}
-use mathlib.Core.List.{List, [], _∷_, _++_}
+use mathlib.Core.Bool.{Bool, true, false, cond, _&&_, _||_}
+use mathlib.Core.List.{List, [], _∷_}
 use lib.Dec.{leb, eqb}
 use lib.ListN.{length, drop, getD, replicate, length-take, length-drop}
 use borrow.Author.Tests.{le-leb, leb-true, eq-eqb, ne-eqb}
+use Rattle.lists.proofs.BoolLaws.{and-left, and-right}
+use Rattle.buffer.proofs.Lent.{bytes-part}
+use Rattle.lists.specs.Lists.{tally}
 use Rattle.buffer.specs.Slice.{Bytes, part}
 use Rattle.buffer.specs.Number.{bytesOf, numberOf, numberFrom}
 use Rattle.buffer.proofs.Writes.{part-nil, length-part}
@@ -16,17 +19,17 @@ use Rattle.buffer.proofs.Numbers.{number-below}
 use Rattle.model.specs.Messages.{kindNumber, originOf, quantityOf, kindOf}
 use Rattle.model.specs.declared.Kind.{Kind}
 use Rattle.model.specs.declared.Kind.the-variants.{Failure, Request, Delivery, Restock, Start, Lvt, Update}
-use Rattle.frame.specs.Layout.{widths, odd, standing, total, joined, wholeLength, cut}
+use Rattle.frame.specs.Layout.{widths, odd, standing, wholeLength, cut}
 use Rattle.frame.specs.Kinds.{mapOfKind, mapOf, senseNumber, senseOf}
-use Rattle.frame.specs.Writing.{contents, written, senseAllowed, hourFits, wellFormed, lampFits, gatewaysAgree}
-use Rattle.frame.specs.Reasons.{fieldsOf, frameOf, senseFits, lampOf, valuesOf, reading}
-use Rattle.frame.specs.Claims.{Ranged}
+use Rattle.frame.specs.Writing.{contents, written, senseAllowed, hourFits, wellFormed}
+use Rattle.frame.specs.Reasons.{fieldsOf, frameOf, senseFits}
+use Rattle.frame.specs.Claims.{RangedFrame}
 use Rattle.frame.specs.declared.Frame.{Frame}
-use Rattle.frame.specs.declared.reader.Fields.{Fields}
+use Rattle.frame.specs.declared.Fields.{Fields}
 use Rattle.frame.proofs.Branches.{lamp-map}
 use Rattle.frame.proofs.Walking.{lamp-bytes}
-use Rattle.frame.proofs.Cutting.{joined-cut, bytes-part, bytes-back, part-small}
-use Rattle.frame.proofs.Accepted.{Passes, Table, plain, sensed, restock, start, hourly, table, kind-back, kind-byte, first, second}
+use Rattle.frame.proofs.Cutting.{joined-cut, bytes-back}
+use Rattle.frame.proofs.Accepted.{Passes, Table, plain, sensed, restock, start, hourly, table, kind-back, kind-byte}
 
 sense-back : (n : ℕ) → n ≤ 3 → senseNumber (senseOf n) ≡ n
 sense-back zero h = refl
@@ -107,14 +110,26 @@ module _ (v : Fields) {a b c : List ℕ} (ka : bytesOf 1 (v .kind) ≡ a) (fb : 
       sense-contents : {n : List ℕ} → v .sense ≤ 3 → bytesOf 1 (v .sense) ≡ n → standing 191 (contents (frameOf v)) ≡ a ∷ b ∷ c ∷ d ∷ e ∷ l ∷ n ∷ []
       unfolding contents standing
       sense-contents u sn =
-          rw (kind-back (v .kind) (v .origin) (v .quantity) small, origin-back (v .kind) (v .origin) (v .quantity) k, sense-back (v .sense) u, ka, fb, tc, hd, oe, vl, sn)
+          rw (
+            kind-back (v .kind) (v .origin) (v .quantity) small,
+            origin-back (v .kind) (v .origin) (v .quantity) k,
+            sense-back (v .sense)
+                u,
+            ka,
+            fb,
+            tc,
+            hd,
+            oe,
+            vl,
+            sn,
+          )
 
 -- joined again, the fields are the byte string
 rejoin : (s : List ℕ) → Passes s → (map : ℕ) → getD s 0 0 ≡ map → mapOf (frameOf (fieldsOf s)) ≡ map
     → standing map (contents (frameOf (fieldsOf s))) ≡ standing map (cut 1 map widths s) → written (frameOf (fieldsOf s)) ≡ s
 unfolding written wholeLength
 rejoin s p map e m same =
-    let size : length s ≡ 1 + total (standing map widths) = rw e at (p .whole) in
+    let size : length s ≡ 1 + tally (λ n. n) (standing map widths) = rw e at (p .whole) in
     ap₂ _∷_ (m ∙ sym e) (rw (m, same) (joined-cut 1 map widths s size)) ∙ cons-back s (p .long)
 
 -- sense and hour are such as the kind may have
@@ -176,8 +191,8 @@ module _ (s : List ℕ) (b : Bytes s) (p : Passes s) where
       let size : length s ≡ 28 = rw e at (p .whole) in
       let kind : fieldsOf s .kind ≤ 2 = rw (kind-byte s p) h in
       let told : (leb 1 (fieldsOf s .sense) && leb (fieldsOf s .sense) 3) ≡ true = sense-told (getD s 0 0) (fieldsOf s .sense) e (p .sense) in
-      let low : 1 ≤ fieldsOf s .sense = leb-true 1 (fieldsOf s .sense) (first _ _ told) in
-      let high : fieldsOf s .sense ≤ 3 = leb-true (fieldsOf s .sense) 3 (second (leb 1 (fieldsOf s .sense)) _ told) in
+      let low : 1 ≤ fieldsOf s .sense = leb-true 1 (fieldsOf s .sense) (and-left _ _ told) in
+      let high : fieldsOf s .sense ≤ 3 = leb-true (fieldsOf s .sense) 3 (and-right (leb 1 (fieldsOf s .sense)) _ told) in
       let m : mapOf (frameOf (fieldsOf s)) ≡ 191 = map-with (fieldsOf s) refl (omega arith) (lamp-map (fieldsOf s .kind) kind) low high in
       record {
         same =
@@ -271,7 +286,8 @@ module _ (s : List ℕ) (b : Bytes s) (p : Passes s) where
 
 -- the numbers of what is read fit their fields
 kind-fields : (a b c d e f : Bool) (origin quantity : ℕ) → origin < 256 → quantity < 65536
-    → let kind : Kind = cond a (Failure origin) (cond b (Request origin) (cond c (Delivery origin) (cond d (Restock quantity) (cond e Start (cond f Lvt Update))))) in
+    → let kind : Kind = cond a (Failure origin) (cond b (Request origin) (cond c (Delivery origin) (cond d (Restock quantity) (cond e Start
+    (cond f Lvt Update))))) in
     (originOf kind < 256) × (quantityOf kind < 65536)
 kind-fields true b c d e f origin quantity h k = (h, omega arith)
 kind-fields false true c d e f origin quantity h k = (h, omega arith)
@@ -327,7 +343,7 @@ module _ (s : List ℕ) (b : Bytes s) (p : Passes s) where
       by (start e h) = none (rw (e, part-nil))
       by (hourly e h k) = none (rw (e, part-nil))
 
-  pub returned-ranged : Ranged (frameOf (fieldsOf s))
+  pub returned-ranged : RangedFrame (frameOf (fieldsOf s))
   unfolding fieldsOf
   returned-ranged =
       let map : ℕ = getD s 0 0 in

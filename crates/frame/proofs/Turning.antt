@@ -1,9 +1,9 @@
 -- Laws of the checks of a frame's numbers and hour, and of a value's form, a law for each branch of the code.
-use mathlib.Core.Path.{_≡_, refl, sym, _∙_, ap}
-use Prim.Native.Nat.{ℕ, _+_, _<_, _≤_}
+use mathlib.Core.Path.{_≡_, sym, _∙_}
+use Prim.Native.Nat.{ℕ, _<_, _≤_}
 use native.Mathlib.Omega.{arith}
-use mathlib.Core.Bool.{Bool, true, false, cond, not, _&&_, _||_}
-use lib.Dec.{leb, ltb, eqb}
+use mathlib.Core.Bool.{Bool, true, false, not, _&&_}
+use lib.Dec.{ltb, eqb}
 use borrow.Author.Tests.{le-leb, lt-leb, lt-ltb, le-ltb, eq-eqb, ne-eqb, not-true, not-false}
 use Rattle.model.specs.Messages.{kindNumber, originOf}
 use Rattle.model.specs.declared.Message.{Message}
@@ -71,7 +71,8 @@ module _ (kind sense hour : ℕ) where
 module _ (f : Frame) {kind sense : ℕ} {header : Bool} (k : kind ≡ kindNumber (f .message .kind)) (s : sense ≡ senseNumber (f .sense))
     (e : header ≡ (senseAllowed kind sense && hourFits kind (f .message .hour)))
   where
-    header-test : header ≡ (senseAllowed (kindNumber (f .message .kind)) (senseNumber (f .sense)) && hourFits (kindNumber (f .message .kind)) (f .message .hour))
+    header-test : header ≡ (senseAllowed (kindNumber (f .message .kind)) (senseNumber (f .sense)) && hourFits (kindNumber
+        (f .message .kind)) (f .message .hour))
     header-test = e ∙ rw (k, s)
 
     pub ill-header : not header ≡ true → false ≡ wellFormed f

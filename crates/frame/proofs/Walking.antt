@@ -1,23 +1,23 @@
 -- The reader's walk over the fields of a frame.
 use mathlib.Core.Path.{_≡_, refl, sym, _∙_, ap}
 use Prim.Native.Nat.{ℕ, zero, suc, _+_, _-_, _/_, _%_, _^_, _<_, _≤_}
-use native.Mathlib.Nat.{add-zero, lt-of-not-le, pow-succ'}
+use native.Mathlib.Nat.{add-zero, lt-of-not-le}
 use native.Mathlib.Numerals.{add-one}
 use native.Mathlib.Omega.{arith}
-use mathlib.Core.Bool.{Bool, true, false, cond}
+use mathlib.Core.Bool.{true, false, cond}
 use mathlib.Core.List.{List, [], _∷_, _++_}
 use lib.Count.{ones, onesIn, ones-step}
-use lib.Dec.{eqb}
 use lib.ListN.{length, take, drop, getD, replicate, drop-of-length-le, take-append-drop}
 use lib.Seq.{drop-cons, take-suc, length-take-le}
 use borrow.Author.Tests.{eq-eqb, ne-eqb}
+use Rattle.lists.specs.Lists.{tally}
 use Rattle.buffer.specs.Slice.{part}
 use Rattle.buffer.specs.Number.{numberOf}
 use Rattle.buffer.proofs.Writes.{part-nil, part-cons}
-use Rattle.frame.specs.Layout.{widths, odd, standing, total, wholeLength, cut}
+use Rattle.frame.specs.Layout.{widths, odd, standing, wholeLength, cut}
 use Rattle.frame.specs.Reasons.{valuesOf, fieldsOf, lampOf}
-use Rattle.frame.specs.Steps.{stored, noFields}
-use Rattle.frame.specs.declared.reader.Fields.{Fields}
+use Rattle.frame.specs.inside.Steps.{stored, noFields}
+use Rattle.frame.specs.declared.Fields.{Fields}
 
 -- a number with no one bits is zero
 none-stand : (k n : ℕ) → n < 2 ^ k → ones n ≡ 0 → n ≡ 0
@@ -81,7 +81,7 @@ lamp-bytes m at h = rw (part-cons m at 17 (omega arith))
 pub record Walking (s : List ℕ) (map at rest left bit : ℕ) (fields : Fields) : Type 0 where
   pub inside : bit ≤ 8
   pub ahead : cut at rest (drop bit widths) s ≡ drop bit (cut 1 map widths s)
-  pub until : length s ≡ at + total (standing rest (drop bit widths))
+  pub until : length s ≡ at + tally (λ n. n) (standing rest (drop bit widths))
   pub small : rest < 2 ^ length (drop bit widths)
   pub count : left ≡ ones rest
   pub so-far : fields ≡ valuesOf (take bit (cut 1 map widths s))
@@ -119,7 +119,7 @@ module _ {s : List ℕ} {map at rest left bit : ℕ} {fields : Fields} (w : Walk
     next = rw add-one (drop-cons widths bit 0 (walk-bit h))
 
   pub walk-fits : 0 < left → rest % 2 ≡ 1 → at + getD widths bit 0 ≤ length s
-  unfolding standing total
+  unfolding standing tally
   walk-fits h o =
       let e = rw (next h, eq-eqb (rest % 2) 1 o) at (w .until) in
       omega arith
@@ -147,7 +147,7 @@ module _ {s : List ℕ} {map at rest left bit : ℕ} {fields : Fields} (w : Walk
   -- the next bit stands: its field is read
   pub walk-taken : 0 < left → rest % 2 ≡ 1
       → Walking s map (at + getD widths bit 0) (rest / 2) (left - 1) (bit + 1) (stored bit (part s at (getD widths bit 0)) fields)
-  unfolding standing total
+  unfolding standing tally
   walk-taken h o =
       let t : odd rest ≡ true = eq-eqb (rest % 2) 1 o in
       let whole : List (List ℕ) = cut 1 map widths s in
@@ -168,7 +168,7 @@ module _ {s : List ℕ} {map at rest left bit : ℕ} {fields : Fields} (w : Walk
 
   -- the next bit does not stand
   pub walk-passed : 0 < left → (rest % 2 ≡ 1 → ⊥) → Walking s map at (rest / 2) left (bit + 1) fields
-  unfolding standing total
+  unfolding standing tally
   walk-passed h o =
       let t : odd rest ≡ false = ne-eqb (rest % 2) 1 o in
       let whole : List (List ℕ) = cut 1 map widths s in

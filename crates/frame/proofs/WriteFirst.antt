@@ -1,33 +1,33 @@
 -- Reading what a well-formed frame was written as gives the frame.
 use mathlib.Core.Path.{_≡_, refl, sym, _∙_, ap, ap₂, subst}
-use Prim.Native.Nat.{ℕ, zero, suc, _+_, _/_, _%_, _^_, _<_, _≤_}
+use Prim.Native.Nat.{ℕ, zero, suc, _+_, _^_, _<_, _≤_}
 use native.Mathlib.Omega.{arith}
-use mathlib.Core.Bool.{Bool, true, false, cond, _&&_, _||_, false≢true}
-use mathlib.Core.List.{List, [], _∷_, _++_}
+use mathlib.Core.Bool.{Bool, true, false, cond, _&&_}
+use mathlib.Core.List.{List, [], _∷_}
 use lib.Dec.{leb, eqb}
 use lib.ListN.{length, getD, replicate}
 use borrow.Author.Tests.{le-leb, lt-leb, leb-true, eq-eqb, eqb-true}
-use Rattle.buffer.specs.Slice.{Bytes}
+use Rattle.model.proofs.Ordered.{kind-again}
 use Rattle.buffer.specs.Number.{bytesOf, numberOf, numberFrom}
 use Rattle.buffer.proofs.Numbers.{number-of-bytes}
-use Rattle.model.specs.Messages.{kindNumber, originOf, quantityOf, kindOf}
+use Rattle.model.specs.Messages.{kindNumber, originOf, quantityOf}
 use Rattle.model.specs.declared.Kind.{Kind}
 use Rattle.model.specs.declared.Kind.the-variants.{Failure, Request, Delivery, Restock, Start, Lvt, Update}
-use Rattle.model.specs.declared.Message.{Message}
 use Rattle.frame.specs.Layout.{widths, wholeLength, cut}
 use Rattle.frame.specs.Kinds.{mapOfKind, mapOf, senseNumber, senseOf, withSense}
 use Rattle.frame.specs.Writing.{contents, written, allBetween, senseAllowed, hourFits, wellFormed, lampFits, gatewaysAgree}
 use Rattle.frame.specs.Reasons.{lampOf, valuesOf, fieldsOf, frameOf, mapFits, senseFits, fieldsForm, formOf, readAs, reading}
-use Rattle.frame.specs.Steps.{headBytes}
-use Rattle.frame.specs.Claims.{Ranged}
+use Rattle.frame.specs.inside.Steps.{headBytes}
+use Rattle.frame.specs.Claims.{RangedFrame}
 use Rattle.frame.specs.declared.Frame.{Frame}
 use Rattle.frame.specs.declared.Sense.{Sense}
 use Rattle.frame.specs.declared.Sense.the-variants.{Plain, Cancel, Acknowledgment, CancelAcknowledgment}
 use Rattle.frame.specs.declared.Form.the-variants.{Good}
-use Rattle.frame.specs.declared.reader.Fields.{Fields}
-use Rattle.frame.proofs.Accepted.{first, second}
+use Rattle.frame.specs.declared.Fields.{Fields}
+use Rattle.lists.proofs.BoolLaws.{and-left, and-right}
 use Rattle.frame.proofs.Cutting.{kept, cut-joined}
-use Rattle.frame.proofs.Output.{written-parts, written-size, contents-sizes, whole-size, kind-below, map-below}
+use Rattle.frame.proofs.Output.{written-parts, written-size, contents-sizes, whole-size, map-below}
+use Rattle.model.proofs.KindNumbers.{kind-below}
 
 -- what a well-formed value keeps to
 record Keeps (f : Frame) : Type 0 where
@@ -38,15 +38,16 @@ record Keeps (f : Frame) : Type 0 where
 
 four : (a b c d : Bool) → (a && b && c && d) ≡ true → (a ≡ true) × (b ≡ true) × (c ≡ true) × (d ≡ true)
 four a b c d e =
-    let three = first (a && b && c) d e in
-    let two = first (a && b) c three in
-    (first a b two, second a b two, second (a && b) c three, second (a && b && c) d e)
+    let three = and-left (a && b && c) d e in
+    let two = and-left (a && b) c three in
+    (and-left a b two, and-right a b two, and-right (a && b) c three, and-right (a && b && c) d e)
 
 keeps : (f : Frame) → wellFormed f ≡ true → Keeps f
 unfolding wellFormed
 keeps f e =
     let kind : ℕ = kindNumber (f .message .kind) in
-    let all = four (senseAllowed kind (senseNumber (f .sense))) (hourFits kind (f .message .hour)) (lampFits (f .message)) (gatewaysAgree (f .message .from) (f .message .to) (f .message .kind)) e in
+    let all = four (senseAllowed kind (senseNumber (f .sense))) (hourFits kind (f .message .hour)) (lampFits (f .message)) (gatewaysAgree
+    (f .message .from) (f .message .to) (f .message .kind)) e in
     record { sense = all .0; hour = all .1; lamp = all .2; gateways = all .3 }
 
 sense-three : (s : Sense) → senseNumber s ≤ 3
@@ -60,15 +61,6 @@ sense-same Plain = refl
 sense-same Cancel = refl
 sense-same Acknowledgment = refl
 sense-same CancelAcknowledgment = refl
-
-kind-same : (k : Kind) → kindOf (kindNumber k) (originOf k) (quantityOf k) ≡ k
-kind-same (Failure origin) = refl
-kind-same (Request origin) = refl
-kind-same (Delivery origin) = refl
-kind-same (Restock quantity) = refl
-kind-same Start = refl
-kind-same Lvt = refl
-kind-same Update = refl
 
 -- the fields of a frame as numbers
 abbrev valuesFor : Frame → Fields
@@ -84,7 +76,17 @@ valuesFor f = record {
 }
 
 values-frame : (f : Frame) → frameOf (valuesFor f) ≡ f
-values-frame f = ap₂ (λ (k : Kind) (s : Sense). record { message = record { hour = f .message .hour; from = f .message .from; to = f .message .to; kind = k; lamp = f .message .lamp }; sense = s }) (kind-same (f .message .kind)) (sense-same (f .sense))
+values-frame f = ap₂ (λ (k : Kind) (s : Sense). record {
+  message = record {
+    hour = f .message .hour;
+    from = f .message .from;
+    to =
+        f .message .to;
+    kind = k;
+    lamp = f .message .lamp;
+  };
+  sense = s;
+}) (kind-again (f .message .kind)) (sense-same (f .sense))
 
 no-number : numberOf [] ≡ 0
 unfolding numberOf numberFrom
@@ -102,10 +104,10 @@ zero-lamp : (l : List ℕ) → allBetween 0 0 l ≡ true → replicate (length l
 unfolding allBetween
 zero-lamp [] e = refl
 zero-lamp (b ∷ bs) e =
-    let here = first _ _ e in
-    let low : b ≤ 0 = leb-true b 0 (second (leb 0 b) (leb b 0) here) in
+    let here = and-left _ _ e in
+    let low : b ≤ 0 = leb-true b 0 (and-right (leb 0 b) (leb b 0) here) in
     let none : 0 ≡ b = omega arith in
-    ap₂ _∷_ none (zero-lamp bs (second (leb 0 b && leb b 0) _ e))
+    ap₂ _∷_ none (zero-lamp bs (and-right (leb 0 b && leb b 0) _ e))
 
 no-lamp : (l : List ℕ) → length l ≡ 18 → allBetween 0 0 l ≡ true → replicate 18 0 ≡ l
 no-lamp l e t = ap (λ (n : ℕ). replicate n 0) (sym e) ∙ zero-lamp l t
@@ -137,28 +139,53 @@ module _ (a b c d e l q s : List ℕ) where
 
 module _ {k from to hour n : ℕ} (hk : k < 256 ^ 1) (hf : from < 256 ^ 1) (ht : to < 256 ^ 1) (hn : n ≤ 3) where
   lamp-values : (origin q : ℕ) (lamp : List ℕ) → hour < 256 ^ 4 → origin < 256 ^ 1 → length lamp ≡ 18
-      → valuesOf (kept (cond (leb 1 n) (63 + 128) 63) (bytesOf 1 k ∷ bytesOf 1 from ∷ bytesOf 1 to ∷ bytesOf 4 hour ∷ bytesOf 1 origin ∷ lamp ∷ bytesOf 2 q ∷ bytesOf 1 n ∷ []))
+      → valuesOf (kept (cond (leb 1 n) (63 + 128) 63) (bytesOf 1 k ∷ bytesOf 1 from ∷ bytesOf 1 to ∷ bytesOf 4 hour ∷ bytesOf 1 origin ∷
+      lamp ∷ bytesOf 2 q ∷ bytesOf 1 n ∷ []))
       ≡ record { kind = k; from = from; to = to; hour = hour; origin = origin; lamp = lamp; quantity = 0; sense = n }
   unfolding valuesOf
   lamp-values origin q lamp hh ho hl =
-      rw (kept-lamp, number-of-bytes 1 k hk, number-of-bytes 1 from hf, number-of-bytes 1 to ht, number-of-bytes 4 hour hh, number-of-bytes 1 origin ho, lamp-value lamp hl, sense-value n hn, no-number)
+      rw (
+        kept-lamp,
+        number-of-bytes 1 k hk,
+        number-of-bytes 1 from hf,
+        number-of-bytes 1 to ht,
+        number-of-bytes 4 hour hh,
+        number-of-bytes
+            1 origin ho,
+        lamp-value lamp hl,
+        sense-value n hn,
+        no-number,
+      )
 
   quantity-values : (origin q : ℕ) (lamp : List ℕ) → hour < 256 ^ 4 → q < 256 ^ 2 → replicate 18 0 ≡ lamp
-      → valuesOf (kept (cond (leb 1 n) (79 + 128) 79) (bytesOf 1 k ∷ bytesOf 1 from ∷ bytesOf 1 to ∷ bytesOf 4 hour ∷ bytesOf 1 origin ∷ lamp ∷ bytesOf 2 q ∷ bytesOf 1 n ∷ []))
+      → valuesOf (kept (cond (leb 1 n) (79 + 128) 79) (bytesOf 1 k ∷ bytesOf 1 from ∷ bytesOf 1 to ∷ bytesOf 4 hour ∷ bytesOf 1 origin ∷
+      lamp ∷ bytesOf 2 q ∷ bytesOf 1 n ∷ []))
       ≡ record { kind = k; from = from; to = to; hour = hour; origin = 0; lamp = lamp; quantity = q; sense = n }
   unfolding valuesOf
   quantity-values origin q lamp hh hq z =
-      rw (← z, kept-quantity, number-of-bytes 1 k hk, number-of-bytes 1 from hf, number-of-bytes 1 to ht, number-of-bytes 4 hour hh, number-of-bytes 2 q hq, sense-value n hn, no-number)
+      rw (
+        ← z,
+        kept-quantity,
+        number-of-bytes 1 k hk,
+        number-of-bytes 1 from hf,
+        number-of-bytes 1 to ht,
+        number-of-bytes 4 hour hh,
+        number-of-bytes 2 q hq,
+        sense-value n hn,
+        no-number,
+      )
 
   start-values : (origin q : ℕ) (lamp : List ℕ) → 0 ≡ hour → replicate 18 0 ≡ lamp
-      → valuesOf (kept (cond (leb 1 n) (7 + 128) 7) (bytesOf 1 k ∷ bytesOf 1 from ∷ bytesOf 1 to ∷ bytesOf 4 hour ∷ bytesOf 1 origin ∷ lamp ∷ bytesOf 2 q ∷ bytesOf 1 n ∷ []))
+      → valuesOf (kept (cond (leb 1 n) (7 + 128) 7) (bytesOf 1 k ∷ bytesOf 1 from ∷ bytesOf 1 to ∷ bytesOf 4 hour ∷ bytesOf 1 origin ∷ lamp
+      ∷ bytesOf 2 q ∷ bytesOf 1 n ∷ []))
       ≡ record { kind = k; from = from; to = to; hour = hour; origin = 0; lamp = lamp; quantity = 0; sense = n }
   unfolding valuesOf
   start-values origin q lamp zh z =
       rw (← z, ← zh, kept-start, number-of-bytes 1 k hk, number-of-bytes 1 from hf, number-of-bytes 1 to ht, sense-value n hn, no-number)
 
   hour-values : (origin q : ℕ) (lamp : List ℕ) → hour < 256 ^ 4 → replicate 18 0 ≡ lamp
-      → valuesOf (kept (cond (leb 1 n) (15 + 128) 15) (bytesOf 1 k ∷ bytesOf 1 from ∷ bytesOf 1 to ∷ bytesOf 4 hour ∷ bytesOf 1 origin ∷ lamp ∷ bytesOf 2 q ∷ bytesOf 1 n ∷ []))
+      → valuesOf (kept (cond (leb 1 n) (15 + 128) 15) (bytesOf 1 k ∷ bytesOf 1 from ∷ bytesOf 1 to ∷ bytesOf 4 hour ∷ bytesOf 1 origin ∷
+      lamp ∷ bytesOf 2 q ∷ bytesOf 1 n ∷ []))
       ≡ record { kind = k; from = from; to = to; hour = hour; origin = 0; lamp = lamp; quantity = 0; sense = n }
   unfolding valuesOf
   hour-values origin q lamp hh z =
@@ -167,11 +194,14 @@ module _ {k from to hour n : ℕ} (hk : k < 256 ^ 1) (hf : from < 256 ^ 1) (ht :
 -- the fields of what a well-formed frame is written as, kind by kind
 by-kind : (hour from to : ℕ) (kind : Kind) (lamp : List ℕ) (sense : Sense)
     → let f : Frame = record { message = record { hour = hour; from = from; to = to; kind = kind; lamp = lamp }; sense = sense } in
-    Ranged f → Keeps f → valuesOf (kept (mapOf f) (contents f)) ≡ valuesFor f
+    RangedFrame f → Keeps f → valuesOf (kept (mapOf f) (contents f)) ≡ valuesFor f
 unfolding mapOf contents lampFits
-by-kind hour from to (Failure origin) lamp sense r w = lamp-values (omega arith) (r .from) (r .to) (sense-three sense) origin 0 lamp (r .hour) (r .origin) (r .lamp)
-by-kind hour from to (Request origin) lamp sense r w = lamp-values (omega arith) (r .from) (r .to) (sense-three sense) origin 0 lamp (r .hour) (r .origin) (r .lamp)
-by-kind hour from to (Delivery origin) lamp sense r w = lamp-values (omega arith) (r .from) (r .to) (sense-three sense) origin 0 lamp (r .hour) (r .origin) (r .lamp)
+by-kind hour from to (Failure origin) lamp sense r w = lamp-values (omega arith) (r .from) (r .to) (sense-three sense) origin 0 lamp
+    (r .hour) (r .origin) (r .lamp)
+by-kind hour from to (Request origin) lamp sense r w = lamp-values (omega arith) (r .from) (r .to) (sense-three sense) origin 0 lamp
+    (r .hour) (r .origin) (r .lamp)
+by-kind hour from to (Delivery origin) lamp sense r w = lamp-values (omega arith) (r .from) (r .to) (sense-three sense) origin 0 lamp
+    (r .hour) (r .origin) (r .lamp)
 by-kind hour from to (Restock quantity) lamp sense r w =
     quantity-values (omega arith) (r .from) (r .to) (sense-three sense) 0 quantity lamp (r .hour) (r .quantity) (no-lamp lamp (r .lamp) (w .lamp))
 by-kind hour from to Start lamp sense r w =
@@ -181,11 +211,12 @@ by-kind hour from to Lvt lamp sense r w =
 by-kind hour from to Update lamp sense r w =
     hour-values (omega arith) (r .from) (r .to) (sense-three sense) 0 0 lamp (r .hour) (no-lamp lamp (r .lamp) (w .lamp))
 
-module _ (f : Frame) (r : Ranged f) (w : Keeps f) where
+module _ (f : Frame) (r : RangedFrame f) (w : Keeps f) where
   fields-back : fieldsOf (written f) ≡ valuesFor f
   unfolding fieldsOf written
   fields-back =
-      let cuts : cut 1 (mapOf f) widths (written f) ≡ kept (mapOf f) (contents f) = subst (λ (ws : List ℕ). cut 1 (mapOf f) ws (written f) ≡ kept (mapOf f) (contents f)) (contents-sizes f (r .lamp)) (cut-joined (mapOf f ∷ []) (mapOf f) (contents f)) in
+      let cuts : cut 1 (mapOf f) widths (written f) ≡ kept (mapOf f) (contents f) = subst (λ (ws : List ℕ). cut 1 (mapOf f) ws (written f) ≡
+      kept (mapOf f) (contents f)) (contents-sizes f (r .lamp)) (cut-joined (mapOf f ∷ []) (mapOf f) (contents f)) in
       ap valuesOf cuts ∙ by-kind (f .message .hour) (f .message .from) (f .message .to) (f .message .kind) (f .message .lamp) (f .sense) r w
 
   frame-back : frameOf (fieldsOf (written f)) ≡ f
@@ -223,7 +254,7 @@ sense-allowed map zero h k = rw (lt-leb 128 map h)
 sense-allowed map (suc n) h k = rw (le-leb 1 (suc n) (omega arith), le-leb 128 (map + 128) (omega arith), le-leb (suc n) 3 k)
 
 -- every test is passed
-module _ (f : Frame) (r : Ranged f) (w : Keeps f) where
+module _ (f : Frame) (r : RangedFrame f) (w : Keeps f) where
   first-byte : getD (written f) 0 0 ≡ mapOf f
   unfolding written
   first-byte = refl
@@ -243,14 +274,17 @@ module _ (f : Frame) (r : Ranged f) (w : Keeps f) where
   unfolding formOf fieldsForm
   form-good =
       let map : mapFits (getD (written f) 0 0) (getD (written f) 1 0) ≡ true = ap₂ mapFits first-byte (second-byte f r w) ∙ map-passes in
-      let whole : eqb (length (written f)) (wholeLength (getD (written f) 0 0)) ≡ true = eq-eqb _ _ (whole-size f (r .lamp) ∙ ap wholeLength (sym first-byte)) in
-      let sense : senseFits (getD (written f) 0 0) (fieldsOf (written f) .sense) ≡ true = ap₂ senseFits first-byte (ap (λ (v : Fields). v .sense) (fields-back f r w)) ∙ sense-passes in
+      let whole : eqb (length (written f)) (wholeLength (getD (written f) 0 0)) ≡ true = eq-eqb _ _ (whole-size f (r .lamp) ∙ ap wholeLength
+      (sym first-byte)) in
+      let sense : senseFits (getD (written f) 0 0) (fieldsOf (written f) .sense) ≡ true = ap₂ senseFits first-byte (ap (λ (v : Fields).
+      v .sense) (fields-back f r w)) ∙ sense-passes in
       let lamp : lampFits (frameOf (fieldsOf (written f)) .message) ≡ true = ap (λ (x : Frame). lampFits (x .message)) (frame-back f r w) ∙ w .lamp in
-      let gateways : gatewaysAgree (frameOf (fieldsOf (written f)) .message .from) (frameOf (fieldsOf (written f)) .message .to) (frameOf (fieldsOf (written f)) .message .kind) ≡ true =
+      let gateways : gatewaysAgree (frameOf (fieldsOf (written f)) .message .from) (frameOf (fieldsOf (written f)) .message .to) (frameOf
+      (fieldsOf (written f)) .message .kind) ≡ true =
       ap (λ (x : Frame). gatewaysAgree (x .message .from) (x .message .to) (x .message .kind)) (frame-back f r w) ∙ w .gateways
       in
       rw (long-passes, map, whole, sense, lamp, gateways)
 
-pub read-after-write : (f : Frame) → Ranged f → wellFormed f ≡ true → reading (written f) ≡ readAs Good f
+pub read-after-write : (f : Frame) → RangedFrame f → wellFormed f ≡ true → reading (written f) ≡ readAs Good f
 unfolding reading
 read-after-write f r e = let w = keeps f e in ap₂ readAs (form-good f r w) (frame-back f r w)

@@ -9,12 +9,12 @@ use Rattle.buffer.specs.Slice.{Bytes}
 use Rattle.model.specs.Messages.{originOf, quantityOf}
 use Rattle.frame.specs.Layout.{gatewayWidth, lampWidth, widths, standing}
 use Rattle.frame.specs.Writing.{wellFormed, written}
-use Rattle.frame.specs.Reasons.{reading, fieldsOf, frameOf, readAs}
+use Rattle.frame.specs.Reasons.{reading, readAs}
 use Rattle.frame.specs.declared.Frame.{Frame}
 use Rattle.frame.specs.declared.Form.the-variants.{Good}
 
 -- the numbers fit their fields, as those of every frame that a program holds do
-pub record Ranged (f : Frame) : Type 0 where
+pub record RangedFrame (f : Frame) : Type 0 where
   pub hour : f .message .hour < 256 ^ 4
   pub from : f .message .from < 256 ^ gatewayWidth
   pub to : f .message .to < 256 ^ gatewayWidth
@@ -26,12 +26,12 @@ pub record Ranged (f : Frame) : Type 0 where
 -- frames and well-formed values are one to one
 pub record OneToOne : Type 0 where
   -- reading what was written gives the value
-  pub writtenRead : (f : Frame) → Ranged f → wellFormed f ≡ true → reading (written f) ≡ readAs Good f
+  pub writtenRead : (f : Frame) → RangedFrame f → wellFormed f ≡ true → reading (written f) ≡ readAs Good f
   -- a byte string that is read is what its value is written as
   pub readWritten : (s : List ℕ) → Bytes s → reading s .form ≡ Good → written (reading s .frame) ≡ s
   -- and that value is well formed
   pub readWellFormed : (s : List ℕ) → Bytes s → reading s .form ≡ Good → wellFormed (reading s .frame) ≡ true
-  pub readRanged : (s : List ℕ) → Bytes s → reading s .form ≡ Good → Ranged (reading s .frame)
+  pub readRanged : (s : List ℕ) → Bytes s → reading s .form ≡ Good → RangedFrame (reading s .frame)
 
 -- the number of fields is the number of one bits in the map
 pub record FieldCount : Type 0 where

@@ -1,6 +1,6 @@
 -- The table of kinds, which gives each kind its one map, and the sense.
 use Prim.Native.Nat.{ℕ, _+_}
-use mathlib.Core.Bool.{Bool, true, false, cond}
+use mathlib.Core.Bool.{Bool, cond}
 use mathlib.Core.List.{List, [], _∷_}
 use lib.Dec.{leb, eqb}
 use lib.ListN.{getD}
@@ -9,7 +9,7 @@ use Rattle.frame.specs.declared.Sense.{Sense}
 use Rattle.frame.specs.declared.Sense.the-variants.{Plain, Cancel, Acknowledgment, CancelAcknowledgment}
 use Rattle.frame.specs.declared.Frame.{Frame}
 
--- the maps of kinds 0 to 6
+-- the maps (presence bitmaps) of kinds 0 to 6
 abbrev pub maps : List ℕ
 maps = 63 ∷ 63 ∷ 63 ∷ 79 ∷ 7 ∷ 15 ∷ 15 ∷ []
 

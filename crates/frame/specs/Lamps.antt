@@ -5,9 +5,10 @@ use mathlib.Core.Bool.{Bool, true, false, cond, _&&_}
 use mathlib.Core.List.{List, [], _∷_}
 use lib.ListN.{take}
 use denote.Ref.{RefT, ptr, now}
+use Rattle.lists.specs.Lists.{tally}
 use Rattle.buffer.specs.Slice.{part}
 use Rattle.model.specs.Messages.{kindNumber}
-use Rattle.frame.specs.Layout.{widths, lampWidth, total}
+use Rattle.frame.specs.Layout.{widths, lampWidth}
 use Rattle.frame.specs.Kinds.{hasLamp}
 use Rattle.frame.specs.Reasons.{reading}
 use Rattle.frame.specs.declared.Form.{Form}
@@ -29,8 +30,8 @@ carriesLamp r = isGood (r .form) && hasLamp (kindNumber (r .frame .message .kind
 
 -- the lamp's place: behind the map and the fields of bits 0 to 4
 unfoldable pub lampPlace : ℕ
-unfolding total
-lampPlace = 1 + total (take 5 widths)
+unfolding tally
+lampPlace = 1 + tally (λ n. n) (take 5 widths)
 
 -- a slice is the very part of another from position at on: it lies in the same block of memory, at bytes further, and has the n bytes there
 pub record IsPart (whole : RefT (List ℕ)) (at n : ℕ) (p : RefT (List ℕ)) : Type 0 where

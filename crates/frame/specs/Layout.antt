@@ -1,9 +1,9 @@
--- The map and the fields of a frame: first one byte, the map; then only the fields whose bit stands, in bit order.
+-- The map (presence bitmap) and the fields of a frame: first one byte, the map; then only the fields whose bit stands, in bit order.
 use Prim.Native.Nat.{ℕ, _+_, _/_, _%_}
 use mathlib.Core.Bool.{Bool, cond}
-use mathlib.Core.List.{List, [], _∷_, _++_}
+use mathlib.Core.List.{List, [], _∷_}
 use lib.Dec.{eqb}
-use lib.ListN.{length}
+use Rattle.lists.specs.Lists.{tally}
 use Rattle.buffer.specs.Slice.{part}
 
 -- a gateway number takes one byte
@@ -27,20 +27,10 @@ unfoldable pub standing : {A : Type 0} → ℕ → List A → List A
 standing map [] = []
 standing map (x ∷ xs) = let rest = standing (map / 2) xs in cond (odd map) (x ∷ rest) rest
 
--- the sum of the numbers
-unfoldable pub total : List ℕ → ℕ
-total [] = 0
-total (n ∷ ns) = n + total ns
-
--- the lists one behind the other
-unfoldable pub joined : List (List ℕ) → List ℕ
-joined [] = []
-joined (xs ∷ xss) = xs ++ joined xss
-
 -- the whole length of a frame with that map: the map's own byte and the fields whose bit stands
 unfoldable pub wholeLength : ℕ → ℕ
-unfolding standing total
-wholeLength map = 1 + total (standing map widths)
+unfolding standing tally
+wholeLength map = 1 + tally (λ n. n) (standing map widths)
 
 -- the bytes of s from a position on, cut into a field for each bit; a field whose bit does not stand has no bytes
 unfoldable pub cut : ℕ → ℕ → List ℕ → List ℕ → List (List ℕ)

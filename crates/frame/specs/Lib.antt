@@ -2,9 +2,8 @@
 pub mod Layout
 pub mod Kinds
 pub mod Writing
-pub mod Outgoing
 pub mod Reasons
 pub mod Lamps
-pub mod Steps
 pub mod Limits
 pub mod Claims
+pub mod inside

@@ -15,7 +15,7 @@ use Rattle.frame.specs.declared.Frame.{Frame}
 use Rattle.frame.specs.declared.Form.{Form}
 use Rattle.frame.specs.declared.Form.the-variants.{Good, TooShort, WrongMap, WrongLength, WrongSense, WrongLamp, WrongGateways}
 use Rattle.frame.specs.declared.Reading.{Reading}
-use Rattle.frame.specs.declared.reader.Fields.{Fields}
+use Rattle.frame.specs.declared.Fields.{Fields}
 
 -- a lamp's bytes; eighteen zeros where there is none
 abbrev pub lampOf : List ℕ → List ℕ
@@ -92,12 +92,12 @@ formNumber WrongLamp = 1
 formNumber WrongGateways = 1
 
 -- what stands for the frame of a byte string that is refused
-abbrev pub blank : Frame
-blank = record { message = record { hour = 0; from = 0; to = 0; kind = Start; lamp = replicate lampWidth 0 }; sense = Plain }
+abbrev pub blankFrame : Frame
+blankFrame = record { message = record { hour = 0; from = 0; to = 0; kind = Start; lamp = replicate lampWidth 0 }; sense = Plain }
 
 -- a byte string that is refused for that reason
 abbrev pub refusedAs : Form → Reading
-refusedAs form = record { form = form; frame = blank }
+refusedAs form = record { form = form; frame = blankFrame }
 
 -- a reading with that form; only a good one has the frame
 abbrev pub readAs : Form → Frame → Reading

@@ -1,21 +1,21 @@
 -- What a frame is written as, and which values are frames.
-use mathlib.Core.Path.{_≡_}
-use Prim.Native.Nat.{ℕ, _+_}
-use mathlib.Core.Bool.{Bool, true, false, cond, _&&_, _||_}
+use Prim.Native.Nat.{ℕ}
+use mathlib.Core.Bool.{Bool, true, cond, _&&_, _||_}
 use mathlib.Core.List.{List, [], _∷_}
 use lib.Dec.{leb, eqb}
 use lib.ListN.{length}
+use Rattle.lists.specs.Lists.{joined}
 use Rattle.buffer.specs.Slice.{write}
 use Rattle.buffer.specs.Number.{bytesOf}
 use Rattle.model.specs.Messages.{kindNumber, originOf, quantityOf}
 use Rattle.model.specs.declared.Kind.{Kind}
 use Rattle.model.specs.declared.Kind.the-variants.{Failure, Request, Delivery, Restock, Start, Lvt, Update}
 use Rattle.model.specs.declared.Message.{Message}
-use Rattle.frame.specs.Layout.{gatewayWidth, standing, joined}
+use Rattle.frame.specs.Layout.{gatewayWidth, standing}
 use Rattle.frame.specs.Kinds.{hasLamp, mapOf, senseNumber}
 use Rattle.frame.specs.declared.Frame.{Frame}
-use Rattle.frame.specs.declared.Answer.{Answer}
-use Rattle.frame.specs.declared.Answer.the-variants.{Written, NoFrame, NoRoom}
+use Rattle.frame.specs.declared.WriteAnswer.{WriteAnswer}
+use Rattle.frame.specs.declared.WriteAnswer.the-variants.{Written, NoFrame, NoRoom}
 
 -- the bytes of every field, bit 0 first: kind, from, to, hour, origin, lamp, quantity, sense; numbers high byte first
 unfoldable pub contents : Frame → List (List ℕ)
@@ -33,7 +33,7 @@ contents f =
 -- the bytes that a frame is written as: its map, then the fields whose bit stands
 unfoldable pub written : Frame → List ℕ
 unfolding contents
-written f = mapOf f ∷ joined (standing (mapOf f) (contents f))
+written f = mapOf f ∷ joined (λ x. x) (standing (mapOf f) (contents f))
 
 -- every byte lies between the two
 unfoldable pub allBetween : ℕ → ℕ → List ℕ → Bool
@@ -72,18 +72,18 @@ wellFormed f =
     && gatewaysAgree (f .message .from) (f .message .to) (f .message .kind)
 
 -- this paper's number of an answer: 1 no frame, 5 no room
-abbrev pub answerNumber : Answer → ℕ
+abbrev pub answerNumber : WriteAnswer → ℕ
 answerNumber (Written count) = 0
 answerNumber NoFrame = 1
 answerNumber NoRoom = 5
 
 -- an answer and the output afterwards
-pub record Outcome : Type 0 where
-  pub answer : Answer
+pub record WriteOutcome : Type 0 where
+  pub answer : WriteAnswer
   pub output : List ℕ
 
 -- a frame written at the start of an output: refused, nothing is written; else the bytes past it stay
-unfoldable pub writing : Frame → List ℕ → Outcome
+unfoldable pub writing : Frame → List ℕ → WriteOutcome
 unfolding wellFormed written
 writing f m =
     cond (wellFormed f)

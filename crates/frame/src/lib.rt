@@ -1,13 +1,9 @@
-// Frames: how a message and its sense stand as bytes. A reader, a writer, the lamp's part, and the checks of a frame's
-// numbers and hour.
+// Frames: how a message and its sense stand as bytes. The tables, what each kind keeps to, and the checks of a frame's numbers
+// and hour; the crates reader and writer read and write them.
 use model::Message;
 
-pub mod limits; // limits.rt: which frames a gateway turns down for their numbers and their hour
-pub mod outgoing; // outgoing.rt: frames put one behind the other
-pub mod reader; // reader.rt: what a byte string is, and the lamp's part of it
-pub mod rules; // rules.rt: what a message of each kind has to keep to
+pub mod lamps; // lamps.rt: a lamp's bytes
 pub mod tables; // tables.rt: the table of kinds and the table of lengths
-pub mod writer; // writer.rt: what a frame is written as
 
 // What a frame says of its message. A plain message has no sense.
 pub enum Sense {
@@ -20,6 +16,18 @@ pub enum Sense {
 pub struct Frame {
     pub message: Message,
     pub sense: Sense,
+}
+
+// The fields of a frame as numbers. A field whose bit does not stand in the map is zero.
+pub struct Fields {
+    pub kind: u8,
+    pub from: u8,
+    pub to: u8,
+    pub hour: u32,
+    pub origin: u8,
+    pub lamp: [u8; 18],
+    pub quantity: u16,
+    pub sense: u8,
 }
 
 // Whether a byte string is a frame, or the first reason why not.
@@ -40,7 +48,7 @@ pub struct Reading {
 }
 
 // What writing a frame gives: how many bytes were written, or why nothing was.
-pub enum Answer {
+pub enum WriteAnswer {
     Written(usize),
     NoFrame,
     NoRoom,

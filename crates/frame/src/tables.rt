@@ -1,9 +1,12 @@
-// The table of kinds, the widths of the fields and the table of whole lengths.
+// The table of kinds, the senses, the widths of the fields and the table of whole lengths.
+use crate::Frame;
+use crate::Sense;
+use model::kind_number;
 ghost use mathlib.Core.Path.{_≡_};
 ghost use Prim.Native.Nat.{_<_};
 ghost use lib.ListN.{getD};
 ghost use Rattle.frame.specs.Layout.{widths, wholeLength};
-ghost use Rattle.frame.specs.Kinds.{mapOfKind};
+ghost use Rattle.frame.specs.Kinds.{mapOf, mapOfKind, senseNumber, senseOf};
 
 // The map of each kind.
 const MAPS: [u8; 7] = [63, 63, 63, 79, 7, 15, 15];
@@ -298,4 +301,40 @@ fn wide(byte: u8) -> usize
     ensures { λ r. ⌜ r ≡ byte ⌝ }
 {
     byte as usize
+}
+
+// The map of a frame: its kind's, with bit 7 added where there is a sense.
+pub fn map_of(frame: Frame) -> u8
+    ensures { λ r. ⌜ r ≡ mapOf frame ⌝ }
+{
+    let message = frame.message;
+    let kind = message.kind;
+    let sense = frame.sense;
+    let plain = map_of_kind(kind_number(kind));
+    if sense_number(sense) == 0 {
+        return plain;
+    }
+    plain + 128
+}
+
+pub fn sense_number(sense: Sense) -> u8
+    ensures { λ r. ⌜ r ≡ senseNumber sense ⌝ }
+{
+    match sense {
+        Sense::Plain => 0,
+        Sense::Cancel => 1,
+        Sense::Acknowledgment => 2,
+        Sense::CancelAcknowledgment => 3,
+    }
+}
+
+pub fn sense_of(number: u8) -> Sense
+    ensures { λ r. ⌜ r ≡ senseOf number ⌝ }
+{
+    match number {
+        1 => Sense::Cancel,
+        2 => Sense::Acknowledgment,
+        3 => Sense::CancelAcknowledgment,
+        _ => Sense::Plain,
+    }
 }

@@ -7,7 +7,7 @@ use lib.Dec.{leb, eqb}
 use borrow.Author.Tests.{leb-true, ltb-true, eqb-true, lt-leb}
 use Rattle.model.specs.Messages.{kindNumber, originOf}
 use Rattle.model.specs.declared.Message.{Message}
-use Rattle.frame.specs.Claims.{Ranged}
+use Rattle.frame.specs.Claims.{RangedFrame}
 use Rattle.frame.specs.Kinds.{hasLamp}
 use Rattle.frame.specs.Limits.{addressee, numbersBelow, hourAllowed, nothingDue, refusal}
 use Rattle.frame.specs.Reasons.{formNumber}
@@ -17,7 +17,7 @@ use Rattle.frame.specs.declared.Form.{Form}
 use Rattle.frame.specs.declared.Form.the-variants.{Good as GoodForm, TooShort, WrongMap, WrongLength, WrongSense, WrongLamp, WrongGateways}
 use Rattle.memory.specs.Validity.{frameIf}
 use Rattle.memory.specs.declared.Settings.{Settings}
-use Rattle.memory.proofs.Validated.{and-left, and-right}
+use Rattle.lists.proofs.BoolLaws.{and-left, and-right}
 use Rattle.gateway.proofs.Replies.{Good}
 
 -- only Good has the number 0
@@ -45,7 +45,8 @@ not-refused s f = by-case (numbersBelow (s .n) (f .message) && eqb (addressee (f
     by-case true e true h z =
         record {
           numbers = and-left (numbersBelow (s .n) (f .message)) (eqb (addressee (f .sense) (f .message)) (s .own)) e;
-          here = eqb-true (addressee (f .sense) (f .message)) (s .own) (and-right (numbersBelow (s .n) (f .message)) (eqb (addressee (f .sense) (f .message)) (s .own)) e);
+          here = eqb-true (addressee (f .sense) (f .message)) (s .own) (and-right (numbersBelow (s .n) (f .message)) (eqb (addressee
+              (f .sense) (f .message)) (s .own)) e);
           hour = h;
         }
     by-case true e false h z = absurd (omega arith)
@@ -63,7 +64,7 @@ refusal-few f n own last = by-case (numbersBelow n (f .message) && eqb (addresse
 -- a frame that is well formed, fits its fields and is not refused
 pub record Accepted (s : Settings) (f : Frame) : Type 0 where
   pub form : wellFormed f ≡ true
-  pub ranged : Ranged f
+  pub ranged : RangedFrame f
   pub passes : Passes s f
 
 -- only a kind with a lamp has a cancel
@@ -98,7 +99,8 @@ accepted-good s cancel m k a =
           from = ltb-true (m .from) (s .n) (search (and-left, and-right));
           to = ltb-true (m .to) (s .n) (search (and-left, and-right));
           origin = ltb-true (originOf (m .kind)) (s .n) (search (and-left, and-right));
-          hour = leb-true (m .hour) (s .last) (or-not (leb (m .hour) (s .last)) (leb 5 (kindNumber (m .kind)) && eqb (m .hour) nothingDue) (ap (λ (t : Bool). t && eqb (m .hour) nothingDue) (lt-leb 5 (kindNumber (m .kind)) (omega arith))) (a .passes .hour));
+          hour = leb-true (m .hour) (s .last) (or-not (leb (m .hour) (s .last)) (leb 5 (kindNumber (m .kind)) && eqb (m .hour) nothingDue)
+              (ap (λ (t : Bool). t && eqb (m .hour) nothingDue) (lt-leb 5 (kindNumber (m .kind)) (omega arith))) (a .passes .hour));
         };
         ranged = record { quantity = a .ranged .quantity; lamp = a .ranged .lamp };
       };

@@ -7,33 +7,18 @@ use native.Mathlib.Omega.{arith}
 use lib.Dec.{leb, eqb}
 use lib.ListN.{length}
 use borrow.Author.Tests.{leb-true, eqb-true, eqb-false, not-true, le-leb}
+use Rattle.routing.proofs.FewArcs.{from-few, to-few}
 use Rattle.routing.specs.Arcs.{from, to}
-use Rattle.routing.proofs.Shape.{From, To}
-use Rattle.routing.proofs.Theorems.{from-case, to-case, laws}
+use Rattle.routing.proofs.Theorems.{laws}
 use Rattle.frame.specs.Limits.{nothingDue}
 use Rattle.memory.specs.Records.{Gateway}
 use Rattle.memory.specs.Validity.{oneOfTwo, arrivalsPossible, roundPossible}
 use Rattle.memory.specs.declared.Sent.{Sent}
 use Rattle.memory.specs.declared.Phase.{Phase}
 use Rattle.memory.specs.declared.Phase.the-variants.{Idle, Counting, Stopped}
-use Rattle.memory.proofs.Validated.{and-left, and-right, and-both}
+use Rattle.lists.proofs.BoolLaws.{and-left, and-right, and-both}
 use Rattle.gateway.specs.Rounds.{leastOutstanding, idle, valueAt, finished, begun, isIdle, bitOf, allBits, stands, awaited, oneStart, valueIn, oneLvt}
 use Rattle.gateway.proofs.Maintaining.{Standing, with-round, with-agreed, either-stands}
-
--- a gateway has at most two arcs each way
-few-from : {N A B i : ℕ} {l : List ℕ} → From N A B i l → length l ≤ 2
-few-from (From.root p) = omega arith
-few-from (From.parent p q) = omega arith
-few-from (From.two p q r) = omega arith
-few-from (From.one p q r) = omega arith
-few-from (From.across p q r) = omega arith
-
-few-to : {N A B i : ℕ} {l : List ℕ} → To N A B i l → length l ≤ 2
-few-to (To.root p) = omega arith
-few-to (To.parent p q) = omega arith
-few-to (To.two p q r) = omega arith
-few-to (To.one p q r) = omega arith
-few-to (To.across p q r) = omega arith
 
 -- what has arrived along so many arcs while more is awaited: nothing, or one of two
 data Arrived (arcs arrived : ℕ) : Type 0 where
@@ -42,7 +27,8 @@ data Arrived (arcs arrived : ℕ) : Type 0 where
 
 one-of-two-is : {arcs arrived : ℕ} → eqb arcs 2 ≡ true → oneOfTwo arrived ≡ true → Arrived arcs arrived
 one-of-two-is {arcs} {arrived} h k =
-    one-of-two (eqb-true arcs 2 h) (leb-true 1 arrived (and-left (leb 1 arrived) (leb arrived 2) k)) (leb-true arrived 2 (and-right (leb 1 arrived) (leb arrived 2) k))
+    one-of-two (eqb-true arcs 2 h) (leb-true 1 arrived (and-left (leb 1 arrived) (leb arrived 2) k)) (leb-true arrived 2 (and-right (leb 1
+    arrived) (leb arrived 2) k))
 
 arrived-idle : (arrived froms tos : ℕ) (phase : Phase) → isIdle phase ≡ true → arrivalsPossible arrived froms tos phase ≡ true → Arrived froms arrived
 arrived-idle arrived froms tos Idle h = by-case (eqb arrived 0) refl
@@ -75,7 +61,8 @@ record OneOfTwo (arcs arrived : ℕ) : Type 0 where
   two : eqb arcs 2 ≡ true
   one : oneOfTwo arrived ≡ true
 
-one-more : (k : ℕ) (l : List ℕ) (arrived : ℕ) → length l ≤ 2 → Arrived (length l) arrived → awaited k l arrived ≡ true → eqb (arrived + bitOf k l) (allBits l) ≡ false
+one-more : (k : ℕ) (l : List ℕ) (arrived : ℕ) → length l ≤ 2 → Arrived (length l) arrived → awaited k l arrived ≡ true → eqb (arrived +
+    bitOf k l) (allBits l) ≡ false
     → OneOfTwo (length l) (arrived + bitOf k l)
 unfolding bitOf allBits
 one-more k [] arrived few a h e = absurd (false≢true h)
@@ -85,7 +72,8 @@ one-more k (x ∷ []) arrived few a h e = by-case (eqb k x) h e
     none-yet (nothing p) = p
     none-yet (one-of-two p q r) = absurd (omega arith)
 
-    by-case : (b : Bool) → (leb 1 (cond b 1 0) && not (stands (cond b 1 0) arrived)) ≡ true → eqb (arrived + cond b 1 0) 1 ≡ false → OneOfTwo 1 (arrived + cond b 1 0)
+    by-case : (b : Bool) → (leb 1 (cond b 1 0) && not (stands (cond b 1 0) arrived)) ≡ true → eqb (arrived + cond b 1 0) 1 ≡ false →
+        OneOfTwo 1 (arrived + cond b 1 0)
     by-case true h e = absurd (eqb-false (arrived + 1) 1 e (ap (λ (n : ℕ). n + 1) (none-yet a)))
     by-case false h e = absurd (false≢true h)
 one-more k (x ∷ y ∷ []) arrived few a h e = by-case (eqb k x) (eqb k y) h e
@@ -94,7 +82,8 @@ one-more k (x ∷ y ∷ []) arrived few a h e = by-case (eqb k x) (eqb k y) h e
     most (nothing p) = omega arith
     most (one-of-two p q r) = r
 
-    by-case : (b c : Bool) → (leb 1 (cond b 1 (2 * cond c 1 0)) && not (stands (cond b 1 (2 * cond c 1 0)) arrived)) ≡ true → eqb (arrived + cond b 1 (2 * cond c 1 0)) 3 ≡ false
+    by-case : (b c : Bool) → (leb 1 (cond b 1 (2 * cond c 1 0)) && not (stands (cond b 1 (2 * cond c 1 0)) arrived)) ≡ true → eqb (arrived +
+        cond b 1 (2 * cond c 1 0)) 3 ≡ false
         → OneOfTwo 2 (arrived + cond b 1 (2 * cond c 1 0))
     by-case true c h e = record { two = refl; one = of-two 1 arrived (omega arith) (omega arith) (most a) (not-true (stands 1 arrived) h) e }
     by-case false true h e = record { two = refl; one = of-two 2 arrived (omega arith) (omega arith) (most a) (not-true (stands 2 arrived) h) e }
@@ -121,17 +110,18 @@ toldBy g = to (g .settings .n) (g .settings .own)
 -- the steps of a round
 module _ {g : Gateway} (k : Standing (g .settings) g) where
   few-heard : length (heardBy g) ≤ 2
-  few-heard = few-from (from-case (g .settings .n) (k .settings .some) (g .settings .own) (k .settings .own))
+  few-heard = from-few (g .settings .n) (g .settings .own) (k .settings .own) .two
 
   few-told : length (toldBy g) ≤ 2
-  few-told = few-to (to-case (g .settings .n) (k .settings .some) (g .settings .own) (k .settings .own))
+  few-told = to-few (g .settings .n) (g .settings .own) (k .settings .own) .two
 
   -- only the last gateway tells none
   some-told : eqb (g .settings .own + 1) (g .settings .n) ≡ false → 1 ≤ length (toldBy g)
   some-told h = by-case (toldBy g) refl
     where
       by-case : (l : List ℕ) → toldBy g ≡ l → 1 ≤ length l
-      by-case [] e = absurd (eqb-false (g .settings .own + 1) (g .settings .n) h (laws (g .settings .n) (k .settings .some) .last (g .settings .own) (k .settings .own) .0 e))
+      by-case [] e = absurd (eqb-false (g .settings .own + 1) (g .settings .n) h (laws (g .settings .n) (k .settings .some) .last
+          (g .settings .own) (k .settings .own) .0 e))
       by-case (x ∷ l) e = omega arith
 
   pub finished-stands : (value : ℕ) → value < 4294967296 → Standing (g .settings) (finished value g .gateway)
@@ -151,14 +141,15 @@ module _ {g : Gateway} (k : Standing (g .settings) g) where
 
   -- taking a Start
   pub start-stands : (sender : ℕ) → isIdle (g .round .phase) ≡ true → awaited sender (heardBy g) (g .round .arrived) ≡ true
-      → Standing (g .settings) (oneStart (heardBy g) (g .round .arrived + bitOf sender (heardBy g)) g .gateway)
+      → Standing (g .settings) (oneStart (allBits (heardBy g)) (g .round .arrived + bitOf sender (heardBy g)) g .gateway)
   unfolding oneStart roundPossible
   start-stands sender h w =
       let arrived = g .round .arrived + bitOf sender (heardBy g) in
       either-stands (eqb arrived (allBits (heardBy g))) _ _
       (λ e. begun-stands)
       (λ e.
-      let o = one-more sender (heardBy g) (g .round .arrived) few-heard (arrived-idle (g .round .arrived) (length (heardBy g)) (length (toldBy g)) (g .round .phase) h (k .round)) w e in
+      let o = one-more sender (heardBy g) (g .round .arrived) few-heard (arrived-idle (g .round .arrived) (length (heardBy g)) (length
+      (toldBy g)) (g .round .phase) h (k .round)) w e in
       with-round k _ (or-right (eqb arrived 0) (and-both (eqb (length (heardBy g)) 2) (oneOfTwo arrived) (o .two) (o .one))) (k .note))
 
   -- taking an Lvt
@@ -168,7 +159,7 @@ module _ {g : Gateway} (k : Standing (g .settings) g) where
   value-most Stopped = k .note
 
   pub lvt-stands : (sender hour : ℕ) → isIdle (g .round .phase) ≡ false → awaited sender (toldBy g) (g .round .arrived) ≡ true
-      → Standing (g .settings) (oneLvt (toldBy g) (g .round .arrived + bitOf sender (toldBy g)) (min (valueIn (g .round .phase) g) hour) g .gateway)
+      → Standing (g .settings) (oneLvt (allBits (toldBy g)) (g .round .arrived + bitOf sender (toldBy g)) (min (valueIn (g .round .phase) g) hour) g .gateway)
   unfolding oneLvt roundPossible
   lvt-stands sender hour h w =
       let arrived = g .round .arrived + bitOf sender (toldBy g) in
@@ -176,5 +167,6 @@ module _ {g : Gateway} (k : Standing (g .settings) g) where
       either-stands (eqb arrived (allBits (toldBy g))) _ _
       (λ e. finished-stands _ few)
       (λ e.
-      let o = one-more sender (toldBy g) (g .round .arrived) few-told (arrived-open (g .round .arrived) (length (heardBy g)) (length (toldBy g)) (g .round .phase) h (k .round)) w e in
+      let o = one-more sender (toldBy g) (g .round .arrived) few-told (arrived-open (g .round .arrived) (length (heardBy g)) (length (toldBy
+      g)) (g .round .phase) h (k .round)) w e in
       with-round k _ (and-both (eqb (length (toldBy g)) 2) (oneOfTwo arrived) (o .two) (o .one)) few)

@@ -1,19 +1,22 @@
 -- A law for each branch of a call before it looks at what it was asked: memory that is not sound, and memory that is.
 use mathlib.Core.Path.{_≡_, refl, sym, _∙_}
-use mathlib.Core.Bool.{Bool, true, false, not}
+use mathlib.Core.Bool.{Bool, true, false, cond, not}
 use mathlib.Core.List.{List}
 use Prim.Native.Nat.{ℕ}
 use lib.ListN.{length}
 use borrow.Author.Tests.{not-true, not-false}
-use Rattle.memory.specs.Codec.{headerAt, decode}
+use Rattle.buffer.specs.Slice.{write}
+use Rattle.memory.specs.Codec.{headerAt, decode, encode}
 use Rattle.memory.specs.Records.{Gateway}
 use Rattle.memory.specs.Soundness.{sound}
 use Rattle.memory.specs.declared.Header.{Header}
 use Rattle.gateway.specs.Effects.{Outcome}
+use Rattle.gateway.specs.Working.{Progress, worked}
 use Rattle.gateway.specs.Rounds.{start}
-use Rattle.gateway.specs.Calls.{Left, leaving, onSound, agreedTime, started}
-use Rattle.gateway.specs.Premises.{Known}
+use Rattle.gateway.specs.Calls.{CallResult, left, leaving, onSound, agreedTime, started, workedOff}
+use Rattle.gateway.specs.inside.Premises.{Known}
 use Rattle.gateway.specs.declared.Answer.{Answer}
+use Rattle.gateway.specs.declared.Worked.{Worked}
 
 -- `ok` and `h` are what was found in memory m
 module _ (m : List ℕ) {ok : Bool} {h : Header} (found : (ok ≡ sound m) × (ok ≡ true → h ≡ headerAt m)) where
@@ -40,11 +43,15 @@ module _ (m : List ℕ) {ok : Bool} {h : Header} (found : (ok ≡ sound m) × (o
 
   -- a call with an output
   module _ (call : ℕ → Gateway → Outcome) (output : List ℕ) where
-    pub call-unsound : not ok ≡ true → {r : Answer} → (r .number ≡ 10) × (r .written ≡ 0) → record { answer = r; memory = m; output = output } ≡ onSound call m output
+    pub call-unsound : not ok ≡ true → {r : Answer} → (r .number ≡ 10) × (r .written ≡ 0) → record {
+      answer = r;
+      memory = m;
+      output = output;
+    } ≡ onSound call m output
     unfolding onSound
     call-unsound n {r} (a, b) = rw (unsound n) (λ i. record { answer = record { number = a i; written = b i }; memory = m; output = output })
 
-    pub call-sound : not ok ≡ false → {l : Left Answer} → l ≡ leaving (call (length output) (decode m)) m output → l ≡ onSound call m output
+    pub call-sound : not ok ≡ false → {l : CallResult Answer} → l ≡ leaving (call (length output) (decode m)) m output → l ≡ onSound call m output
     unfolding onSound
     call-sound n p = p ∙ rw (is-sound n)
 
@@ -52,3 +59,20 @@ module _ (m : List ℕ) {ok : Bool} {h : Header} (found : (ok ≡ sound m) × (o
 pub start-call : (m output : List ℕ) → onSound start m output ≡ started m output
 unfolding started
 start-call m output = refl
+
+-- what holds of the answer of work on sound memory, and of the answer to memory that is not, holds of every answer of work
+pub by-work : (b : ℕ) (m output : List ℕ) (p : Worked → Type 0)
+    → (let w = worked b (length output) (decode m) in sound m ≡ true → p (record { count = w .count; why = w .why; written = length (w .output) }))
+    → p (record { count = 0; why = 10; written = 0 })
+    → p (workedOff b m output .answer)
+unfolding workedOff
+by-work b m output p done refused = go (sound m) refl
+  where
+    w : Progress
+    w = worked b (length output) (decode m)
+
+    go : (t : Bool) → sound m ≡ t
+        → p (cond t (left (record { count = w .count; why = w .why; written = length (w .output) }) (encode (w .gateway) m) (write 0
+        (w .output) output)) (left (record { count = 0; why = 10; written = 0 }) m output) .answer)
+    go true e = done e
+    go false e = refused

@@ -7,6 +7,9 @@ use native.Mathlib.Omega.{arith}
 use lib.Dec.{leb, ltb, eqb}
 use lib.ListN.{length}
 use borrow.Author.Tests.{eqb-true, not-true}
+use Rattle.lists.specs.Lists.{any, withoutFirst}
+use Rattle.lists.proofs.SearchLaws.{without-part}
+use Rattle.lists.proofs.Ascents.{part-member, part-length}
 use Rattle.routing.specs.Arcs.{from, to}
 use Rattle.buffer.specs.Slice.{Bytes}
 use Rattle.model.specs.Messages.{kindNumber}
@@ -23,16 +26,16 @@ use Rattle.memory.specs.Records.{Gateway}
 use Rattle.memory.specs.Validity.{isProcessed, isWaiting}
 use Rattle.memory.specs.declared.Settings.{Settings}
 use Rattle.memory.specs.declared.Entry.{Entry}
-use Rattle.memory.proofs.Validated.{and-left, and-right, valid-facts}
+use Rattle.memory.proofs.Validated.{valid-facts}
+use Rattle.lists.proofs.BoolLaws.{and-left, and-right}
 use Rattle.gateway.specs.Effects.{Outcome, bytesOfFrames, fits, refused, settled, withQueue}
 use Rattle.gateway.specs.Undoing.{processedOf}
-use Rattle.gateway.specs.Taking.{any, withoutFirst, takePlain, takeCancel, isSent, takeAcknowledgment}
+use Rattle.gateway.specs.Taking.{takePlain, takeCancel, isSent, takeAcknowledgment}
 use Rattle.gateway.specs.Working.{pendingOf, done, Progress, stopped, onceMore, workedBy, worked}
-use Rattle.gateway.specs.Rounds.{begun, isIdle, start, awaited, takeStart, takeLvt, frames, takeUpdate}
+use Rattle.gateway.specs.Rounds.{begun, isIdle, start, awaited, takeStart, takeLvt, takeUpdate}
 use Rattle.gateway.specs.Committing.{recordOf, commitOldest, commit}
 use Rattle.gateway.specs.Calls.{unlessBelow, takeByKind, takeBySense, takeFrame, takeBytes}
-use Rattle.gateway.proofs.Lists.{part-member, part-length}
-use Rattle.gateway.proofs.Searches.{without-first, pending-member}
+use Rattle.gateway.proofs.Searches.{pending-member}
 use Rattle.gateway.proofs.Replies.{Good}
 use Rattle.gateway.proofs.Maintaining.{Proper, Standing, standing, Kept, enough, Ends, unchanged, refuse, with-agreed, with-outstanding, fitting, settle}
 use Rattle.gateway.proofs.Queues.{leave-out}
@@ -61,7 +64,7 @@ module _ {g : Gateway} (p : Proper g) where
       either (any (isSent cancel m) (g .outstanding))
       (λ e.
       let v = valid-facts g (p .valid) in
-      let fewer = without-first (isSent cancel m) (g .outstanding) in
+      let fewer = without-part (isSent cancel m) (g .outstanding) in
       let k = with-outstanding (standing p) (withoutFirst (isSent cancel m) (g .outstanding)) (λ x n. standing p .outstanding x (part-member fewer n)) in
       record { gateway = enough k (v .queued) (omega (arith, part-length fewer, v .sent)); number = omega arith })
       (refuses 7 (omega arith))
@@ -105,8 +108,12 @@ module _ {g : Gateway} (p : Proper g) where
       left : Kept (g .settings) (withQueue (withoutFirst isProcessed (g .queue)) g)
       left =
           let v = valid-facts g (p .valid) in
-          let fewer = without-first isProcessed (g .queue) in
-          enough (requeue (standing p) (withoutFirst isProcessed (g .queue)) (leave-out fewer (queue-of (standing p)))) (omega (arith, part-length fewer, v .queued)) (v .sent)
+          let fewer = without-part isProcessed (g .queue) in
+          enough (requeue (standing p) (withoutFirst isProcessed (g .queue)) (leave-out fewer (queue-of (standing p)))) (omega (
+            arith,
+            part-length fewer,
+            v .queued,
+          )) (v .sent)
 
       oldest : (es : List Entry) → Ends (g .settings) (commitOldest room g es)
       oldest [] = refuse p 6 (omega arith)
@@ -126,7 +133,8 @@ module _ {g : Gateway} (p : Proper g) where
       in-sense : {sense : Sense} → f .sense ≡ sense → Accepted (g .settings) (record { message = f .message; sense = sense })
       in-sense e = subst (λ (t : Sense). Accepted (g .settings) (record { message = f .message; sense = t })) e a
 
-      plain : f .sense ≡ Plain → kindNumber (f .message .kind) ≤ 3 → Ends (g .settings) (unlessBelow (f .message .hour) g (settled room g (takePlain (f .message) g)))
+      plain : f .sense ≡ Plain → kindNumber (f .message .kind) ≤ 3 → Ends (g .settings) (unlessBelow (f .message .hour) g (settled room g
+          (takePlain (f .message) g)))
       plain e k =
           let t = accepted-good (g .settings) false (f .message) k (in-sense e) in
           below-keeps (f .message .hour) (plain-keeps room (f .message) (t .good) (t .here))
@@ -182,7 +190,8 @@ work-keeps (suc b) room {g} p = next (pendingOf (g .queue)) refl (λ room′ h q
     rest : Message → Progress
     rest m = onceMore (bytesOfFrames (done m g .frames)) (worked b (room - length (bytesOfFrames (done m g .frames))) (done m g .gateway))
 
-    one : (m : Message) (t : Bool) → fits room (done m g) ≡ t → Standing (g .settings) (done m g .gateway) → ((room′ : ℕ) (h : Gateway) → Proper h → WorkEnds (h .settings) (worked b room′ h))
+    one : (m : Message) (t : Bool) → fits room (done m g) ≡ t → Standing (g .settings) (done m g .gateway) → ((room′ : ℕ) (h : Gateway) →
+        Proper h → WorkEnds (h .settings) (worked b room′ h))
         → WorkEnds (g .settings) (cond t (rest m) (stopped 5 g))
     one m true e k again =
         let now = fitting room (done m g) k e in

@@ -1,7 +1,5 @@
 -- Laws of the gateway's calls: what the code's steps come to, and that every call leaves a valid gateway valid.
-pub mod Lists
 pub mod Searches
-pub mod Replies
 pub mod Maintaining
 pub mod Queues
 pub mod Arrivals
@@ -11,15 +9,8 @@ pub mod Keeps
 pub mod Openings
 pub mod SoundAfter
 pub mod Table
-pub mod Positions
-pub mod Neighbours
-pub mod Matching
-pub mod Counts
-pub mod Changing
-pub mod LeastHours
-pub mod Acknowledging
-pub mod Announcing
 pub mod Calling
-pub mod Stepping
-pub mod Recording
-pub mod Arriving
+pub mod Replies
+pub mod Knowing
+pub mod Dispatching
+pub mod ReadMessages

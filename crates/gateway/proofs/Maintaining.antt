@@ -2,12 +2,13 @@
 use mathlib.Core.Path.{_≡_, refl, sym, subst}
 use mathlib.Core.Logic.{⊎-elim}
 use mathlib.Core.Bool.{Bool, true, false, cond}
-use mathlib.Core.List.{List, [], _∷_, _++_, List·Memᴰ·head as here, List·Memᴰ·tail as there, List·Memᴰ·not-nil, List·Memᴰ·append-cases, List·Memᴰ·eq-of-singleton}
+use mathlib.Core.List.{List, [], _∷_, _++_, List·Memᴰ·head as here, List·Memᴰ·tail as there, List·Memᴰ·not-nil, List·Memᴰ·append-cases}
+use mathlib.Core.List.{List·Memᴰ·eq-of-singleton}
 use Prim.Native.Nat.{ℕ, _≤_, _<_}
 use native.Mathlib.Omega.{arith}
 use lib.ListN.{length}
 use borrow.Author.Tests.{leb-true}
-use Rattle.routing.specs.Arcs.{_∈_, Ascending}
+use Rattle.lists.specs.Lists.{_∈_, Ascending}
 use Rattle.model.specs.Doing.{sent}
 use Rattle.model.specs.declared.Message.{Message}
 use Rattle.model.specs.declared.State.{State}
@@ -20,8 +21,10 @@ use Rattle.memory.specs.declared.Round.{Round}
 use Rattle.memory.specs.declared.Phase.{Phase}
 use Rattle.memory.specs.declared.Phase.the-variants.{Idle, Counting, Stopped}
 use Rattle.memory.specs.Ranges.{Ranged, RangedState, RangedEntry}
-use Rattle.memory.proofs.Validated.{and-left, and-right, ValidSettings, ValidEntry, MayStand, valid-facts, facts-valid}
-use Rattle.gateway.specs.Effects.{Effect, Outcome, fits, refused, settled, bytesOfFrames, withQueue, withState, withAgreed, withRound, withOutstanding, loweredIn, noted, sentOne, sentAll}
+use Rattle.memory.proofs.Validated.{ValidSettings, ValidEntry, MayStand, valid-facts, facts-valid}
+use Rattle.lists.proofs.BoolLaws.{and-left, and-right}
+use Rattle.gateway.specs.Effects.{Effect, Outcome, fits, refused, settled, bytesOfFrames, withQueue, withState, withAgreed, withRound}
+use Rattle.gateway.specs.Effects.{withOutstanding, loweredIn, noted, sentOne, sentAll}
 use Rattle.gateway.specs.Undoing.{restored, sentBack, rolledBack}
 use Rattle.gateway.proofs.Replies.{GoodSent, sent-good}
 
@@ -94,23 +97,75 @@ module _ {s : Settings} {g : Gateway} (k : Standing s g) where
 
   pub with-queue : (queue : List Entry) → ((e : Entry) → e ∈ queue → GoodEntry s e) → Ascending MayStand queue → Standing s (withQueue queue g)
   with-queue queue h a =
-      record { same = k .same; settings = k .settings; state = k .state; agreed = k .agreed; note = k .note; round = k .round; entries = h; order = a; outstanding = k .outstanding }
+      record {
+        same = k .same;
+        settings = k .settings;
+        state = k .state;
+        agreed = k .agreed;
+        note = k .note;
+        round = k .round;
+        entries = h;
+        order = a;
+        outstanding = k .outstanding;
+      }
 
   pub with-state : (state : State) → RangedState state → Standing s (withState state g)
   with-state state h =
-      record { same = k .same; settings = k .settings; state = h; agreed = k .agreed; note = k .note; round = k .round; entries = k .entries; order = k .order; outstanding = k .outstanding }
+      record {
+        same = k .same;
+        settings = k .settings;
+        state = h;
+        agreed = k .agreed;
+        note = k .note;
+        round = k .round;
+        entries =
+            k .entries;
+        order = k .order;
+        outstanding = k .outstanding;
+      }
 
   pub with-agreed : (agreed : ℕ) → agreed < 4294967296 → Standing s (withAgreed agreed g)
   with-agreed agreed h =
-      record { same = k .same; settings = k .settings; state = k .state; agreed = h; note = k .note; round = k .round; entries = k .entries; order = k .order; outstanding = k .outstanding }
+      record {
+        same = k .same;
+        settings = k .settings;
+        state = k .state;
+        agreed = h;
+        note = k .note;
+        round = k .round;
+        entries = k .entries;
+        order = k .order;
+        outstanding = k .outstanding;
+      }
 
   pub with-round : (round : Round) → roundPossible s round ≡ true → round .note < 4294967296 → Standing s (withRound round g)
   with-round round h l =
-      record { same = k .same; settings = k .settings; state = k .state; agreed = k .agreed; note = l; round = h; entries = k .entries; order = k .order; outstanding = k .outstanding }
+      record {
+        same = k .same;
+        settings = k .settings;
+        state = k .state;
+        agreed = k .agreed;
+        note = l;
+        round = h;
+        entries = k .entries;
+        order = k .order;
+        outstanding = k .outstanding;
+      }
 
   pub with-outstanding : (outstanding : List Sent) → ((x : Sent) → x ∈ outstanding → GoodSent s x) → Standing s (withOutstanding outstanding g)
   with-outstanding outstanding h =
-      record { same = k .same; settings = k .settings; state = k .state; agreed = k .agreed; note = k .note; round = k .round; entries = k .entries; order = k .order; outstanding = h }
+      record {
+        same = k .same;
+        settings = k .settings;
+        state = k .state;
+        agreed = k .agreed;
+        note = k .note;
+        round = k .round;
+        entries =
+            k .entries;
+        order = k .order;
+        outstanding = h;
+      }
 
 -- sending lowers the note at most
 lowered-most : (phase : Phase) (note hour : ℕ) → loweredIn phase note hour ≤ note
@@ -118,7 +173,11 @@ lowered-most Idle note hour = omega arith
 lowered-most Counting note hour = omega arith
 lowered-most Stopped note hour = omega arith
 
-pub send-one : {s : Settings} {g : Gateway} → Standing s g → (cancel : Bool) (m : Message) → GoodSent s (record { message = m; cancel = cancel }) → Standing s (sentOne cancel m g)
+pub send-one : {s : Settings} {g : Gateway} → Standing s g → (cancel : Bool) (m : Message) → GoodSent s (record {
+  message = m;
+  cancel =
+      cancel;
+}) → Standing s (sentOne cancel m g)
 unfolding sentOne noted roundPossible
 send-one {s} {g} k cancel m h =
     with-outstanding
@@ -139,13 +198,18 @@ module _ {s : Settings} {g : Gateway} (k : Standing s g) where
   restored-ranged [] h = k .state
   restored-ranged (e ∷ es) h = h e (here refl) .ranged .before
 
-  sent-back-good : (events : List Entry) → ((e : Entry) → e ∈ events → GoodEntry s e) → (m : Message) → m ∈ sentBack (siteOf s) events → GoodSent s (record { message = m; cancel = true })
+  sent-back-good : (events : List Entry) → ((e : Entry) → e ∈ events → GoodEntry s e) → (m : Message) → m ∈ sentBack (siteOf s) events →
+      GoodSent s (record { message = m; cancel = true })
   unfolding sentBack
   sent-back-good [] h m n = absurd (List·Memᴰ·not-nil n)
   sent-back-good (e ∷ es) h m n =
       ⊎-elim
       (sent-back-good es (λ f o. h f (there o)) m)
-      (sent-good s (k .settings) (e .message) (record { storable = h e (here refl) .valid .message; ranged = h e (here refl) .ranged .message }) true (e .before) m)
+      (sent-good s (k .settings) (e .message) (record {
+        storable = h e (here refl) .valid .message;
+        ranged = h e (here
+            refl) .ranged .message;
+      }) true (e .before) m)
       (List·Memᴰ·append-cases (sentBack (siteOf s) es) n)
 
   pub roll-back : (events : List Entry) → ((e : Entry) → e ∈ events → GoodEntry s e) → Standing s (rolledBack events g)
@@ -155,7 +219,8 @@ module _ {s : Settings} {g : Gateway} (k : Standing s g) where
       (λ m n. sent-back-good events h m (rw (k .same) at n))
 
 -- either of two effects
-pub either-stands : {s : Settings} (b : Bool) (u v : Effect) → (b ≡ true → Standing s (u .gateway)) → (b ≡ false → Standing s (v .gateway)) → Standing s (cond b u v .gateway)
+pub either-stands : {s : Settings} (b : Bool) (u v : Effect) → (b ≡ true → Standing s (u .gateway)) → (b ≡ false → Standing s (v .gateway))
+    → Standing s (cond b u v .gateway)
 either-stands true u v h l = h refl
 either-stands false u v h l = l refl
 
@@ -184,6 +249,11 @@ pub settle : {g : Gateway} → Proper g → (room : ℕ) (e : Effect) → Standi
 unfolding settled
 settle {g} p room e k = by-case (fits room e) refl
   where
-    by-case : (b : Bool) → fits room e ≡ b → Ends (g .settings) (cond b (record { number = 0; gateway = e .gateway; output = bytesOfFrames (e .frames) }) (refused 5 g))
+    by-case : (b : Bool) → fits room e ≡ b → Ends (g .settings) (cond b (record {
+      number = 0;
+      gateway = e .gateway;
+      output = bytesOfFrames
+          (e .frames);
+    }) (refused 5 g))
     by-case true h = record { gateway = fitting room e k h; number = omega arith }
     by-case false h = refuse p 5 (omega arith)

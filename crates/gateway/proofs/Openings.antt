@@ -2,16 +2,17 @@
 use mathlib.Core.Path.{_≡_, refl, sym, _∙_, ap, subst}
 use mathlib.Core.Logic.{⊎-elim}
 use mathlib.Core.Bool.{Bool, true, false, cond, _&&_, _||_, false≢true}
-use mathlib.Core.List.{List, [], _∷_, _++_, List·Memᴰ·head as here, List·Memᴰ·tail as there, List·Memᴰ·not-nil, List·Memᴰ·cases-cons, List·Memᴰ·append-cases, Memᴰ·append-left, Memᴰ·append-right}
-use Prim.Native.Nat.{ℕ, zero, suc, _+_, _≤_, _<_}
+use mathlib.Core.List.{List, [], _∷_, _++_, List·Memᴰ·head as here, List·Memᴰ·tail as there, List·Memᴰ·not-nil, List·Memᴰ·cases-cons}
+use mathlib.Core.List.{List·Memᴰ·append-cases, Memᴰ·append-left, Memᴰ·append-right}
+use Prim.Native.Nat.{ℕ, zero, suc, _+_, _≤_}
 use native.Mathlib.Omega.{arith}
-use native.Mathlib.Decide.{decLt}
 use lib.Dec.{leb, eqb}
-use lib.ListN.{length, length-append, length-take, getD, take, drop, List·getD-eq-default}
-use lib.Seq.{getD-take, getD-drop}
+use lib.ListN.{length, length-append, take, drop}
 use borrow.Author.Tests.{leb-true, eqb-true, eqb-false}
+use Rattle.buffer.proofs.Lent.{bytes-take, bytes-drop}
+use Rattle.lists.specs.Lists.{_∈_, none}
+use Rattle.lists.proofs.SearchLaws.{cut-first}
 use Rattle.buffer.specs.Slice.{Bytes}
-use Rattle.routing.specs.Arcs.{_∈_, none}
 use Rattle.model.specs.Messages.{kindNumber}
 use Rattle.model.specs.declared.Message.{Message}
 use Rattle.frame.proofs.Laws.{one-to-one}
@@ -26,26 +27,16 @@ use Rattle.memory.specs.Layout.{sizeFor}
 use Rattle.memory.specs.Validity.{isPending, roundPossible}
 use Rattle.memory.specs.declared.Settings.{Settings}
 use Rattle.memory.specs.declared.Entry.{Entry}
-use Rattle.memory.proofs.Validated.{and-left, and-right, settings-facts}
-use Rattle.gateway.specs.Taking.{upTo, behind}
+use Rattle.memory.proofs.Validated.{settings-facts}
+use Rattle.lists.proofs.BoolLaws.{and-left, and-right}
+use Rattle.lists.specs.Lists.{beforeFirst, fromFirst}
+use Rattle.gateway.specs.Taking.{isLater}
 use Rattle.gateway.specs.Undoing.{pendingEntry}
 use Rattle.gateway.specs.SettingUp.{settingsOf, openingValid, cutFrames, mayOpen, openingRefusal, firstRefusal, queued, opened, setUpRefusal}
 use Rattle.gateway.specs.declared.Opening.{Opening}
-use Rattle.gateway.proofs.Searches.{cut-again}
 use Rattle.gateway.proofs.Maintaining.{Kept, enough}
 use Rattle.gateway.proofs.Queues.{GoodQueue, pending-good, opening-enters}
 use Rattle.gateway.proofs.Accepting.{Accepted, Taken, form-good, not-refused, accepted-good}
-
--- the frames of an opening list are made of its bytes
-take-bytes : (n : ℕ) (s : List ℕ) → Bytes s → Bytes (take n s)
-take-bytes n s h i = by-case (decLt i n)
-  where
-    by-case : Dec (i < n) → getD (take n s) i 0 < 256
-    by-case (yes l) = rw (getD-take n s i 0 l) (h i)
-    by-case (no l) = rw (List·getD-eq-default (take n s) 0 {n = i} (omega (arith, length-take n s))) (omega arith)
-
-drop-bytes : (n : ℕ) (s : List ℕ) → Bytes s → Bytes (drop n s)
-drop-bytes n s h i = rw (getD-drop n s i 0) (h (n + i))
 
 cut-bytes : (turns : ℕ) (s : List ℕ) → Bytes s → (f : List ℕ) → f ∈ cutFrames turns s → Bytes f
 unfolding cutFrames
@@ -53,8 +44,8 @@ cut-bytes zero s h f m = absurd (List·Memᴰ·not-nil m)
 cut-bytes (suc turns) [] h f m = absurd (List·Memᴰ·not-nil m)
 cut-bytes (suc turns) (b ∷ s) h f m =
     ⊎-elim
-    (λ (e : f ≡ take (wholeLength b) (b ∷ s)). subst Bytes (sym e) (take-bytes (wholeLength b) (b ∷ s) h))
-    (cut-bytes turns (drop (wholeLength b) (b ∷ s)) (drop-bytes (wholeLength b) (b ∷ s) h) f)
+    (λ (e : f ≡ take (wholeLength b) (b ∷ s)). subst Bytes (sym e) (bytes-take (wholeLength b) (b ∷ s) h))
+    (cut-bytes turns (drop (wholeLength b) (b ∷ s)) (bytes-drop (wholeLength b) (b ∷ s) h) f)
     (List·Memᴰ·cases-cons m)
 
 -- no frame is refused
@@ -91,21 +82,25 @@ module _ (s : Settings) where
       f : Frame
       f = reading bytes .frame
 
-      by-case : (b : Bool) → (eqb (formNumber (reading bytes .form)) 0 && mayOpen f) ≡ b → _≡_ {A = ℕ} (cond b (refusal f (s .n) (s .own) (s .last)) 1) 0 → Taken s false (f .message)
+      by-case : (b : Bool) → (eqb (formNumber (reading bytes .form)) 0 && mayOpen f) ≡ b → _≡_ {A = ℕ} (cond b (refusal f (s .n) (s .own)
+          (s .last)) 1) 0 → Taken s false (f .message)
       by-case true e z =
           let good = form-good (reading bytes .form) (and-left (eqb (formNumber (reading bytes .form)) 0) (mayOpen f) e) in
           let may = and-right (eqb (formNumber (reading bytes .form)) 0) (mayOpen f) e in
-          let plain = plain-sense (f .sense) (and-left (eqb (senseNumber (f .sense)) 0) (eqb (kindNumber (f .message .kind)) 0 || eqb (kindNumber (f .message .kind)) 3) may) in
+          let plain = plain-sense (f .sense) (and-left (eqb (senseNumber (f .sense)) 0) (eqb (kindNumber (f .message .kind)) 0 || eqb
+          (kindNumber (f .message .kind)) 3) may) in
           accepted-good s false (f .message)
-          (few-kinds (kindNumber (f .message .kind)) (and-right (eqb (senseNumber (f .sense)) 0) (eqb (kindNumber (f .message .kind)) 0 || eqb (kindNumber (f .message .kind)) 3) may))
+          (few-kinds (kindNumber (f .message .kind)) (and-right (eqb (senseNumber (f .sense)) 0) (eqb (kindNumber (f .message .kind)) 0 ||
+          eqb (kindNumber (f .message .kind)) 3) may))
           (subst (λ (t : Sense). Accepted s (record { message = f .message; sense = t })) plain
           (record { form = one-to-one .readWellFormed bytes h good; ranged = one-to-one .readRanged bytes h good; passes = not-refused s f z }))
       by-case false e z = absurd (omega arith)
 
 -- the queue that the opening messages make
-pub length-entered : (m : Message) (e : Entry) (es : List Entry) → length (upTo m es ++ (e ∷ behind m es)) ≡ suc (length es)
+pub length-entered : (m : Message) (e : Entry) (es : List Entry) → length (beforeFirst (isLater m) es ++ (e ∷ fromFirst (isLater m) es)) ≡ suc (length es)
 length-entered m e es =
-    let l : length (upTo m es) + length (behind m es) ≡ length es = sym (length-append (upTo m es) (behind m es)) ∙ ap length (cut-again m es) in
+    let l : length (beforeFirst (isLater m) es) + length (fromFirst (isLater m) es) ≡ length es = sym (length-append (beforeFirst (isLater
+    m) es) (fromFirst (isLater m) es)) ∙ ap length (cut-first (isLater m) es) in
     simp length-append (omega arith)
 
 pub length-queued : (es : List Entry) (fs : List (List ℕ)) → length (queued es fs) ≡ length es + length fs
@@ -113,7 +108,7 @@ unfolding queued
 length-queued es [] = omega arith
 length-queued es (f ∷ fs) =
     let m = reading f .frame .message in
-    omega (arith, length-queued (upTo m es ++ (pendingEntry m ∷ behind m es)) fs, length-entered m (pendingEntry m) es)
+    omega (arith, length-queued (beforeFirst (isLater m) es ++ (pendingEntry m ∷ fromFirst (isLater m) es)) fs, length-entered m (pendingEntry m) es)
 
 queued-good : {s : Settings} (es : List Entry) → GoodQueue s es → ((e : Entry) → e ∈ es → isPending e ≡ true)
     → (fs : List (List ℕ)) → ((f : List ℕ) → f ∈ fs → Taken s false (reading f .frame .message)) → GoodQueue s (queued es fs)
@@ -122,12 +117,14 @@ queued-good es q h [] t = q
 queued-good es q h (f ∷ fs) t =
     let m = reading f .frame .message in
     let a = t f (here refl) in
-    queued-good (upTo m es ++ (pendingEntry m ∷ behind m es))
+    queued-good (beforeFirst (isLater m) es ++ (pendingEntry m ∷ fromFirst (isLater m) es))
     (opening-enters m es q (pending-good m (a .here) (a .good)) h)
     (λ e n. ⊎-elim
-    (λ (o : e ∈ upTo m es). h e (rw (cut-again m es) at (Memᴰ·append-left (behind m es) o)))
-    (λ (o : e ∈ (pendingEntry m ∷ behind m es)). ⊎-elim (λ (d : e ≡ pendingEntry m). ap isPending d) (λ (i : e ∈ behind m es). h e (rw (cut-again m es) at (Memᴰ·append-right (upTo m es) i))) (List·Memᴰ·cases-cons o))
-    (List·Memᴰ·append-cases (upTo m es) n))
+    (λ (o : e ∈ beforeFirst (isLater m) es). h e (rw (cut-first (isLater m) es) at (Memᴰ·append-left (fromFirst (isLater m) es) o)))
+    (λ (o : e ∈ (pendingEntry m ∷ fromFirst (isLater m) es)). ⊎-elim (λ (d : e ≡ pendingEntry m). ap isPending d) (λ (i : e ∈ fromFirst
+    (isLater m) es). h e (rw (cut-first (isLater m) es) at (Memᴰ·append-right (beforeFirst (isLater m) es) i))) (List·Memᴰ·cases-cons
+    o))
+    (List·Memᴰ·append-cases (beforeFirst (isLater m) es) n))
     fs (λ x n. t x (there n))
 
 -- what a set up that is not refused has passed
@@ -159,7 +156,8 @@ opening-long o size list h =
     let valid : openingValid o size ≡ true = opening-passes o size list h .valid in
     leb-true (sizeFor (o .q) (o .u)) size (search (and-left, and-right))
 
-pub opened-keeps : (o : Opening) (size : ℕ) (list : List ℕ) → Bytes list → setUpRefusal o size list ≡ 0 → Kept (settingsOf o) (opened o (cutFrames (length list) list))
+pub opened-keeps : (o : Opening) (size : ℕ) (list : List ℕ) → Bytes list → setUpRefusal o size list ≡ 0 → Kept (settingsOf o) (opened o
+    (cutFrames (length list) list))
 unfolding opened roundPossible openingValid
 opened-keeps o size list bytes h =
     let fs = cutFrames (length list) list in
@@ -171,7 +169,13 @@ opened-keeps o size list bytes h =
     (record {
       same = refl;
       settings = settings-facts (settingsOf o) (search (and-left, and-right));
-      state = record { stock = omega (arith, leb-true (o .stock) 65535 (search (and-left, and-right))); failed = omega arith; fitted = omega arith; short = omega arith };
+      state = record {
+        stock = omega (arith, leb-true (o .stock) 65535 (search (and-left, and-right)));
+        failed = omega arith;
+        fitted = omega
+            arith;
+        short = omega arith;
+      };
       agreed = omega arith;
       note = omega arith;
       round = refl;

@@ -2,10 +2,13 @@
 use mathlib.Core.Path.{_≡_, refl, sym, _∙_, ap, subst}
 use mathlib.Core.Logic.{⊎-elim}
 use mathlib.Core.Bool.{Bool, true, false, cond, not, _&&_, true≢false, false≢true}
-use mathlib.Core.List.{List, [], _∷_, _++_, map, List·Memᴰ·head as here, List·Memᴰ·tail as there, List·Memᴰ·not-nil, List·Memᴰ·cases-cons, List·Memᴰ·append-cases, Memᴰ·append-left, Memᴰ·append-right, Sublistᴰ}
+use mathlib.Core.List.{List, [], _∷_, _++_, map, List·Memᴰ·head as here, List·Memᴰ·tail as there, List·Memᴰ·not-nil, List·Memᴰ·cases-cons}
+use mathlib.Core.List.{List·Memᴰ·append-cases, Memᴰ·append-left, Memᴰ·append-right, Sublistᴰ}
 use native.Mathlib.Omega.{arith}
 use borrow.Author.Tests.{not-false}
-use Rattle.routing.specs.Arcs.{_∈_, Ascending, none, more}
+use Rattle.lists.specs.Lists.{_∈_, Ascending, none, more, any, beforeLast, fromLast, tailOf}
+use Rattle.lists.proofs.SearchLaws.{none-passes, around-last, part-tail, part-behind, cut-first, before-fails}
+use Rattle.lists.proofs.Ascents.{part-member, part-ascending, insert-ascending, map-member, map-behind}
 use Rattle.model.specs.declared.Message.{Message}
 use Rattle.model.specs.declared.State.{State}
 use Rattle.memory.specs.Validity.{pendingMark, processedMark, waitingMark, isPending, isProcessed, isWaiting, equal, later, noState}
@@ -17,10 +20,10 @@ use Rattle.memory.proofs.EventLaws.{later-flip, not-later-self, same-equal}
 use Rattle.memory.specs.Ranges.{RangedState}
 use Rattle.memory.proofs.Validated.{Storable, MayStand}
 use Rattle.gateway.specs.Undoing.{pendingEntry, undone}
-use Rattle.gateway.specs.Taking.{any, beforeLast, fromLast, tailOf, upTo, behind, isCancelOf, isPlain, waitingEntry}
+use Rattle.lists.specs.Lists.{beforeFirst, fromFirst}
+use Rattle.gateway.specs.Taking.{isLater, isCancelOf, isPlain, waitingEntry}
 use Rattle.gateway.specs.Working.{processedNext}
-use Rattle.gateway.proofs.Lists.{part-member, part-ascending, insert-ascending, map-member, map-behind}
-use Rattle.gateway.proofs.Searches.{none-passes, around-last, part-tail, part-behind, cut-again, up-to-not-later, behind-later}
+use Rattle.gateway.proofs.Searches.{behind-later}
 use Rattle.gateway.proofs.Replies.{Good}
 use Rattle.gateway.proofs.Maintaining.{GoodEntry}
 
@@ -81,7 +84,11 @@ undone-good {s} e g = by-case (isProcessed e) refl
     by-case : (b : Bool) → isProcessed e ≡ b → GoodEntry s (cond b (pendingEntry (e .message)) e)
     by-case true h =
         pending-good (e .message) (g .valid .to)
-        (record { storable = subst (λ (w : Bool). Storable s w (e .message)) (processed-not-waiting (e .mark) h) (g .valid .message); ranged = g .ranged .message })
+        (record {
+          storable = subst (λ (w : Bool). Storable s w (e .message)) (processed-not-waiting (e .mark) h) (g .valid .message);
+          ranged
+              = g .ranged .message;
+        })
     by-case false h = g
 
 undone-behind : (e f : Entry) → MayStand e f → MayStand e (undone f)
@@ -146,38 +153,44 @@ not-first true b h k = absurd (true≢false (sym k ∙ h))
 not-first false b h k = refl
 
 module _ {s : Settings} (m : Message) (es : List Entry) (q : GoodQueue s es) where
-  cut-good : GoodQueue s (upTo m es ++ behind m es)
-  cut-good = rw (cut-again m es) q
+  cut-good : GoodQueue s (beforeFirst (isLater m) es ++ fromFirst (isLater m) es)
+  cut-good = rw (cut-first (isLater m) es) q
 
-  up-to-member : (u : Entry) → u ∈ upTo m es → u ∈ es
-  up-to-member u n = rw (cut-again m es) at (Memᴰ·append-left (behind m es) n)
+  up-to-member : (u : Entry) → u ∈ beforeFirst (isLater m) es → u ∈ es
+  up-to-member u n = rw (cut-first (isLater m) es) at (Memᴰ·append-left (fromFirst (isLater m) es) n)
 
   -- taking a plain message
-  pub plain-enters : GoodEntry s (pendingEntry m) → any (isCancelOf m) es ≡ false → GoodQueue s (upTo m es ++ (pendingEntry m ∷ map undone (behind m es)))
+  pub plain-enters : GoodEntry s (pendingEntry m) → any (isCancelOf m) es ≡ false → GoodQueue s (beforeFirst (isLater m) es ++ (pendingEntry
+      m ∷ map undone (fromFirst (isLater m) es)))
   plain-enters g h =
-      enter (upTo m es) (map undone (behind m es)) (pendingEntry m) (undo-behind (upTo m es) (behind m es) cut-good) g refl
-      (up-to-not-later m es)
-      (λ v n. let r = map-member undone (behind m es) n in ap (λ (x : Entry). later (x .message) m) (r .2) ∙ ap (λ (x : Message). later x m) (undone-is (r .0) .message) ∙ behind-later m (q .order) (r .0) (r .1))
-      (λ k v n. let r = map-member undone (behind m es) n in ap isProcessed (r .2) ∙ undone-is (r .0) .processed)
+      enter (beforeFirst (isLater m) es) (map undone (fromFirst (isLater m) es)) (pendingEntry m) (undo-behind (beforeFirst (isLater m) es)
+      (fromFirst (isLater m) es) cut-good) g refl
+      (before-fails (isLater m) es)
+      (λ v n. let r = map-member undone (fromFirst (isLater m) es) n in ap (λ (x : Entry). later (x .message) m) (r .2) ∙ ap (λ (x :
+      Message). later x m) (undone-is (r .0) .message) ∙ behind-later m (q .order) (r .0) (r .1))
+      (λ k v n. let r = map-member undone (fromFirst (isLater m) es) n in ap isProcessed (r .2) ∙ undone-is (r .0) .processed)
       (λ u n e. not-first (isWaiting u) (equal (u .message) m) (none-passes (isCancelOf m) es h u (up-to-member u n)) (same-equal (u .message) m e))
 
   -- an opening message, while none is processed and no cancel waits
-  pub opening-enters : GoodEntry s (pendingEntry m) → ((e : Entry) → e ∈ es → isPending e ≡ true) → GoodQueue s (upTo m es ++ (pendingEntry m ∷ behind m es))
+  pub opening-enters : GoodEntry s (pendingEntry m) → ((e : Entry) → e ∈ es → isPending e ≡ true) → GoodQueue s (beforeFirst (isLater m) es
+      ++ (pendingEntry m ∷ fromFirst (isLater m) es))
   opening-enters g h =
-      enter (upTo m es) (behind m es) (pendingEntry m) cut-good g refl
-      (up-to-not-later m es)
+      enter (beforeFirst (isLater m) es) (fromFirst (isLater m) es) (pendingEntry m) cut-good g refl
+      (before-fails (isLater m) es)
       (behind-later m (q .order))
-      (λ k v n. pending-not-processed (v .mark) (h v (rw (cut-again m es) at (Memᴰ·append-right (upTo m es) n))))
+      (λ k v n. pending-not-processed (v .mark) (h v (rw (cut-first (isLater m) es) at (Memᴰ·append-right (beforeFirst (isLater m) es) n))))
       (λ u n e. pending-not-waiting (u .mark) (h u (up-to-member u n)))
 
   -- a cancel that waits
-  pub cancel-enters : GoodEntry s (waitingEntry m) → any (isPlain m) es ≡ false → GoodQueue s (upTo m es ++ (waitingEntry m ∷ behind m es))
+  pub cancel-enters : GoodEntry s (waitingEntry m) → any (isPlain m) es ≡ false → GoodQueue s (beforeFirst (isLater m) es ++ (waitingEntry m
+      ∷ fromFirst (isLater m) es))
   cancel-enters g h =
-      enter (upTo m es) (behind m es) (waitingEntry m) cut-good g refl
-      (up-to-not-later m es)
+      enter (beforeFirst (isLater m) es) (fromFirst (isLater m) es) (waitingEntry m) cut-good g refl
+      (before-fails (isLater m) es)
       (behind-later m (q .order))
       (λ k. absurd (false≢true k))
-      (λ u n e. not-false (isWaiting u) (not-first (not (isWaiting u)) (equal (u .message) m) (none-passes (isPlain m) es h u (up-to-member u n)) (same-equal (u .message) m e)))
+      (λ u n e. not-false (isWaiting u) (not-first (not (isWaiting u)) (equal (u .message) m) (none-passes (isPlain m) es h u (up-to-member
+      u n)) (same-equal (u .message) m e)))
 
   -- a cancel that meets its message
   pub cancel-meets : any (isPlain m) es ≡ true → GoodQueue s (beforeLast (isPlain m) es ++ map undone (tailOf (fromLast (isPlain m) es)))
@@ -209,7 +222,12 @@ module _ (before : State) where
       by-case true h rest m = ⊎-elim (done e (here refl) h) (λ n. as-it-was (there n)) (List·Memᴰ·cases-cons m)
       by-case false h rest m = ⊎-elim (λ (p : x ≡ e). as-it-was (here p)) (λ n. was-more (rest n)) (List·Memᴰ·cases-cons m)
 
-  done-behind : (e f : Entry) → isPending e ≡ false → isPending f ≡ true → MayStand e f → MayStand e (record { message = f .message; mark = Processed; before = before })
+  done-behind : (e f : Entry) → isPending e ≡ false → isPending f ≡ true → MayStand e f → MayStand e (record {
+    message = f .message;
+    mark =
+        Processed;
+    before = before;
+  })
   done-behind e f p h r = record { order = r .order; marks = λ k. absurd (true≢false (sym k ∙ p)); apart = λ k. r .apart k ∙ pending-not-waiting (f .mark) h }
 
   done-first : (e f : Entry) → isPending e ≡ true → MayStand e f → MayStand (record { message = e .message; mark = Processed; before = before }) f
@@ -238,6 +256,11 @@ module _ (before : State) where
           let g = q .entries e m in
           subst (GoodEntry s) (sym w)
           (record {
-            valid = record { message = subst (λ (t : Bool). Storable s t (e .message)) (pending-not-waiting (e .mark) p) (g .valid .message); to = g .valid .to; saved = refl };
+            valid = record {
+              message = subst (λ (t : Bool). Storable s t (e .message)) (pending-not-waiting (e .mark) p)
+                  (g .valid .message);
+              to = g .valid .to;
+              saved = refl;
+            };
             ranged = record { message = g .ranged .message; before = r };
           })

@@ -6,7 +6,7 @@ use Prim.Native.Nat.{ℕ, _+_, _-_, _≤_, _<_}
 use native.Mathlib.Omega.{arith}
 use lib.Dec.{leb, ltb}
 use borrow.Author.Tests.{leb-true, le-leb, eq-eqb, ne-eqb}
-use Rattle.routing.specs.Arcs.{_∈_}
+use Rattle.lists.specs.Lists.{_∈_}
 use Rattle.model.specs.Messages.{kindNumber, originOf, quantityOf}
 use Rattle.model.specs.Doing.{after, counted, notPast, reply, sent, sentFor, requestHours, deliveryHours, lifeHours}
 use Rattle.model.specs.declared.Kind.{Kind}
@@ -19,7 +19,8 @@ use Rattle.memory.specs.Validity.{frameIf}
 use Rattle.memory.specs.declared.Settings.{Settings}
 use Rattle.memory.specs.declared.Sent.{Sent}
 use Rattle.memory.specs.Ranges.{RangedState, RangedMessage}
-use Rattle.memory.proofs.Validated.{and-left, and-right, ValidSettings, Storable, ValidSent}
+use Rattle.memory.proofs.Validated.{ValidSettings, Storable, ValidSent}
+use Rattle.lists.proofs.BoolLaws.{and-left, and-right}
 
 -- a message that may be stored as it is, and whose numbers fit their fields
 pub record Good (s : Settings) (cancel : Bool) (m : Message) : Type 0 where
@@ -45,7 +46,8 @@ unfolding wellFormed lampFits
 lamp-formed cancel m k lamp gateways = rw (le-leb (kindNumber (m .kind)) 2 k, ne-eqb (kindNumber (m .kind)) 4 (λ e. omega arith), lamp, gateways)
 
 module _ (s : Settings) (v : ValidSettings s) {cancel : Bool} (m : Message) (good : Good s cancel m) (some : kindNumber (m .kind) ≤ 2) (again : Bool) where
-  reply-good : (hours to : ℕ) (kind : Kind) → kindNumber kind ≤ 2 → gatewaysAgree (s .own) to kind ≡ true → to < s .n → originOf kind < s .n → quantityOf kind ≡ 0
+  reply-good : (hours to : ℕ) (kind : Kind) → kindNumber kind ≤ 2 → gatewaysAgree (s .own) to kind ≡ true → to < s .n → originOf kind < s .n
+      → quantityOf kind ≡ 0
       → (x : Message) → x ∈ notPast (s .last) (reply (siteOf s) m hours to kind) → GoodSent s (record { message = x; cancel = again })
   reply-good hours to kind k agree t o q x n = by-case (leb (m .hour + hours) (s .last)) refl n
     where
@@ -71,11 +73,13 @@ module _ (s : Settings) (v : ValidSettings s) {cancel : Bool} (m : Message) (goo
           }
 
       by-case : (b : Bool) → leb (m .hour + hours) (s .last) ≡ b → x ∈ cond b (r ∷ []) [] → GoodSent s (record { message = x; cancel = again })
-      by-case true e n = subst (λ (y : Message). GoodSent s (record { message = y; cancel = again })) (sym (List·Memᴰ·eq-of-singleton n)) (good-reply (leb-true (m .hour + hours) (s .last) e))
+      by-case true e n = subst (λ (y : Message). GoodSent s (record { message = y; cancel = again })) (sym (List·Memᴰ·eq-of-singleton n))
+          (good-reply (leb-true (m .hour + hours) (s .last) e))
       by-case false e n = absurd (List·Memᴰ·not-nil n)
 
 module _ (s : Settings) (v : ValidSettings s) {cancel : Bool} (m : Message) (good : Good s cancel m) (again : Bool) (before : State) where
-  either : (b : Bool) {us vs : List Message} {P : Message → Type 0} → ((x : Message) → x ∈ us → P x) → ((x : Message) → x ∈ vs → P x) → (x : Message) → x ∈ cond b us vs → P x
+  either : (b : Bool) {us vs : List Message} {P : Message → Type 0} → ((x : Message) → x ∈ us → P x) → ((x : Message) → x ∈ vs → P x) → (x :
+      Message) → x ∈ cond b us vs → P x
   either true p q = p
   either false p q = q
 
@@ -91,13 +95,16 @@ module _ (s : Settings) (v : ValidSettings s) {cancel : Bool} (m : Message) (goo
       origin e = rw e at (good .storable .origin)
 
       by-kind : (kind : Kind) → m .kind ≡ kind → (x : Message) → x ∈ sentFor (siteOf s) before m kind → GoodSent s (record { message = x; cancel = again })
-      by-kind (Failure origin′) e = reply-good s v m good (few e (omega arith)) again requestHours (s .supplier) (Request (s .own)) (omega arith) refl (v .supplier) (v .own) refl
+      by-kind (Failure origin′) e = reply-good s v m good (few e (omega arith)) again requestHours (s .supplier) (Request (s .own)) (omega
+          arith) refl (v .supplier) (v .own) refl
       by-kind (Request origin′) e =
           either (ltb 0 (before .stock))
-          (reply-good s v m good (few e (omega arith)) again deliveryHours origin′ (Delivery origin′) (omega arith) (eq-eqb origin′ origin′ refl) (origin e) (origin e) refl)
+          (reply-good s v m good (few e (omega arith)) again deliveryHours origin′ (Delivery origin′) (omega arith) (eq-eqb origin′ origin′
+          refl) (origin e) (origin e) refl)
           (reply-good s v m good (few e (omega arith)) again requestHours (s .supplier) (Request origin′) (omega arith) refl (v .supplier) (origin e) refl)
       by-kind (Delivery origin′) e =
-          reply-good s v m good (few e (omega arith)) again lifeHours (s .own) (Failure (s .own)) (omega arith) (rw (eq-eqb (s .own) (s .own) refl)) (v .own) (v .own) refl
+          reply-good s v m good (few e (omega arith)) again lifeHours (s .own) (Failure (s .own)) (omega arith) (rw (eq-eqb (s .own)
+          (s .own) refl)) (v .own) (v .own) refl
       by-kind (Restock quantity) e = λ x n. absurd (List·Memᴰ·not-nil n)
       by-kind Start e = λ x n. absurd (List·Memᴰ·not-nil n)
       by-kind Lvt e = λ x n. absurd (List·Memᴰ·not-nil n)
@@ -109,7 +116,13 @@ after-ranged r (Failure origin) = record { stock = r .stock; failed = omega arit
 after-ranged {s} r (Request origin) = by-case (ltb 0 (s .stock))
   where
     by-case : (b : Bool)
-        → RangedState (cond b (record { stock = s .stock - 1; failed = s .failed; fitted = s .fitted; short = s .short }) (record { stock = s .stock; failed = s .failed; fitted = s .fitted; short = counted (s .short) }))
+        → RangedState (cond b (record { stock = s .stock - 1; failed = s .failed; fitted = s .fitted; short = s .short }) (record {
+          stock =
+              s .stock;
+          failed = s .failed;
+          fitted = s .fitted;
+          short = counted (s .short);
+        }))
     by-case true = record { stock = omega arith; failed = r .failed; fitted = r .fitted; short = r .short }
     by-case false = record { stock = r .stock; failed = r .failed; fitted = r .fitted; short = omega arith }
 after-ranged r (Delivery origin) = record { stock = r .stock; failed = r .failed; fitted = omega arith; short = r .short }

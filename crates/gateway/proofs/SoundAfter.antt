@@ -18,7 +18,7 @@ use Rattle.gateway.specs.Effects.{Outcome}
 use Rattle.gateway.specs.Rounds.{start}
 use Rattle.gateway.specs.Committing.{commit}
 use Rattle.gateway.specs.SettingUp.{settingsOf, cutFrames, opened, setUpRefusal}
-use Rattle.gateway.specs.Calls.{Left, refusedWith, leaving, onSound, takeBytes, taken, started, committed, workedOff, setUp, agreedTime}
+use Rattle.gateway.specs.Calls.{CallResult, refusedWith, leaving, onSound, takeBytes, taken, started, committed, workedOff, setUp, agreedTime}
 use Rattle.gateway.specs.Claims.{SoundBytes, StaysSound, NeverUnsound}
 use Rattle.gateway.specs.declared.Answer.{Answer}
 use Rattle.gateway.specs.declared.Opening.{Opening}
@@ -55,7 +55,7 @@ module _ (memory : List ℕ) (h : SoundBytes memory) where
       r : Outcome
       r = call (length output) (decode memory)
 
-      left : Bool → Left Answer
+      left : Bool → CallResult Answer
       left b =
           cond b
           (record { answer = record { number = 0; written = length (r .output) }; memory = encode (r .gateway) memory; output = write 0 (r .output) output })
@@ -65,7 +65,8 @@ module _ (memory : List ℕ) (h : SoundBytes memory) where
       by-case true = written memory (h .bytes) (ends (length output) .gateway) (held .long) (omega arith)
       by-case false = record { still = h; settings = refl; as-long = refl; rest = λ n. refl; answer = ends (length output) .number }
 
-  work-sound : (b : ℕ) (output : List ℕ) → StaysSound (decode memory .settings) memory (workedOff b memory output .answer .why) (workedOff b memory output .memory)
+  work-sound : (b : ℕ) (output : List ℕ) → StaysSound (decode memory .settings) memory (workedOff b memory output .answer .why) (workedOff b
+      memory output .memory)
   unfolding workedOff
   work-sound b output =
       let w = work-keeps b (length output) held-proper in
@@ -83,8 +84,12 @@ set-up-sound o list memory list-bytes bytes = by-case (eqb number 0) refl
     number : ℕ
     number = setUpRefusal o (length memory) list
 
-    left : Bool → Left Answer
-    left b = cond b (record { answer = record { number = 0; written = 0 }; memory = encode (opened o (cutFrames (length list) list)) memory; output = [] }) (refusedWith number memory [])
+    left : Bool → CallResult Answer
+    left b = cond b (record {
+      answer = record { number = 0; written = 0 };
+      memory = encode (opened o (cutFrames (length list) list)) memory;
+      output = [];
+    }) (refusedWith number memory [])
 
     by-case : (b : Bool) → eqb number 0 ≡ b → left b .answer .number ≡ 0 → StaysSound (settingsOf o) memory 0 (left b .memory)
     by-case true e z =

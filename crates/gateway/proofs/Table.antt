@@ -1,34 +1,36 @@
 -- The starred examples hold, by computation.
 use mathlib.Core.Path.{refl}
+use Rattle.lists.specs.Lists.{tally, joined, every, any, withoutFirst, beforeLast, fromLast}
+use Rattle.lists.specs.Families.{sum}
 use Rattle.buffer.specs.Slice.{part, write}
 use Rattle.buffer.specs.Number.{bytesOf, numberFrom, numberOf}
 use Rattle.routing.specs.Figure2.{gvtcfg, widen, share, setFrom, setTo}
-use Rattle.routing.specs.Arcs.{from, to, mid0, mid1, arcs, arcsOfFirst, sum, updates, roundMessages}
+use Rattle.routing.specs.Arcs.{from, to, mid0, mid1, arcs, arcsOfFirst, children, roundMessages}
 use Rattle.routing.specs.Answers.{neighboursOf, totalsOf}
 use Rattle.model.specs.EventOrder.{key, compared}
-use Rattle.frame.specs.Layout.{standing, total, joined, wholeLength, cut}
+use Rattle.frame.specs.Layout.{standing, wholeLength, cut}
 use Rattle.frame.specs.Kinds.{mapOfKind, mapOf}
 use Rattle.frame.specs.Writing.{contents, written, allBetween, lampFits, wellFormed}
 use Rattle.frame.specs.Reasons.{valuesOf, fieldsOf, mapFits, formOf, reading}
 use Rattle.frame.specs.Limits.{refusal}
 use Rattle.memory.specs.Codec.{stateBytes}
-use Rattle.memory.specs.Validity.{every, settingsValid, roundPossible, equal, later, ordered, processedFirst, noneMeet, storable, entryValid, sentValid, valid}
-use Rattle.gateway.specs.Effects.{bytesOfFrames, fits, settled, sentAll}
+use Rattle.memory.specs.Validity.{settingsValid, roundPossible, equal, later, ordered, processedFirst, noneMeet, storable, entryValid, sentValid, valid}
+use Rattle.gateway.specs.Effects.{fits, settled, sentAll}
 use Rattle.gateway.specs.Undoing.{processedOf, undone, restored, sentBack, rolledBack}
-use Rattle.gateway.specs.Taking.{any, withoutFirst, beforeLast, fromLast, takeCancel}
-use Rattle.gateway.specs.Rounds.{leastOutstanding, leastQueued, children, finished, begun, start, bitOf, allBits, oneStart, takeStart, oneLvt, takeLvt}
-use Rattle.gateway.specs.Committing.{recordOf, commit}
+use Rattle.gateway.specs.Taking.{takeCancel}
+use Rattle.gateway.specs.Rounds.{leastOutstanding, leastQueued, finished, begun, start, bitOf, allBits, oneStart, takeStart, oneLvt, takeLvt}
+use Rattle.gateway.specs.Committing.{recordFor, commit}
 use Rattle.gateway.specs.Calls.{takeFrame, takeBytes}
 use Rattle.gateway.specs.Examples.{roundOfTwo, Starred}
 
 pub starred : Starred
 unfolding
-    gvtcfg widen share setFrom setTo from to mid0 mid1 arcs arcsOfFirst sum updates roundMessages neighboursOf totalsOf
-    part write bytesOf numberFrom numberOf stateBytes key compared standing total joined wholeLength cut mapOfKind mapOf contents written
+    gvtcfg widen share setFrom setTo from to mid0 mid1 arcs arcsOfFirst sum children roundMessages neighboursOf totalsOf
+    part write bytesOf numberFrom numberOf stateBytes key compared standing tally joined wholeLength cut mapOfKind mapOf contents written
     allBetween lampFits wellFormed valuesOf fieldsOf mapFits formOf reading refusal every settingsValid roundPossible equal later ordered
-    processedFirst noneMeet storable entryValid sentValid valid bytesOfFrames fits settled sentAll processedOf undone restored sentBack
-    rolledBack any withoutFirst beforeLast fromLast takeCancel leastOutstanding leastQueued children finished begun start bitOf allBits
-    oneStart takeStart oneLvt takeLvt recordOf commit takeFrame takeBytes roundOfTwo
+    processedFirst noneMeet storable entryValid sentValid valid fits settled sentAll processedOf undone restored sentBack
+    rolledBack any withoutFirst beforeLast fromLast takeCancel leastOutstanding leastQueued finished begun start bitOf allBits
+    oneStart takeStart oneLvt takeLvt recordFor commit takeFrame takeBytes roundOfTwo
 starred =
     record {
       one = (refl, refl);

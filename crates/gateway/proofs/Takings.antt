@@ -2,7 +2,8 @@
 use mathlib.Core.Path.{_≡_}
 use mathlib.Core.Bool.{Bool, true, false}
 use mathlib.Core.List.{List, Memᴰ·append-right}
-use Rattle.routing.specs.Arcs.{_∈_}
+use Rattle.lists.specs.Lists.{_∈_, any, fromLast}
+use Rattle.lists.proofs.SearchLaws.{without-part, cut-first}
 use Rattle.model.specs.Doing.{after, sent}
 use Rattle.model.specs.declared.Message.{Message}
 use Rattle.memory.specs.Records.{Gateway, siteOf}
@@ -10,9 +11,10 @@ use Rattle.memory.specs.declared.Settings.{Settings}
 use Rattle.memory.specs.declared.Entry.{Entry}
 use Rattle.gateway.specs.Effects.{withQueue}
 use Rattle.gateway.specs.Undoing.{processedOf}
-use Rattle.gateway.specs.Taking.{any, fromLast, upTo, behind, isCancelOf, isPlain, takePlain, takeCancel}
+use Rattle.lists.specs.Lists.{beforeFirst, fromFirst}
+use Rattle.gateway.specs.Taking.{isLater, isCancelOf, isPlain, takePlain, takeCancel}
 use Rattle.gateway.specs.Working.{processedNext, done}
-use Rattle.gateway.proofs.Searches.{without-first, cut-again, processed-member}
+use Rattle.gateway.proofs.Searches.{processed-member}
 use Rattle.gateway.proofs.Replies.{Good, sent-good, after-ranged}
 use Rattle.gateway.proofs.Maintaining.{Proper, Standing, standing, with-queue, with-state, send-all, roll-back, either-stands}
 use Rattle.gateway.proofs.Queues.{GoodQueue, leave-out, pending-good, waiting-good, plain-enters, cancel-enters, cancel-meets, found-member, next-good}
@@ -31,10 +33,11 @@ module _ {g : Gateway} (p : Proper g) where
   pub plain-stands : (m : Message) → Good (g .settings) false m → m .to ≡ g .settings .own → Standing (g .settings) (takePlain m g .gateway)
   unfolding takePlain
   plain-stands m good to-here =
-      let rest = behind m (g .queue) in
-      let among : (e : Entry) → e ∈ rest → e ∈ g .queue = λ e n. rw (cut-again m (g .queue)) at (Memᴰ·append-right (upTo m (g .queue)) n) in
+      let rest = fromFirst (isLater m) (g .queue) in
+      let among : (e : Entry) → e ∈ rest → e ∈ g .queue = λ e n. rw (cut-first (isLater m) (g .queue)) at (Memᴰ·append-right (beforeFirst
+      (isLater m) (g .queue)) n) in
       either-stands (any (isCancelOf m) (g .queue)) _ _
-      (λ e. requeue now _ (leave-out (without-first (isCancelOf m) (g .queue)) (queue-of now)))
+      (λ e. requeue now _ (leave-out (without-part (isCancelOf m) (g .queue)) (queue-of now)))
       (λ e.
       requeue (roll-back now (processedOf rest) (λ x n. now .entries x (among x (processed-member rest x n)))) _
       (plain-enters m (g .queue) (queue-of now) (pending-good m to-here good) e))
@@ -53,6 +56,7 @@ module _ {g : Gateway} (p : Proper g) where
   unfolding done
   done-stands m good =
       send-all
-      (with-state (requeue now (processedNext (g .state) (g .queue)) (next-good (g .state) (now .state) (queue-of now))) (after (g .state) (m .kind)) (after-ranged (now .state) (m .kind)))
+      (with-state (requeue now (processedNext (g .state) (g .queue)) (next-good (g .state) (now .state) (queue-of now))) (after (g .state)
+      (m .kind)) (after-ranged (now .state) (m .kind)))
       false (sent (siteOf (g .settings)) (g .state) m)
       (sent-good (g .settings) (now .settings) m good false (g .state))

@@ -1,8 +1,8 @@
 -- The calls on lent bytes: what each answers, the memory afterwards and the output afterwards, for every input.
 use Prim.Native.Nat.{ℕ}
 use mathlib.Core.Bool.{Bool, true, false, cond, not, _&&_}
-use mathlib.Core.List.{List, [], _∷_}
-use lib.Dec.{leb, ltb, eqb}
+use mathlib.Core.List.{List, []}
+use lib.Dec.{ltb, eqb}
 use lib.ListN.{length}
 use Rattle.buffer.specs.Slice.{write}
 use Rattle.model.specs.Messages.{kindNumber}
@@ -16,10 +16,11 @@ use Rattle.frame.specs.declared.Sense.the-variants.{Plain, Cancel, Acknowledgme
 use Rattle.model.specs.declared.Kind.{Kind}
 use Rattle.model.specs.declared.Kind.the-variants.{Failure, Request, Delivery, Restock, Start, Lvt, Update}
 use Rattle.memory.specs.Records.{Gateway}
+use Rattle.memory.specs.declared.Settings.{Settings}
 use Rattle.memory.specs.Codec.{decode, encode, headerAt}
 use Rattle.memory.specs.Soundness.{sound}
 use Rattle.gateway.specs.Effects.{Outcome, refused, settled}
-use Rattle.gateway.specs.Working.{Progress, worked}
+use Rattle.gateway.specs.Working.{worked}
 use Rattle.gateway.specs.Taking.{takePlain, takeCancel, takeAcknowledgment}
 use Rattle.gateway.specs.Rounds.{start, takeStart, takeLvt, takeUpdate}
 use Rattle.gateway.specs.Committing.{commit}
@@ -30,20 +31,20 @@ use Rattle.gateway.specs.declared.Opening.{Opening}
 use Rattle.gateway.specs.declared.AgreedTime.{AgreedTime}
 
 -- what a call leaves: its answer, the memory and the output
-pub record Left (A : Type 0) : Type 0 where
+pub record CallResult (A : Type 0) : Type 0 where
   pub answer : A
   pub memory : List ℕ
   pub output : List ℕ
 
--- a refusal writes nothing
-abbrev pub nothing : {A : Type 0} → A → List ℕ → List ℕ → Left A
-nothing answer memory output = record { answer = answer; memory = memory; output = output }
+abbrev pub left : {A : Type 0} → A → List ℕ → List ℕ → CallResult A
+left answer memory output = record { answer = answer; memory = memory; output = output }
 
-abbrev pub refusedWith : ℕ → List ℕ → List ℕ → Left Answer
-refusedWith number memory output = nothing (record { number = number; written = 0 }) memory output
+-- a refusal writes nothing
+abbrev pub refusedWith : ℕ → List ℕ → List ℕ → CallResult Answer
+refusedWith number memory output = left (record { number = number; written = 0 }) memory output
 
 -- an outcome on a gateway, on its memory and the output: a refusal leaves both as they were
-unfoldable pub leaving : Outcome → List ℕ → List ℕ → Left Answer
+unfoldable pub leaving : Outcome → List ℕ → List ℕ → CallResult Answer
 leaving r memory output =
     cond (eqb (r .number) 0)
     (record {
@@ -53,11 +54,14 @@ leaving r memory output =
     })
     (refusedWith (r .number) memory output)
 
+-- a call on the gateway that the memory holds, with the output's length for its room
+abbrev pub onHeld : (ℕ → Gateway → Outcome) → List ℕ → List ℕ → CallResult Answer
+onHeld call memory output = leaving (call (length output) (decode memory)) memory output
+
 -- a call on sound memory; 10 otherwise
-unfoldable pub onSound : (ℕ → Gateway → Outcome) → List ℕ → List ℕ → Left Answer
+unfoldable pub onSound : (ℕ → Gateway → Outcome) → List ℕ → List ℕ → CallResult Answer
 unfolding leaving
-onSound call memory output =
-    cond (sound memory) (leaving (call (length output) (decode memory)) memory output) (refusedWith 10 memory output)
+onSound call memory output = cond (sound memory) (onHeld call memory output) (refusedWith 10 memory output)
 
 -- an hour below the agreed time is refused with 9 before the call looks further
 abbrev pub unlessBelow : ℕ → Gateway → Outcome → Outcome
@@ -84,32 +88,38 @@ takeBySense room m g CancelAcknowledgment = takeAcknowledgment true m g
 unfoldable pub takeFrame : ℕ → Frame → Gateway → Outcome
 takeFrame room f g = takeBySense room (f .message) g (f .sense)
 
--- taking a byte string: 1 for what is no frame or not taken in this call, then 2 and 3, then the rest
+-- a frame of one of the forms that this call takes: no Restock
+abbrev pub usable : Reading → Bool
+usable r = eqb (formNumber (r .form)) 0 && not (eqb (kindNumber (r .frame .message .kind)) 3)
+
+-- taking a frame of one of the forms, at a gateway with those settings: 2 and 3, then the rest
+abbrev pub takeFor : Settings → Frame → ℕ → Gateway → Outcome
+takeFor s f room g =
+    let number = refusal f (s .n) (s .own) (s .last) in
+    cond (eqb number 0) (takeFrame room f g) (refused number g)
+
+-- taking a byte string: 1 for what is no frame or not taken in this call, then the rest
 unfoldable pub takeBytes : List ℕ → ℕ → Gateway → Outcome
 unfolding takeFrame
 takeBytes bytes room g =
     let r = reading bytes in
-    let s = g .settings in
-    let number = refusal (r .frame) (s .n) (s .own) (s .last) in
-    cond (eqb (formNumber (r .form)) 0 && not (eqb (kindNumber (r .frame .message .kind)) 3))
-    (cond (eqb number 0) (takeFrame room (r .frame) g) (refused number g))
-    (refused 1 g)
+    cond (usable r) (takeFor (g .settings) (r .frame) room g) (refused 1 g)
 
 -- the calls
-unfoldable pub taken : List ℕ → List ℕ → List ℕ → Left Answer
+unfoldable pub taken : List ℕ → List ℕ → List ℕ → CallResult Answer
 unfolding onSound takeBytes
 taken memory frame output = onSound (takeBytes frame) memory output
 
-unfoldable pub started : List ℕ → List ℕ → Left Answer
+unfoldable pub started : List ℕ → List ℕ → CallResult Answer
 unfolding onSound
 started memory output = onSound start memory output
 
-unfoldable pub committed : List ℕ → List ℕ → Left Answer
+unfoldable pub committed : List ℕ → List ℕ → CallResult Answer
 unfolding onSound
 committed memory output = onSound commit memory output
 
 -- work that stops early keeps what the counted events did
-unfoldable pub workedOff : ℕ → List ℕ → List ℕ → Left Worked
+unfoldable pub workedOff : ℕ → List ℕ → List ℕ → CallResult Worked
 workedOff b memory output =
     let p = worked b (length output) (decode memory) in
     cond (sound memory)
@@ -118,10 +128,10 @@ workedOff b memory output =
       memory = encode (p .gateway) memory;
       output = write 0 (p .output) output;
     })
-    (nothing (record { count = 0; why = 10; written = 0 }) memory output)
+    (left (record { count = 0; why = 10; written = 0 }) memory output)
 
 -- set up never looks at what the memory held, and writes no output
-unfoldable pub setUp : Opening → List ℕ → List ℕ → Left Answer
+unfoldable pub setUp : Opening → List ℕ → List ℕ → CallResult Answer
 setUp o list memory =
     let number = setUpRefusal o (length memory) list in
     cond (eqb number 0)
@@ -132,7 +142,7 @@ setUp o list memory =
     })
     (refusedWith number memory [])
 
--- reading the agreed time: 10, or the hour
+-- reading the agreed time (GVT): 10, or the hour
 unfoldable pub agreedTime : List ℕ → AgreedTime
 agreedTime memory =
     cond (sound memory) (record { number = 0; hour = headerAt memory .agreed }) (record { number = 10; hour = 0 })

@@ -1,9 +1,10 @@
 -- What a call would do to a gateway, whether there is room for it, and the changes that several calls make.
 use Prim.Native.Nat.{ℕ, _+_, min}
-use mathlib.Core.Bool.{Bool, true, false, cond, _&&_}
+use mathlib.Core.Bool.{Bool, cond, _&&_}
 use mathlib.Core.List.{List, [], _∷_, _++_, map}
 use lib.Dec.{leb}
 use lib.ListN.{length}
+use Rattle.lists.specs.Lists.{joined}
 use Rattle.model.specs.declared.Message.{Message}
 use Rattle.model.specs.declared.State.{State}
 use Rattle.frame.specs.Writing.{written}
@@ -28,13 +29,12 @@ pub record Outcome : Type 0 where
   pub output : List ℕ
 
 -- frames one behind the other
-unfoldable pub bytesOfFrames : List Frame → List ℕ
-bytesOfFrames [] = []
-bytesOfFrames (f ∷ fs) = written f ++ bytesOfFrames fs
+abbrev pub bytesOfFrames : List Frame → List ℕ
+bytesOfFrames fs = joined written fs
 
 -- queue places, outstanding places and output bytes are enough for all that the call would do
 unfoldable pub fits : ℕ → Effect → Bool
-unfolding bytesOfFrames
+unfolding joined
 fits room e =
     leb (length (e .gateway .queue)) (e .gateway .settings .q)
     && leb (length (e .gateway .outstanding)) (e .gateway .settings .u)
@@ -50,6 +50,10 @@ unfolding fits
 settled room g e =
     cond (fits room e) (record { number = 0; gateway = e .gateway; output = bytesOfFrames (e .frames) }) (refused 5 g)
 
+-- a call with that effect
+abbrev pub settling : (Gateway → Effect) → ℕ → Gateway → Outcome
+settling effect room g = settled room g (effect g)
+
 -- a gateway with another queue, state, agreed time or round
 abbrev pub withQueue : List Entry → Gateway → Gateway
 withQueue queue g = record { settings = g .settings; state = g .state; agreed = g .agreed; round = g .round; queue = queue; outstanding = g .outstanding }
@@ -64,7 +68,7 @@ abbrev pub withRound : Round → Gateway → Gateway
 withRound round g = record { settings = g .settings; state = g .state; agreed = g .agreed; round = round; queue = g .queue; outstanding = g .outstanding }
 
 abbrev pub withOutstanding : List Sent → Gateway → Gateway
-withOutstanding outstanding g = record { settings = g .settings; state = g .state; agreed = g .agreed; round = g .round; queue = g .queue; outstanding = outstanding }
+withOutstanding sent g = record { settings = g .settings; state = g .state; agreed = g .agreed; round = g .round; queue = g .queue; outstanding = sent }
 
 -- the note after a plain message or cancel of that hour is sent: until the gateway stops, the hour lowers it
 abbrev pub loweredIn : Phase → ℕ → ℕ → ℕ

@@ -4,13 +4,14 @@ use Prim.Native.Nat.{ℕ}
 use mathlib.Core.Bool.{true, false}
 use mathlib.Core.List.{List, [], _∷_, _++_}
 use lib.ListN.{replicate}
+use Rattle.lists.specs.Lists.{every}
 use Rattle.routing.specs.Arcs.{figure2, from, to, mid0, mid1, arcs, roundMessages}
 use Rattle.routing.specs.Answers.{neighboursOf, totalsOf}
 use Rattle.model.specs.declared.Message.{Message}
 use Rattle.model.specs.declared.Kind.the-variants.{Failure, Request}
 use Rattle.frame.specs.Writing.{written}
 use Rattle.memory.specs.Records.{Gateway}
-use Rattle.memory.specs.Validity.{every, noState, frameIf, valid}
+use Rattle.memory.specs.Validity.{noState, frameIf, valid}
 use Rattle.memory.specs.declared.Entry.{Entry}
 use Rattle.memory.specs.declared.Sent.{Sent}
 use Rattle.memory.specs.declared.Mark.the-variants.{Processed}
@@ -29,8 +30,8 @@ abbrev failure : ℕ → ℕ → ℕ → Message
 failure own hour character = record { hour = hour; from = own; to = own; kind = Failure own; lamp = lampWith character }
 
 -- one of two gateways, with its agreed time and what is queued and outstanding
-abbrev oneOfTwo : ℕ → ℕ → List Entry → List Sent → Gateway
-oneOfTwo own agreed queue outstanding = record {
+abbrev amongTwo : ℕ → ℕ → List Entry → List Sent → Gateway
+amongTwo own agreed queue outstanding = record {
   settings = record { n = 2; own = own; supplier = 0; last = 100; q = 4; u = 4 };
   state = noState;
   agreed = agreed;
@@ -41,13 +42,13 @@ oneOfTwo own agreed queue outstanding = record {
 
 -- gateway 0 with a Failure due at 7; gateway 1 with one due at 9, and with or without an unacknowledged Request at 5
 abbrev due7 : Gateway
-due7 = oneOfTwo 0 0 (pendingEntry (failure 0 7 49) ∷ []) []
+due7 = amongTwo 0 0 (pendingEntry (failure 0 7 49) ∷ []) []
 
 abbrev due9 : Gateway
-due9 = oneOfTwo 1 0 (pendingEntry (failure 1 9 50) ∷ []) []
+due9 = amongTwo 1 0 (pendingEntry (failure 1 9 50) ∷ []) []
 
 abbrev due9sent5 : Gateway
-due9sent5 = oneOfTwo 1 0 (pendingEntry (failure 1 9 50) ∷ [])
+due9sent5 = amongTwo 1 0 (pendingEntry (failure 1 9 50) ∷ [])
     (record { message = record { hour = 5; from = 1; to = 0; kind = Request 1; lamp = lampWith 50 }; cancel = false } ∷ [])
 
 -- a round of two gateways, each frame taken as it was written: 0 starts, 1 answers the Start with its Lvt, 0 closes the round
@@ -62,11 +63,11 @@ abbrev processedAt : ℕ → Entry
 processedAt hour = record { message = failure 0 hour 49; mark = Processed; before = noState }
 
 abbrev agreed12 : ℕ → Gateway
-agreed12 hour = oneOfTwo 0 12 (processedAt hour ∷ []) []
+agreed12 hour = amongTwo 0 12 (processedAt hour ∷ []) []
 
 -- two Failures, of lamps alike in sixteen characters
 abbrev alike : Gateway
-alike = oneOfTwo 0 0 (pendingEntry (failure 0 7 49) ∷ pendingEntry (failure 0 7 50) ∷ []) []
+alike = amongTwo 0 0 (pendingEntry (failure 0 7 49) ∷ pendingEntry (failure 0 7 50) ∷ []) []
 
 pub record Starred : Type 0 where
   -- N = 1: no arcs, 0 round messages. N = 2: 0 to 1, 3 messages
@@ -84,7 +85,7 @@ pub record Starred : Type 0 where
   pub unacknowledged : (roundOfTwo due7 due9sent5 .number ≡ 0) × (roundOfTwo due7 due9sent5 .gateway .agreed ≡ 5)
   pub acknowledged : (roundOfTwo due7 due9 .number ≡ 0) × (roundOfTwo due7 due9 .gateway .agreed ≡ 7)
   -- agreed time 12: a processed event at 11 commits, at 12 gives 6
-  pub below : commit 100 (agreed12 11) ≡ record { number = 0; gateway = oneOfTwo 0 12 [] []; output = recordOf (processedAt 11) }
+  pub below : commit 100 (agreed12 11) ≡ record { number = 0; gateway = amongTwo 0 12 [] []; output = recordOf (processedAt 11) }
   pub atAgreed : commit 100 (agreed12 12) .number ≡ 6
   -- lamps alike in sixteen characters, cancel for the second: the first stays
   pub second : (takeBytes (written (frameIf true (failure 0 7 50))) 100 alike .number ≡ 0)

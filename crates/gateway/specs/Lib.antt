@@ -1,14 +1,13 @@
--- The gateway's calls: first on a gateway as a record of lists, in the order of document 01, then on the lent bytes.
+-- The gateway's calls: what all of them come to (Effects); each on a gateway as a record of lists, in the order of document 01; then
+-- all of them on the lent bytes (Calls).
 pub mod Effects
-pub mod Undoing
-pub mod Working
-pub mod Taking
-pub mod Rounds
-pub mod Committing
 pub mod SettingUp
+pub mod Working
+pub mod Undoing
+pub mod Taking
+pub mod Committing
+pub mod Rounds
 pub mod Calls
-pub mod Claims
 pub mod Examples
-pub mod Searching
-pub mod Receivers
-pub mod Premises
+pub mod Claims
+pub mod inside

@@ -1,11 +1,10 @@
 -- The round at a gateway: the start call, Start, Lvt and Update.
-use Prim.Native.Nat.{ℕ, zero, suc, _+_, _*_, _-_, _/_, _^_, _%_, min, max}
-use mathlib.Core.Bool.{Bool, true, false, cond, not, _&&_, _||_}
-use mathlib.Core.List.{List, [], _∷_, _++_, map}
-use lib.Dec.{leb, ltb, eqb}
-use lib.ListN.{length, replicate}
-use Rattle.routing.specs.Arcs.{from, to}
-use Rattle.model.specs.declared.Message.{Message}
+use Prim.Native.Nat.{ℕ, _+_, _*_, _-_, _/_, _%_, min, max}
+use mathlib.Core.Bool.{Bool, true, false, cond, not, _&&_}
+use mathlib.Core.List.{List, [], _∷_, map}
+use lib.Dec.{leb, eqb}
+use lib.ListN.{replicate}
+use Rattle.routing.specs.Arcs.{from, to, children}
 use Rattle.model.specs.declared.Kind.{Kind}
 use Rattle.model.specs.declared.Kind.the-variants.{Start, Lvt, Update}
 use Rattle.frame.specs.Limits.{nothingDue}
@@ -13,7 +12,6 @@ use Rattle.frame.specs.declared.Frame.{Frame}
 use Rattle.frame.specs.declared.Sense.the-variants.{Plain}
 use Rattle.memory.specs.Records.{Gateway}
 use Rattle.memory.specs.Validity.{isProcessed}
-use Rattle.memory.specs.declared.Settings.{Settings}
 use Rattle.memory.specs.declared.Entry.{Entry}
 use Rattle.memory.specs.declared.Sent.{Sent}
 use Rattle.memory.specs.declared.Round.{Round}
@@ -32,25 +30,17 @@ leastQueued [] = nothingDue
 leastQueued (e ∷ es) = let rest = leastQueued es in cond (isProcessed e) rest (min (e .message .hour) rest)
 
 -- a frame of the round
-abbrev pub roundFrame : Kind → ℕ → ℕ → ℕ → Frame
-roundFrame kind hour sender receiver = record {
+abbrev pub frameInRound : Kind → ℕ → ℕ → ℕ → Frame
+frameInRound kind hour sender receiver = record {
   message = record { hour = hour; from = sender; to = receiver; kind = kind; lamp = replicate 18 0 };
   sense = Plain;
 }
 
 -- one such frame to each of some gateways
-abbrev pub frames : Kind → ℕ → ℕ → List ℕ → List Frame
-frames kind hour sender receivers = map (roundFrame kind hour sender) receivers
+abbrev pub framesInRound : Kind → ℕ → ℕ → List ℕ → List Frame
+framesInRound kind hour sender receivers = map (frameInRound kind hour sender) receivers
 
--- the gateway k, if there is one
-abbrev pub ifBelow : ℕ → ℕ → List ℕ
-ifBelow n k = cond (ltb k n) (k ∷ []) []
-
--- the gateways that the Update goes on to: 2i + 1 and 2i + 2 where below N
-unfoldable pub children : Settings → List ℕ
-children s = ifBelow (s .n) (2 * s .own + 1) ++ ifBelow (s .n) (2 * s .own + 2)
-
--- no round is open here
+-- a gateway that has not begun, or has finished its part and is ready for the next round: nothing has arrived
 abbrev pub idle : Round
 idle = record { phase = Idle; arrived = 0; note = 0 }
 
@@ -65,8 +55,8 @@ unfolding children
 finished value g =
     let s = g .settings in
     cond (eqb (s .own) 0)
-    (record { gateway = withAgreed value (withRound idle g); frames = frames Update value (s .own) (children s) })
-    (record { gateway = withRound idle g; frames = frames Lvt value (s .own) (from (s .n) (s .own)) })
+    (record { gateway = withAgreed value (withRound idle g); frames = framesInRound Update value (s .own) (children (s .n) (s .own)) })
+    (record { gateway = withRound idle g; frames = framesInRound Lvt value (s .own) (from (s .n) (s .own)) })
 
 -- with all Starts in: it notes the least hour outstanding and sends Start along to; gateway N − 1 stops as it starts
 unfoldable pub begun : Gateway → Effect
@@ -78,10 +68,10 @@ begun g =
     (finished (valueAt note g) g)
     (record {
       gateway = withRound (record { phase = Counting; arrived = 0; note = note }) g;
-      frames = frames Start 0 (s .own) (to (s .n) (s .own));
+      frames = framesInRound Start 0 (s .own) (to (s .n) (s .own));
     })
 
--- no round is open in that phase
+-- the gateway has not begun, or has finished; a round may be open elsewhere. (At gateway 0: no round is open)
 abbrev pub isIdle : Phase → Bool
 isIdle Idle = true
 isIdle Counting = false
@@ -110,11 +100,11 @@ stands bit arrived = eqb (arrived / bit % 2) 1
 abbrev pub awaited : ℕ → List ℕ → ℕ → Bool
 awaited k list arrived = leb 1 (bitOf k list) && not (stands (bitOf k list) arrived)
 
--- the round with one more Start in: with all in it begins
-unfoldable pub oneStart : List ℕ → ℕ → Gateway → Effect
+-- the round with one more Start in: with all in, whose bits are told, it begins
+unfoldable pub oneStart : ℕ → ℕ → Gateway → Effect
 unfolding begun
-oneStart heard arrived g =
-    cond (eqb arrived (allBits heard))
+oneStart all arrived g =
+    cond (eqb arrived all)
     (begun g)
     (record { gateway = withRound (record { phase = Idle; arrived = arrived; note = g .round .note }) g; frames = [] })
 
@@ -125,7 +115,7 @@ takeStart room k g =
     let heard = from (g .settings .n) (g .settings .own) in
     let arrived = g .round .arrived in
     cond (isIdle (g .round .phase) && awaited k heard arrived)
-    (settled room g (oneStart heard (arrived + bitOf k heard) g))
+    (settled room g (oneStart (allBits heard) (arrived + bitOf k heard) g))
     (refused 4 g)
 
 -- the value before an Lvt: the first one stops the note and takes the value then
@@ -134,11 +124,11 @@ valueIn Idle g = 0
 valueIn Counting g = valueAt (g .round .note) g
 valueIn Stopped g = g .round .note
 
--- the round with one more Lvt in: with all in it is finished
-unfoldable pub oneLvt : List ℕ → ℕ → ℕ → Gateway → Effect
+-- the round with one more Lvt in: with all in, whose bits are told, it is finished
+unfoldable pub oneLvt : ℕ → ℕ → ℕ → Gateway → Effect
 unfolding finished
-oneLvt told arrived value g =
-    cond (eqb arrived (allBits told))
+oneLvt all arrived value g =
+    cond (eqb arrived all)
     (finished value g)
     (record { gateway = withRound (record { phase = Stopped; arrived = arrived; note = value }) g; frames = [] })
 
@@ -149,7 +139,7 @@ takeLvt room k hour g =
     let told = to (g .settings .n) (g .settings .own) in
     let arrived = g .round .arrived in
     cond (not (isIdle (g .round .phase)) && awaited k told arrived)
-    (settled room g (oneLvt told (arrived + bitOf k told) (min (valueIn (g .round .phase) g) hour) g))
+    (settled room g (oneLvt (allBits told) (arrived + bitOf k told) (min (valueIn (g .round .phase) g) hour) g))
     (refused 4 g)
 
 -- taking an Update: 4 if not from the parent; gateway 0 has none. The larger time is kept, and the Update relayed as it came
@@ -158,5 +148,5 @@ unfolding children
 takeUpdate room k hour g =
     let s = g .settings in
     cond (leb 1 (s .own) && eqb k ((s .own - 1) / 2))
-    (settled room g (record { gateway = withAgreed (max (g .agreed) hour) g; frames = frames Update hour (s .own) (children s) }))
+    (settled room g (record { gateway = withAgreed (max (g .agreed) hour) g; frames = framesInRound Update hour (s .own) (children (s .n) (s .own)) }))
     (refused 4 g)

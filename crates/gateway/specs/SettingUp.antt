@@ -1,24 +1,23 @@
 -- Set up: the settings, then each frame of the opening list in turn, then the queue places.
 use Prim.Native.Nat.{ℕ, zero, suc, _+_}
-use mathlib.Core.Bool.{Bool, true, false, cond, _&&_, _||_}
+use mathlib.Core.Bool.{Bool, cond, _&&_, _||_}
 use mathlib.Core.List.{List, [], _∷_, _++_}
-use lib.Dec.{leb, ltb, eqb}
-use lib.ListN.{length, getD, take, drop}
+use lib.Dec.{leb, eqb}
+use lib.ListN.{length, take, drop}
 use Rattle.model.specs.Messages.{kindNumber}
-use Rattle.model.specs.declared.Message.{Message}
 use Rattle.frame.specs.Layout.{wholeLength}
 use Rattle.frame.specs.Kinds.{senseNumber}
 use Rattle.frame.specs.Reasons.{reading, formNumber}
 use Rattle.frame.specs.Limits.{refusal}
 use Rattle.frame.specs.declared.Frame.{Frame}
-use Rattle.frame.specs.declared.Reading.{Reading}
 use Rattle.memory.specs.Layout.{sizeFor}
 use Rattle.memory.specs.Records.{Gateway}
 use Rattle.memory.specs.Validity.{settingsValid}
 use Rattle.memory.specs.declared.Settings.{Settings}
 use Rattle.memory.specs.declared.Entry.{Entry}
 use Rattle.gateway.specs.Undoing.{pendingEntry}
-use Rattle.gateway.specs.Taking.{upTo, behind}
+use Rattle.lists.specs.Lists.{beforeFirst, fromFirst}
+use Rattle.gateway.specs.Taking.{isLater}
 use Rattle.gateway.specs.Rounds.{idle}
 use Rattle.gateway.specs.declared.Opening.{Opening}
 
@@ -58,7 +57,7 @@ unfoldable pub queued : List Entry → List (List ℕ) → List Entry
 queued queue [] = queue
 queued queue (f ∷ fs) =
     let m = reading f .frame .message in
-    queued (upTo m queue ++ (pendingEntry m ∷ behind m queue)) fs
+    queued (beforeFirst (isLater m) queue ++ (pendingEntry m ∷ fromFirst (isLater m) queue)) fs
 
 -- the gateway just set up: the opening stock, the other counters 0, agreed time 0, no round
 unfoldable pub opened : Opening → List (List ℕ) → Gateway

@@ -1,6 +1,7 @@
 -- Taking a plain message, a cancel or an acknowledgment.
-use mathlib.Core.Bool.{Bool, true, false, cond, not, _&&_, _||_}
+use mathlib.Core.Bool.{Bool, true, false, cond, not, _&&_}
 use mathlib.Core.List.{List, [], _∷_, _++_, map}
+use Rattle.lists.specs.Lists.{any, withoutFirst, beforeFirst, fromFirst, beforeLast, fromLast, tailOf}
 use Rattle.model.specs.declared.Message.{Message}
 use Rattle.frame.specs.declared.Frame.{Frame}
 use Rattle.frame.specs.declared.Sense.the-variants.{Acknowledgment, CancelAcknowledgment}
@@ -12,41 +13,9 @@ use Rattle.memory.specs.declared.Mark.the-variants.{Waiting}
 use Rattle.gateway.specs.Effects.{Effect, Outcome, refused, withQueue, withOutstanding, framesFor}
 use Rattle.gateway.specs.Undoing.{processedOf, pendingEntry, undone, sentBack, rolledBack}
 
--- some element passes the test
-unfoldable pub any : {A : Type 0} → (A → Bool) → List A → Bool
-any f [] = false
-any f (x ∷ xs) = f x || any f xs
-
--- the list without the first element that passes the test
-unfoldable pub withoutFirst : {A : Type 0} → (A → Bool) → List A → List A
-withoutFirst f [] = []
-withoutFirst f (x ∷ xs) = let rest = x ∷ withoutFirst f xs in cond (f x) xs rest
-
--- what stands before the last element that passes the test
-unfoldable pub beforeLast : {A : Type 0} → (A → Bool) → List A → List A
-unfolding any
-beforeLast f [] = []
-beforeLast f (x ∷ xs) = let rest = x ∷ beforeLast f xs in cond (any f xs) rest []
-
--- the last element that passes the test, with what stands behind it; nothing where none passes
-unfoldable pub fromLast : {A : Type 0} → (A → Bool) → List A → List A
-unfolding any
-fromLast f [] = []
-fromLast f (x ∷ xs) = let rest = fromLast f xs in cond (any f xs) rest (cond (f x) (x ∷ xs) [])
-
--- all but the first element
-abbrev pub tailOf : {A : Type 0} → List A → List A
-tailOf [] = []
-tailOf (x ∷ xs) = xs
-
--- where a message enters the queue, after its equals: what stands before that place, and what stands behind, which is later
-unfoldable pub upTo : Message → List Entry → List Entry
-upTo m [] = []
-upTo m (x ∷ xs) = let rest = x ∷ upTo m xs in cond (later (x .message) m) [] rest
-
-unfoldable pub behind : Message → List Entry → List Entry
-behind m [] = []
-behind m (x ∷ xs) = let rest = behind m xs in cond (later (x .message) m) (x ∷ xs) rest
+-- an entry later in event order than m: m enters the queue before the first such one, and so after its equals
+abbrev pub isLater : Message → Entry → Bool
+isLater m e = later (e .message) m
 
 -- the acknowledgment of a message, or of a cancel
 abbrev pub acknowledgment : Bool → Message → Frame
@@ -63,19 +32,23 @@ isPlain m e = not (isWaiting e) && equal (e .message) m
 -- acknowledgment first, then the cancels
 abbrev pub entered : Message → Gateway → Effect
 entered m g =
-    let rest = behind m (g .queue) in
+    let rest = fromFirst (isLater m) (g .queue) in
     let events = processedOf rest in
     record {
-      gateway = withQueue (upTo m (g .queue) ++ (pendingEntry m ∷ map undone rest)) (rolledBack events g);
+      gateway = withQueue (beforeFirst (isLater m) (g .queue) ++ (pendingEntry m ∷ map undone rest)) (rolledBack events g);
       frames = acknowledgment false m ∷ framesFor true (sentBack (siteOf (g .settings)) events);
     }
 
+-- m and an equal cancel that waits vanish, with that queue left
+abbrev pub vanished : Message → List Entry → Gateway → Effect
+vanished m queue g = record { gateway = withQueue queue g; frames = acknowledgment false m ∷ [] }
+
 -- where an equal cancel waits, both vanish; otherwise m enters the queue
 unfoldable pub takePlain : Message → Gateway → Effect
-unfolding any withoutFirst upTo behind
+unfolding any withoutFirst beforeFirst fromFirst
 takePlain m g =
     cond (any (isCancelOf m) (g .queue))
-    (record { gateway = withQueue (withoutFirst (isCancelOf m) (g .queue)) g; frames = acknowledgment false m ∷ [] })
+    (vanished m (withoutFirst (isCancelOf m) (g .queue)) g)
     (entered m g)
 
 -- a cancel that waits
@@ -85,14 +58,14 @@ waitingEntry m = record { message = m; mark = Waiting; before = noState }
 -- a cancel waits in a queue place, after its equals
 abbrev pub waits : Message → Gateway → Effect
 waits m g = record {
-  gateway = withQueue (upTo m (g .queue) ++ (waitingEntry m ∷ behind m (g .queue))) g;
+  gateway = withQueue (beforeFirst (isLater m) (g .queue) ++ (waitingEntry m ∷ fromFirst (isLater m) (g .queue))) g;
   frames = acknowledgment true m ∷ [];
 }
 
 -- the last equal queued plain message goes; if it was processed, it and the processed ones after it are undone first (if it
 -- was not, none stands behind it in a sound queue). With no equal one the cancel waits
 unfoldable pub takeCancel : Message → Gateway → Effect
-unfolding any beforeLast fromLast upTo behind
+unfolding any beforeLast fromLast beforeFirst fromFirst
 takeCancel m g =
     let found = fromLast (isPlain m) (g .queue) in
     let events = processedOf found in

@@ -1,7 +1,7 @@
 -- Undoing processed events: the state is restored, and for each message that an event had sent a cancel is sent, latest
 -- event first. (Document 01 calls this taking back; the field calls it rollback.)
-use mathlib.Core.Bool.{Bool, true, false, cond, _&&_}
-use mathlib.Core.List.{List, [], _∷_, _++_, map}
+use mathlib.Core.Bool.{true, cond}
+use mathlib.Core.List.{List, [], _∷_, _++_}
 use Rattle.model.specs.Doing.{sent}
 use Rattle.model.specs.declared.Message.{Message}
 use Rattle.model.specs.declared.State.{State}

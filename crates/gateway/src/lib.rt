@@ -1,15 +1,4 @@
-// The gateway's calls.
-pub mod acknowledgment; // acknowledgment.rt: taking an acknowledgment
-pub mod agreed; // agreed.rt: reading the agreed time
-pub mod announce; // announce.rt: telling other gateways of the round
-pub mod changes; // changes.rt: changes of the memory
-pub mod commit; // commit.rt: commit
-pub mod least; // least.rt: the least hours in the memory
-pub mod places; // places.rt: the places of the memory
-pub mod round; // round.rt: whom a gateway hears and tells
-pub mod round_steps; // round_steps.rt: the steps of a round
-pub mod start; // start.rt: the start call
-
+// The gateway's calls: what they are told and answer. Their code stands in the crates above.
 ghost use mathlib.Core.Path.{_≡_};
 
 // What taking a frame, the start call and commit answer: document 01's number, 0 where the call is accepted, and how many

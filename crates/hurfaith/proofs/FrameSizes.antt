@@ -6,8 +6,8 @@ use Prim.Native.Nat.{ℕ, _+_, _*_, _≤_}
 use native.Mathlib.Omega.{arith}
 use lib.Dec.{leb}
 use lib.ListN.{length, length-append}
-use Rattle.routing.specs.Arcs.{_∈_}
 use mathlib.Core.List.{List·Memᴰ·head as here, List·Memᴰ·tail as there}
+use Rattle.lists.specs.Lists.{_∈_, joined}
 use Rattle.model.specs.Messages.{kindNumber}
 use Rattle.model.specs.declared.Message.{Message}
 use Rattle.model.specs.declared.Kind.{Kind}
@@ -18,9 +18,9 @@ use Rattle.frame.specs.declared.Frame.{Frame}
 use Rattle.frame.proofs.Output.{whole-size}
 use Rattle.memory.specs.Validity.{frameIf}
 use Rattle.gateway.specs.Effects.{bytesOfFrames, framesFor}
-use Rattle.gateway.specs.Rounds.{roundFrame, frames}
-use Rattle.gateway.proofs.Announcing.{kind-small}
-use Rattle.take.proofs.SentMessages.{sense-small}
+use Rattle.gateway.specs.Rounds.{frameInRound, framesInRound}
+use Rattle.frame.proofs.Sizes.{kind-small}
+use Rattle.frame.proofs.Sizes.{sense-small}
 
 with-sense : (b : Bool) (kind : Kind) → wholeLength (cond b (mapOfKind (kindNumber kind) + 128) (mapOfKind (kindNumber kind))) ≤ 28
 with-sense true kind = sense-small kind
@@ -31,16 +31,17 @@ unfolding mapOf
 frame-small f lamp = rw (whole-size f lamp) (with-sense (leb 1 (senseNumber (f .sense))) (f .message .kind))
 
 -- the frames of some messages or cancels
-pub messages-small : (cancel : Bool) (ms : List Message) → ((m : Message) → m ∈ ms → length (m .lamp) ≡ 18) → length (bytesOfFrames (framesFor cancel ms)) ≤ 28 * length ms
-unfolding bytesOfFrames
+pub messages-small : (cancel : Bool) (ms : List Message) → ((m : Message) → m ∈ ms → length (m .lamp) ≡ 18) → length (bytesOfFrames
+    (framesFor cancel ms)) ≤ 28 * length ms
+unfolding joined
 messages-small cancel [] h = omega arith
 messages-small cancel (m ∷ ms) h =
     rw length-append
     (omega (arith, frame-small (frameIf cancel m) (h m (here refl)), messages-small cancel ms (λ x n. h x (there n))))
 
 -- the frames of a round
-pub round-small : (kind : Kind) (hour own : ℕ) (receivers : List ℕ) → length (bytesOfFrames (frames kind hour own receivers)) ≤ 28 * length receivers
-unfolding bytesOfFrames
+pub round-small : (kind : Kind) (hour own : ℕ) (receivers : List ℕ) → length (bytesOfFrames (framesInRound kind hour own receivers)) ≤ 28 * length receivers
+unfolding joined
 round-small kind hour own [] = omega arith
 round-small kind hour own (to ∷ receivers) =
-    rw length-append (omega (arith, frame-small (roundFrame kind hour own to) refl, round-small kind hour own receivers))
+    rw length-append (omega (arith, frame-small (frameInRound kind hour own to) refl, round-small kind hour own receivers))

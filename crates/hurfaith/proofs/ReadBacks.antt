@@ -10,13 +10,12 @@ use Rattle.buffer.specs.Slice.{Bytes, write}
 use Rattle.memory.specs.Records.{Gateway}
 use Rattle.memory.specs.Codec.{decode, encode}
 use Rattle.memory.specs.Soundness.{sound}
+use Rattle.gateway.proofs.Calling.{by-work}
 use Rattle.gateway.specs.Effects.{Outcome}
-use Rattle.gateway.specs.Working.{Progress, worked}
 use Rattle.gateway.specs.Rounds.{start}
 use Rattle.gateway.specs.Committing.{commit}
-use Rattle.gateway.specs.Calls.{Left, nothing, refusedWith, leaving, onSound, takeBytes, taken, started, committed, workedOff}
+use Rattle.gateway.specs.Calls.{CallResult, refusedWith, leaving, onSound, takeBytes, taken, started, committed, workedOff}
 use Rattle.gateway.specs.declared.Answer.{Answer}
-use Rattle.gateway.specs.declared.Worked.{Worked}
 use Rattle.gateway.proofs.Maintaining.{Proper}
 use Rattle.gateway.proofs.Keeps.{start-keeps, commit-keeps, bytes-keep, work-keeps}
 use Rattle.hurfaith.specs.Exported.{AnswersReadBack}
@@ -29,7 +28,7 @@ module _ (memory output : List ℕ) (bytes : Bytes memory) where
   unfolding leaving
   left-number r h = by (eqb (r .number) 0)
     where
-      left : Bool → Left Answer
+      left : Bool → CallResult Answer
       left b =
           cond b
           (record { answer = record { number = 0; written = length (r .output) }; memory = encode (r .gateway) memory; output = write 0 (r .output) output })
@@ -39,11 +38,13 @@ module _ (memory output : List ℕ) (bytes : Bytes memory) where
       by true = omega arith
       by false = omega (arith, h)
 
-  call-number : (call : ℕ → Gateway → Outcome) → (Proper (decode memory) → call (length output) (decode memory) .number < 10) → onSound call memory output .answer .number < 256
+  call-number : (call : ℕ → Gateway → Outcome) → (Proper (decode memory) → call (length output) (decode memory) .number < 10) → onSound call
+      memory output .answer .number < 256
   unfolding onSound
   call-number call h = by (sound memory) refl
     where
-      by : (b : Bool) → sound memory ≡ b → cond b (leaving (call (length output) (decode memory)) memory output) (refusedWith 10 memory output) .answer .number < 256
+      by : (b : Bool) → sound memory ≡ b → cond b (leaving (call (length output) (decode memory)) memory output) (refusedWith 10 memory
+          output) .answer .number < 256
       by true e = left-number (call (length output) (decode memory)) (h (held memory output bytes e))
       by false e = omega arith
 
@@ -60,30 +61,17 @@ module _ (memory output : List ℕ) (bytes : Bytes memory) where
   taken-number frame read = call-number (takeBytes frame) (λ p. bytes-keep p frame read (length output) .number)
 
   worked-number : (b : ℕ) → workedOff b memory output .answer .why < 256
-  unfolding workedOff
-  worked-number b = by (sound memory) refl
-    where
-      p : Progress
-      p = worked b (length output) (decode memory)
-
-      left : Bool → Left Worked
-      left t =
-          cond t
-          (record {
-            answer = record { count = p .count; why = p .why; written = length (p .output) };
-            memory = encode (p .gateway) memory;
-            output = write 0 (p .output) output;
-          })
-          (nothing (record { count = 0; why = 10; written = 0 }) memory output)
-
-      by : (t : Bool) → sound memory ≡ t → left t .answer .why < 256
-      by true e = omega (arith, work-keeps b (length output) (held memory output bytes e) .why)
-      by false e = omega arith
+  worked-number b =
+      by-work b memory output (λ a. a .why < 256) (λ e. omega (arith, work-keeps b (length output) (held memory output bytes e) .why)) (omega arith)
 
 pub answers-read-back : AnswersReadBack
 answers-read-back =
     record {
-      ofTaking = λ memory frame output bytes read. read-back _ _ 0 (taken-number memory output bytes frame read) (omega (arith, taken-small memory frame output bytes read));
+      ofTaking = λ memory frame output bytes read. read-back _ _ 0 (taken-number memory output bytes frame read) (omega (
+        arith,
+        taken-small
+            memory frame output bytes read,
+      ));
       ofStarting = λ memory output bytes. read-back _ _ 0 (started-number memory output bytes) (omega (arith, started-small memory output bytes));
       ofCommitting = λ memory output bytes. read-back _ _ 0 (committed-number memory output bytes) (omega (arith, committed-small memory output bytes));
       ofWorking = λ b memory output bytes. read-back _ _ _ (worked-number memory output bytes b) (omega (arith, worked-small memory output bytes b));

@@ -11,8 +11,8 @@ use Rattle.routing.specs.Arcs.{from, to}
 use Rattle.routing.specs.Answers.{gateways, inRange, noNeighbours, neighboursOf}
 use Rattle.routing.specs.declared.Gateways.{Gateways}
 use Rattle.routing.specs.declared.Neighbours.{Neighbours}
-use Rattle.memory.proofs.Validated.{and-left, and-right}
-use Rattle.gateway.proofs.Neighbours.{from-few, to-few}
+use Rattle.lists.proofs.BoolLaws.{and-left, and-right}
+use Rattle.routing.proofs.FewArcs.{from-few, to-few}
 use Rattle.hurfaith.specs.Exported.{numberAt, routed}
 
 -- one of at most two
@@ -77,7 +77,8 @@ module _ (N own : ℕ) (l : List ℕ) {r : Neighbours} (e : r ≡ neighboursOf N
   unfolding routed
   route-no-room h k = rw (← e, eq-eqb (r .answer) 0 h, lt-leb 4 (length l) k)
 
-  pub route-found : r .answer ≡ 0 → 4 ≤ length l → {a b c d : ℕ} {after : List ℕ} → a ≡ numberAt (r .from) 0 → b ≡ numberAt (r .from) 1 → c ≡ numberAt (r .to) 0 → d ≡ numberAt (r .to) 1
+  pub route-found : r .answer ≡ 0 → 4 ≤ length l → {a b c d : ℕ} {after : List ℕ} → a ≡ numberAt (r .from) 0 → b ≡ numberAt (r .from) 1 → c
+      ≡ numberAt (r .to) 0 → d ≡ numberAt (r .to) 1
       → after ≡ a ∷ b ∷ c ∷ d ∷ drop 4 l → record { answer = 0; neighbours = after } ≡ routed N own l
   unfolding routed
   route-found h k p q s t f = rw (← e, eq-eqb (r .answer) 0 h, le-leb 4 (length l) k, ← p, ← q, ← s, ← t, f)

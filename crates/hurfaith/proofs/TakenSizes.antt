@@ -8,7 +8,9 @@ use native.Mathlib.Omega.{arith}
 use lib.Dec.{leb, ltb, eqb}
 use lib.ListN.{length, length-append}
 use borrow.Author.Tests.{eqb-true}
-use Rattle.routing.specs.Arcs.{_∈_, from, to}
+use Rattle.lists.specs.Lists.{_∈_, any, fromLast, joined}
+use Rattle.lists.proofs.SearchLaws.{cut-first}
+use Rattle.routing.specs.Arcs.{from, to, children}
 use Rattle.buffer.specs.Slice.{Bytes}
 use Rattle.model.specs.Messages.{kindNumber}
 use Rattle.model.specs.Doing.{sent}
@@ -24,19 +26,21 @@ use Rattle.frame.specs.declared.Sense.the-variants.{Plain, Cancel, Acknowledgme
 use Rattle.memory.specs.Records.{Gateway, siteOf}
 use Rattle.memory.specs.declared.Entry.{Entry}
 use Rattle.memory.specs.declared.Settings.{Settings}
-use Rattle.memory.proofs.Validated.{and-left, valid-facts}
+use Rattle.memory.proofs.Validated.{valid-facts}
+use Rattle.lists.proofs.BoolLaws.{and-left}
 use Rattle.gateway.specs.Effects.{Effect, Outcome, bytesOfFrames, fits, settled, refused, framesFor, withState}
 use Rattle.gateway.specs.Undoing.{processedOf, restored, sentBack, rolledBack}
-use Rattle.gateway.specs.Taking.{any, fromLast, behind, upTo, isCancelOf, isPlain, isSent, acknowledgment, takePlain, takeCancel, takeAcknowledgment}
-use Rattle.gateway.specs.Rounds.{children, isIdle, bitOf, allBits, awaited, valueIn, oneStart, takeStart, oneLvt, takeLvt, frames, takeUpdate}
+use Rattle.lists.specs.Lists.{beforeFirst, fromFirst}
+use Rattle.gateway.specs.Taking.{isLater, isCancelOf, isPlain, isSent, acknowledgment, takePlain, takeCancel, takeAcknowledgment}
+use Rattle.gateway.specs.Rounds.{isIdle, bitOf, allBits, awaited, valueIn, oneStart, takeStart, oneLvt, takeLvt, takeUpdate}
 use Rattle.gateway.specs.Calls.{unlessBelow, takeByKind, takeBySense, takeFrame, takeBytes, taken}
-use Rattle.gateway.proofs.Searches.{cut-again, processed-member}
+use Rattle.gateway.proofs.Searches.{processed-member}
 use Rattle.gateway.proofs.Queues.{found-member}
 use Rattle.gateway.proofs.Replies.{Good, sent-good}
 use Rattle.gateway.proofs.Accepting.{form-good, Accepted, not-refused, accepted-good, cancel-kind}
 use Rattle.gateway.proofs.Maintaining.{Proper, Standing, standing, fitting}
 use Rattle.gateway.proofs.Takings.{queue-of, plain-stands, cancel-stands}
-use Rattle.take.proofs.RollbackLaws.{sent-outstanding}
+use Rattle.rollback.proofs.RollbackLaws.{sent-outstanding}
 use Rattle.hurfaith.proofs.FrameSizes.{frame-small, messages-small, round-small}
 use Rattle.hurfaith.proofs.WrittenSizes.{either-small, either-frames, settled-small, few-children, finished-small, begun-small, call-small}
 
@@ -52,18 +56,19 @@ module _ {g : Gateway} (p : Proper g) where
       let entry = standing p .entries e (h e (here refl)) in
       ⊎-elim
       (back-lamps es (λ f o. h f (there o)) m)
-      (λ o. sent-good s (standing p .settings) (e .message) (record { storable = entry .valid .message; ranged = entry .ranged .message }) true (e .before) m o .ranged .lamp)
+      (λ o. sent-good s (standing p .settings) (e .message) (record { storable = entry .valid .message; ranged = entry .ranged .message })
+      true (e .before) m o .ranged .lamp)
       (List·Memᴰ·append-cases (sentBack (siteOf s) es) n)
 
   -- an acknowledgment, and the cancels of some events
   module _ (cancel : Bool) (m : Message) (lamp : length (m .lamp) ≡ 18) where
     alone-small : (places : ℕ) → length (bytesOfFrames (acknowledgment cancel m ∷ [])) ≤ 28 + 28 * places
-    unfolding bytesOfFrames
+    unfolding joined
     alone-small places = rw length-append (omega (arith, frame-small (acknowledgment cancel m) lamp))
 
     undone-small : (events : List Entry) → ((e : Entry) → e ∈ events → e ∈ g .queue)
         → length (bytesOfFrames (acknowledgment cancel m ∷ framesFor true (sentBack (siteOf s) events))) ≤ 28 + 28 * length (rolledBack events g .outstanding)
-    unfolding bytesOfFrames rolledBack
+    unfolding joined rolledBack
     undone-small events h =
         let ms = sentBack (siteOf s) events in
         rw (length-append, sent-outstanding true ms (withState (restored (g .state) events) g))
@@ -88,7 +93,8 @@ module _ {g : Gateway} (p : Proper g) where
   unfolding settled
   placed-small room e k h = by (fits room e) refl
     where
-      by : (b : Bool) → fits room e ≡ b → length (cond b (record { number = 0; gateway = e .gateway; output = bytesOfFrames (e .frames) }) (refused 5 g) .output) ≤ 14364
+      by : (b : Bool) → fits room e ≡ b → length (cond b (record { number = 0; gateway = e .gateway; output = bytesOfFrames (e .frames) })
+          (refused 5 g) .output) ≤ 14364
       by true q =
           let v = valid-facts (e .gateway) (fitting room e k q .proper .valid) in
           omega (arith, h, v .sent, v .settings .u)
@@ -97,8 +103,9 @@ module _ {g : Gateway} (p : Proper g) where
   plain-small : (room : ℕ) (m : Message) → Good s false m → m .to ≡ s .own → length (settled room g (takePlain m g) .output) ≤ 14364
   unfolding takePlain
   plain-small room m good to-here =
-      let rest = behind m (g .queue) in
-      let among : (e : Entry) → e ∈ rest → e ∈ g .queue = λ e n. rw (cut-again m (g .queue)) at (Memᴰ·append-right (upTo m (g .queue)) n) in
+      let rest = fromFirst (isLater m) (g .queue) in
+      let among : (e : Entry) → e ∈ rest → e ∈ g .queue = λ e n. rw (cut-first (isLater m) (g .queue)) at (Memᴰ·append-right (beforeFirst
+      (isLater m) (g .queue)) n) in
       placed-small room (takePlain m g) (plain-stands p m good to-here)
       (by-places (any (isCancelOf m) (g .queue)) _ _
       (alone-small false m (good .ranged .lamp) _)
@@ -110,7 +117,8 @@ module _ {g : Gateway} (p : Proper g) where
       let found = fromLast (isPlain m) (g .queue) in
       placed-small room (takeCancel m g) (cancel-stands p m good to-here)
       (by-places-found (any (isPlain m) (g .queue)) _ _
-      (λ e. undone-small true m (good .ranged .lamp) (processedOf found) (λ x n. found-member m (g .queue) (queue-of (standing p)) e x (processed-member found x n)))
+      (λ e. undone-small true m (good .ranged .lamp) (processedOf found) (λ x n. found-member m (g .queue) (queue-of (standing p)) e x
+      (processed-member found x n)))
       (alone-small true m (good .ranged .lamp) _))
 
   acknowledgment-small : (cancel : Bool) (m : Message) → length (takeAcknowledgment cancel m g .output) ≤ 14364
@@ -118,21 +126,21 @@ module _ {g : Gateway} (p : Proper g) where
   acknowledgment-small cancel m = either-small (any (isSent cancel m) (g .outstanding)) _ _ (omega arith) (omega arith)
 
   take-start-small : (room sender : ℕ) → length (takeStart room sender g .output) ≤ 14364
-  unfolding takeStart oneStart bytesOfFrames
+  unfolding takeStart oneStart joined
   take-start-small room sender =
       let heard = from (s .n) (s .own) in
       either-small (isIdle (g .round .phase) && awaited sender heard (g .round .arrived)) _ _
-      (settled-small room g (oneStart heard (g .round .arrived + bitOf sender heard) g)
+      (settled-small room g (oneStart (allBits heard) (g .round .arrived + bitOf sender heard) g)
       (either-frames (eqb (g .round .arrived + bitOf sender heard) (allBits heard)) _ _ (omega (arith, begun-small p)) (omega arith)))
       (omega arith)
 
   take-lvt-small : (room sender hour : ℕ) → length (takeLvt room sender hour g .output) ≤ 14364
-  unfolding takeLvt oneLvt bytesOfFrames
+  unfolding takeLvt oneLvt joined
   take-lvt-small room sender hour =
       let told = to (s .n) (s .own) in
       let value = min (valueIn (g .round .phase) g) hour in
       either-small (not (isIdle (g .round .phase)) && awaited sender told (g .round .arrived)) _ _
-      (settled-small room g (oneLvt told (g .round .arrived + bitOf sender told) value g)
+      (settled-small room g (oneLvt (allBits told) (g .round .arrived + bitOf sender told) value g)
       (either-frames (eqb (g .round .arrived + bitOf sender told) (allBits told)) _ _ (omega (arith, finished-small p value)) (omega arith)))
       (omega arith)
 
@@ -140,7 +148,7 @@ module _ {g : Gateway} (p : Proper g) where
   unfolding takeUpdate
   take-update-small room sender hour =
       either-small (leb 1 (s .own) && eqb sender ((s .own - 1) / 2)) _ _
-      (settled-small room g _ (omega (arith, round-small Update hour (s .own) (children s), few-children p)))
+      (settled-small room g _ (omega (arith, round-small Update hour (s .own) (children (s .n) (s .own)), few-children p)))
       (omega arith)
 
   below-small : (hour : ℕ) (r : Outcome) → length (r .output) ≤ 14364 → length (unlessBelow hour g r .output) ≤ 14364
@@ -153,7 +161,8 @@ module _ {g : Gateway} (p : Proper g) where
       in-sense : {sense : Sense} → f .sense ≡ sense → Accepted s (record { message = f .message; sense = sense })
       in-sense e = subst (λ (t : Sense). Accepted s (record { message = f .message; sense = t })) e a
 
-      plain : f .sense ≡ Plain → kindNumber (f .message .kind) ≤ 3 → length (unlessBelow (f .message .hour) g (settled room g (takePlain (f .message) g)) .output) ≤ 14364
+      plain : f .sense ≡ Plain → kindNumber (f .message .kind) ≤ 3 → length (unlessBelow (f .message .hour) g (settled room g (takePlain
+          (f .message) g)) .output) ≤ 14364
       plain e k =
           let t = accepted-good s false (f .message) k (in-sense e) in
           below-small (f .message .hour) _ (plain-small room (f .message) (t .good) (t .here))

@@ -6,7 +6,8 @@ use Prim.Native.Nat.{ℕ, zero, suc, _+_, _*_, _-_, _≤_}
 use native.Mathlib.Omega.{arith}
 use lib.Dec.{leb, ltb, eqb}
 use lib.ListN.{length, length-append}
-use Rattle.routing.specs.Arcs.{_∈_, from, to}
+use Rattle.lists.specs.Lists.{_∈_, joined}
+use Rattle.routing.specs.Arcs.{from, to, children, ifBelow}
 use Rattle.buffer.specs.Slice.{Bytes, write}
 use Rattle.model.specs.Doing.{after, sent}
 use Rattle.model.specs.declared.Message.{Message}
@@ -19,22 +20,22 @@ use Rattle.memory.specs.declared.Settings.{Settings}
 use Rattle.memory.proofs.SoundMemory.{codec-laws}
 use Rattle.memory.proofs.Validated.{valid-facts}
 use Rattle.model.specs.declared.Kind.the-variants.{Start, Lvt, Update}
+use Rattle.gateway.proofs.Calling.{by-work}
 use Rattle.gateway.specs.Effects.{Effect, Outcome, bytesOfFrames, fits, settled, withState, withQueue}
-use Rattle.gateway.specs.Rounds.{children, ifBelow, finished, valueAt, leastOutstanding, begun, isIdle, start}
+use Rattle.gateway.specs.Rounds.{finished, valueAt, leastOutstanding, begun, isIdle, start}
 use Rattle.gateway.specs.Undoing.{processedOf}
-use Rattle.gateway.specs.Committing.{recordOf, commitOldest, commit}
+use Rattle.gateway.specs.Committing.{recordFor, recordOf, commitOldest, commit}
 use Rattle.gateway.specs.Working.{pendingOf, processedNext, done, Progress, stopped, onceMore, workedBy, worked}
-use Rattle.gateway.specs.Calls.{Left, nothing, refusedWith, leaving, onSound, started, committed, workedOff}
+use Rattle.gateway.specs.Calls.{CallResult, refusedWith, leaving, onSound, started, committed, workedOff}
 use Rattle.gateway.specs.declared.Answer.{Answer}
-use Rattle.gateway.specs.declared.Worked.{Worked}
 use Rattle.gateway.proofs.Searches.{pending-member, processed-member}
 use Rattle.gateway.proofs.Replies.{Good, sent-good}
-use Rattle.gateway.proofs.Neighbours.{from-few, to-few}
+use Rattle.routing.proofs.FewArcs.{from-few, to-few}
 use Rattle.gateway.proofs.Maintaining.{Proper, standing, fitting}
 use Rattle.gateway.proofs.Takings.{done-stands}
 use Rattle.gateway.proofs.Keeps.{work-keeps}
 use Rattle.memory.proofs.Stored.{length-state}
-use Rattle.take.proofs.RollbackLaws.{sent-outstanding}
+use Rattle.rollback.proofs.RollbackLaws.{sent-outstanding}
 use Rattle.hurfaith.proofs.FrameSizes.{frame-small, messages-small, round-small}
 
 -- either of two outcomes, or of two effects
@@ -56,7 +57,7 @@ module _ {g : Gateway} (p : Proper g) where
   abbrev s : Settings
   s = g .settings
 
-  pub few-children : length (children s) ≤ 2
+  pub few-children : length (children (s .n) (s .own)) ≤ 2
   unfolding children
   few-children = rw length-append (omega (arith, few (s .n) (2 * s .own + 1), few (s .n) (2 * s .own + 2)))
     where
@@ -68,14 +69,14 @@ module _ {g : Gateway} (p : Proper g) where
       few n k = one (ltb k n) k
 
   pub finished-small : (value : ℕ) → length (bytesOfFrames (finished value g .frames)) ≤ 56
-  unfolding finished bytesOfFrames
+  unfolding finished joined
   finished-small value =
       either-frames (eqb (s .own) 0) _ _
-      (omega (arith, round-small Update value (s .own) (children s), few-children))
+      (omega (arith, round-small Update value (s .own) (children (s .n) (s .own)), few-children))
       (omega (arith, round-small Lvt value (s .own) (from (s .n) (s .own)), from-few (s .n) (s .own) (standing p .settings .own) .two))
 
   pub begun-small : length (bytesOfFrames (begun g .frames)) ≤ 56
-  unfolding begun bytesOfFrames
+  unfolding begun joined
   begun-small =
       either-frames (eqb (s .own + 1) (s .n)) _ _
       (finished-small (valueAt (leastOutstanding (g .outstanding)) g))
@@ -87,7 +88,7 @@ module _ {g : Gateway} (p : Proper g) where
 
   -- an event's record
   commit-small : (room : ℕ) → length (commit room g .output) ≤ 42
-  unfolding commit recordOf
+  unfolding commit recordFor
   commit-small room = oldest (processedOf (g .queue)) (λ e n. processed-member (g .queue) e n)
     where
       one : (e : Entry) → length (e .message .lamp) ≡ 18 → length (recordOf e) ≤ 42
@@ -101,7 +102,8 @@ module _ {g : Gateway} (p : Proper g) where
           (omega arith)
 
 -- work puts out no more than twenty-eight bytes for each outstanding place that it takes
-work-places : (b room : ℕ) {g : Gateway} → Proper g → length (worked b room g .output) + 28 * length (g .outstanding) ≤ 28 * length (worked b room g .gateway .outstanding)
+work-places : (b room : ℕ) {g : Gateway} → Proper g → length (worked b room g .output) + 28 * length (g .outstanding) ≤ 28 * length (worked
+    b room g .gateway .outstanding)
 unfolding worked done
 work-places zero room p = omega arith
 work-places (suc b) room {g} p = next (pendingOf (g .queue)) refl (λ room′ h q. work-places b room′ q)
@@ -110,7 +112,8 @@ work-places (suc b) room {g} p = next (pendingOf (g .queue)) refl (λ room′ h 
     Places r = length (r .output) + 28 * length (g .outstanding) ≤ 28 * length (r .gateway .outstanding)
 
     Again : Type 0
-    Again = (room′ : ℕ) (h : Gateway) → Proper h → length (worked b room′ h .output) + 28 * length (h .outstanding) ≤ 28 * length (worked b room′ h .gateway .outstanding)
+    Again = (room′ : ℕ) (h : Gateway) → Proper h → length (worked b room′ h .output) + 28 * length (h .outstanding) ≤ 28 * length (worked b
+        room′ h .gateway .outstanding)
 
     rest : Message → Progress
     rest m = onceMore (bytesOfFrames (done m g .frames)) (worked b (room - length (bytesOfFrames (done m g .frames))) (done m g .gateway))
@@ -132,7 +135,8 @@ work-places (suc b) room {g} p = next (pendingOf (g .queue)) refl (λ room′ h 
         rw length-append (omega (arith, then, event m good))
     one m good false e again = omega arith
 
-    next : (ms : List Message) → pendingOf (g .queue) ≡ ms → Again → Places (workedBy ms (stopped 6 g) (λ m. cond (fits room (done m g)) (rest m) (stopped 5 g)))
+    next : (ms : List Message) → pendingOf (g .queue) ≡ ms → Again → Places (workedBy ms (stopped 6 g) (λ m. cond (fits room (done m g))
+        (rest m) (stopped 5 g)))
     next [] e again = omega arith
     next (m ∷ ms) e again =
         let r = pending-member (g .queue) m (rw e (here refl)) in
@@ -149,7 +153,7 @@ module _ (memory output : List ℕ) (bytes : Bytes memory) where
   unfolding leaving
   left-small r {most} h = by (eqb (r .number) 0)
     where
-      left : Bool → Left Answer
+      left : Bool → CallResult Answer
       left b =
           cond b
           (record { answer = record { number = 0; written = length (r .output) }; memory = encode (r .gateway) memory; output = write 0 (r .output) output })
@@ -164,7 +168,8 @@ module _ (memory output : List ℕ) (bytes : Bytes memory) where
   unfolding onSound
   call-small call {most} h = by (sound memory) refl
     where
-      by : (b : Bool) → sound memory ≡ b → cond b (leaving (call (length output) (decode memory)) memory output) (refusedWith 10 memory output) .answer .written ≤ most
+      by : (b : Bool) → sound memory ≡ b → cond b (leaving (call (length output) (decode memory)) memory output) (refusedWith 10 memory
+          output) .answer .written ≤ most
       by true e = left-small (call (length output) (decode memory)) (h (held e))
       by false e = omega arith
 
@@ -178,25 +183,10 @@ module _ (memory output : List ℕ) (bytes : Bytes memory) where
 
   -- 28 × 512
   pub worked-small : (b : ℕ) → workedOff b memory output .answer .written ≤ 14336
-  unfolding workedOff
-  worked-small b = by (sound memory) refl
-    where
-      p : Progress
-      p = worked b (length output) (decode memory)
-
-      left : Bool → Left Worked
-      left t =
-          cond t
-          (record {
-            answer = record { count = p .count; why = p .why; written = length (p .output) };
-            memory = encode (p .gateway) memory;
-            output = write 0 (p .output) output;
-          })
-          (nothing (record { count = 0; why = 10; written = 0 }) memory output)
-
-      by : (t : Bool) → sound memory ≡ t → left t .answer .written ≤ 14336
-      by true e =
-          let w = work-keeps b (length output) (held e) in
-          let v = valid-facts (p .gateway) (w .gateway .proper .valid) in
-          omega (arith, work-places b (length output) (held e), v .sent, v .settings .u)
-      by false e = omega arith
+  worked-small b =
+      by-work b memory output (λ a. a .written ≤ 14336)
+      (λ e.
+      let w = work-keeps b (length output) (held e) in
+      let v = valid-facts (worked b (length output) (decode memory) .gateway) (w .gateway .proper .valid) in
+      omega (arith, work-places b (length output) (held e), v .sent, v .settings .u))
+      (omega arith)

@@ -8,10 +8,11 @@ use lib.ListN.{length, getD, drop}
 use Rattle.routing.specs.Answers.{neighboursOf}
 use Rattle.routing.specs.declared.Gateways.{Gateways}
 use Rattle.buffer.specs.Slice.{Bytes}
-use Rattle.gateway.specs.Calls.{Left, taken, started, committed, workedOff}
+use Rattle.gateway.specs.Calls.{CallResult, taken, started, committed, workedOff}
 use Rattle.gateway.specs.declared.Answer.{Answer}
 use Rattle.gateway.specs.declared.Worked.{Worked}
 use Rattle.gateway.specs.declared.AgreedTime.{AgreedTime}
+use Rattle.gateway.specs.declared.Opening.{Opening}
 
 -- a number below 256, the bytes written, below 16,777,216, and a count below 4,294,967,296 in one number of 64 bits
 unfoldable pub packed : ℕ → ℕ → ℕ → ℕ
@@ -24,15 +25,19 @@ pub record ReadBack (n w c : ℕ) : Type 0 where
   pub count : packed n w c / 4294967296 ≡ c
 
 -- what taking a frame, the start call and commit leave, with the answer packed: the count is 0
-abbrev pub packedAnswer : Left Answer → Left ℕ
+abbrev pub packedAnswer : CallResult Answer → CallResult ℕ
 packedAnswer l = record { answer = packed (l .answer .number) (l .answer .written) 0; memory = l .memory; output = l .output }
 
 -- what work leaves, with the answer packed: why it stopped, the bytes written and the events done
-abbrev pub packedWork : Left Worked → Left ℕ
+abbrev pub packedWork : CallResult Worked → CallResult ℕ
 packedWork l = record { answer = packed (l .answer .why) (l .answer .written) (l .answer .count); memory = l .memory; output = l .output }
 
+-- the settings of set up
+abbrev pub settingsGiven : (n own supplier stock last q u : ℕ) → Opening
+settingsGiven n own supplier stock last q u = record { n = n; own = own; supplier = supplier; stock = stock; last = last; q = q; u = u }
+
 -- what set up leaves, with the answer's number alone: it writes no output
-abbrev pub numberAlone : Left Answer → Left ℕ
+abbrev pub numberAlone : CallResult Answer → CallResult ℕ
 numberAlone l = record { answer = l .answer .number; memory = l .memory; output = l .output }
 
 -- the agreed time's number and hour
@@ -44,13 +49,13 @@ abbrev pub numberAt : Gateways → ℕ → ℕ
 numberAt g i = cond (ltb i (g .count)) (getD (g .number) i 0) 65535
 
 -- what the call of routing leaves: its number, and the array
-pub record Routed : Type 0 where
+pub record RouteResult : Type 0 where
   pub answer : ℕ
   pub neighbours : List ℕ
 
 -- the two that a gateway hears from and the two that it tells at the array's front; 8 for a number outside its range, then 5 for
 -- an array of less than four
-unfoldable pub routed : ℕ → ℕ → List ℕ → Routed
+unfoldable pub routed : ℕ → ℕ → List ℕ → RouteResult
 unfolding neighboursOf
 routed N own neighbours =
     let r = neighboursOf N own in

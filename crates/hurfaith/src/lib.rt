@@ -1,21 +1,21 @@
 // The calls for programs in C and other languages. Each promises what the call below it promises; an answer of several numbers
 // comes packed into one. include/hurfaith.h is their C side.
+use commit::commit;
 use gateway::Opening;
-use gateway::agreed::agreed_time;
-use gateway::commit::commit;
-use gateway::start::start;
 use opening::set_up::set_up;
+use round::agreed::agreed_time;
+use round::start::start;
 use routing::Gateways;
 use routing::neighbours_of;
-use take::take::take;
+use take::take;
 use work::work;
 ghost use mathlib.Core.Path.{_≡_};
 ghost use mathlib.Core.List.{[], _∷_};
 ghost use Prim.Native.Nat.{_<_, _≤_};
 ghost use lib.ListN.{getD, length, drop};
-ghost use Rattle.gateway.specs.Calls.{setUp, workedOff, taken, started, committed, agreedTime};
+ghost use Rattle.gateway.specs.Calls.{left, workedOff, started, committed, agreedTime, taken, setUp};
 ghost use Rattle.hurfaith.specs.Exported as Exported;
-ghost use Rattle.hurfaith.specs.Exported.{packedAnswer, packedWork, numberAlone, packedTime, numberAt, routed};
+ghost use Rattle.hurfaith.specs.Exported.{packedAnswer, packedWork, packedTime, numberAt, routed, numberAlone, settingsGiven};
 
 // The neighbours of a gateway: the two that it hears from and the two that it tells, 65,535 where there is none.
 #[no_mangle]
@@ -76,7 +76,10 @@ pub extern "C" fn hurfaith_set_up(
     queue_places: u32,
     outstanding_places: u32,
 ) -> u32
-    ensures { λ r. ⌜ record { answer = r; memory = now (memory .exit); output = [] } ≡ numberAlone (setUp (record { n = gateways; own = own; supplier = supplier; stock = stock; last = «last_hour»; q = «queue_places»; u = «outstanding_places» }) (now (list .entry)) (now (memory .entry))) ⌝ }
+    ensures { λ r. ⌜ left r (now (memory .exit)) []
+        ≡ numberAlone (setUp
+        (settingsGiven gateways own supplier stock «last_hour» «queue_places» «outstanding_places»)
+        (now (list .entry)) (now (memory .entry))) ⌝ }
 {
     let opening = Opening {
         n: gateways,
@@ -94,7 +97,7 @@ pub extern "C" fn hurfaith_set_up(
 // Work: up to budget events.
 #[no_mangle]
 pub extern "C" fn hurfaith_work(memory: &mut [u8], output: &mut [u8], budget: u32) -> u64
-    ensures { λ r. ⌜ record { answer = r; memory = now (memory .exit); output = now (output .exit) } ≡ packedWork (workedOff budget (now (memory .entry)) (now (output .entry))) ⌝ }
+    ensures { λ r. ⌜ left r (now (memory .exit)) (now (output .exit)) ≡ packedWork (workedOff budget (now (memory .entry)) (now (output .entry))) ⌝ }
 {
     let worked = work(memory, output, budget);
     packed(worked.why, worked.written, worked.count)
@@ -103,7 +106,8 @@ pub extern "C" fn hurfaith_work(memory: &mut [u8], output: &mut [u8], budget: u3
 // Taking a frame.
 #[no_mangle]
 pub extern "C" fn hurfaith_take(memory: &mut [u8], frame: &[u8], output: &mut [u8]) -> u64
-    ensures { λ r. ⌜ record { answer = r; memory = now (memory .exit); output = now (output .exit) } ≡ packedAnswer (taken (now (memory .entry)) (now (frame .entry)) (now (output .entry))) ⌝ }
+    ensures { λ r. ⌜ left r (now (memory .exit)) (now (output .exit))
+        ≡ packedAnswer (taken (now (memory .entry)) (now (frame .entry)) (now (output .entry))) ⌝ }
 {
     let answer = take(memory, frame, output);
     packed(answer.number, answer.written, 0)
@@ -112,7 +116,7 @@ pub extern "C" fn hurfaith_take(memory: &mut [u8], frame: &[u8], output: &mut [u
 // The start call.
 #[no_mangle]
 pub extern "C" fn hurfaith_start(memory: &mut [u8], output: &mut [u8]) -> u64
-    ensures { λ r. ⌜ record { answer = r; memory = now (memory .exit); output = now (output .exit) } ≡ packedAnswer (started (now (memory .entry)) (now (output .entry))) ⌝ }
+    ensures { λ r. ⌜ left r (now (memory .exit)) (now (output .exit)) ≡ packedAnswer (started (now (memory .entry)) (now (output .entry))) ⌝ }
 {
     let answer = start(memory, output);
     packed(answer.number, answer.written, 0)
@@ -121,7 +125,7 @@ pub extern "C" fn hurfaith_start(memory: &mut [u8], output: &mut [u8]) -> u64
 // Commit.
 #[no_mangle]
 pub extern "C" fn hurfaith_commit(memory: &mut [u8], output: &mut [u8]) -> u64
-    ensures { λ r. ⌜ record { answer = r; memory = now (memory .exit); output = now (output .exit) } ≡ packedAnswer (committed (now (memory .entry)) (now (output .entry))) ⌝ }
+    ensures { λ r. ⌜ left r (now (memory .exit)) (now (output .exit)) ≡ packedAnswer (committed (now (memory .entry)) (now (output .entry))) ⌝ }
 {
     let answer = commit(memory, output);
     packed(answer.number, answer.written, 0)

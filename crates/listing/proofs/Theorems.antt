@@ -8,7 +8,8 @@ use native.Mathlib.Decide.{ℕ-discrete, decLe}
 use lib.ListN.{length, getD, take, length-append}
 use lib.Seq.{take-all, take-append-seam, getD-append-seam, take-suc, length-take-le}
 use borrow.Author.Tests.{eq-eqb, ne-eqb}
-use Rattle.routing.specs.Arcs.{_∈_, Arc, arcs, arcCount, roundMessages}
+use Rattle.lists.specs.Lists.{_∈_, joined}
+use Rattle.routing.specs.Arcs.{Arc, arcs, arcCount, roundMessages}
 use Rattle.routing.specs.Arcs as Arcs
 use Rattle.routing.proofs.Reading.{mids}
 use Rattle.routing.proofs.Theorems.{count-is, laws as arc-laws}
@@ -18,7 +19,7 @@ use Rattle.text.specs.Decimal.{decimal, spelled}
 use Rattle.text.proofs.Digits.{decimal-plain, is-spelled, spelled-iff}
 use Rattle.text.proofs.Putting.{length-within}
 use Rattle.text.proofs.Reading.{digit-at, plain-digits, plain-some}
-use Rattle.listing.specs.Output.{lineEnd, firstLine, arcLine, arcLines, listing, withoutEnd, orZero, numberIn, printed, Laws}
+use Rattle.listing.specs.Output.{lineEnd, firstLine, arcLine, listing, withoutEnd, orZero, numberIn, printed, Laws}
 use Rattle.listing.proofs.Lines.{length-arcLine, length-firstLine}
 
 -- a decimal text does not end in a line end
@@ -97,12 +98,20 @@ sixteen input = go (decLe (length input) 16)
     go (no h) = long (take 16 input) (omega (arith, length-take-le 16 input (omega arith))) ∙ sym (long input (omega arith))
 
 -- the lines of arcs with numbers of at most five digits
-lines-bound : (l : List Arc) → ((c : Arc) → c ∈ l → (c .0 < 100000) × (c .1 < 100000)) → length (arcLines l) ≤ 12 * length l
-unfolding arcLines
+lines-bound : (l : List Arc) → ((c : Arc) → c ∈ l → (c .0 < 100000) × (c .1 < 100000)) → length (joined arcLine l) ≤ 12 * length l
+unfolding joined
 lines-bound [] h = omega arith
 lines-bound (c ∷ l) h =
     let b = h c (here refl) in
-    omega (arith, length-append (arcLine c) (arcLines l), length-arcLine (c .0) (c .1), length-within 4 (c .0) (b .0), length-within 4 (c .1) (b .1), lines-bound l (λ d m. h d (there m)))
+    omega (
+      arith,
+      length-append (arcLine c) (joined arcLine l),
+      length-arcLine (c .0) (c .1),
+      length-within 4 (c .0) (b .0),
+      length-within 4
+          (c .1) (b .1),
+      lines-bound l (λ d m. h d (there m)),
+    )
 
 held : (n : ℕ) → n ≤ 65535 → length (listing n) ≤ 1100000
 unfolding listing
@@ -113,8 +122,24 @@ held (suc k) h =
     let s = mids n 0 (omega arith) .split in
     let first = length-firstLine n (arcCount n) (roundMessages n) in
     let count = count-is n (omega arith) in
-    let lines = lines-bound (arcs n) (λ c m. let k = l .complete (c .0) (c .1) .0 m in let u = l .upward (c .0) (c .1) (k .0) (k .1) in (omega arith, omega (arith, u .1))) in
-    omega (arith, s .all, s .upper, first, count, lines, l .counted, l .bounded, length-append (firstLine n (arcCount n) (roundMessages n)) (arcLines (arcs n)), length-within 9 n (omega arith), length-within 9 (arcCount n) (omega arith), length-within 9 (roundMessages n) (omega arith))
+    let lines = lines-bound (arcs n) (λ c m. let k = l .complete (c .0) (c .1) .0 m in let u = l .upward (c .0) (c .1) (k .0) (k .1) in
+    (omega arith, omega (arith, u .1))) in
+    omega (
+      arith,
+      s .all,
+      s .upper,
+      first,
+      count,
+      lines,
+      l .counted,
+      l .bounded,
+      length-append (firstLine n (arcCount n) (roundMessages n))
+          (joined arcLine (arcs n)),
+      length-within 9 n (omega arith),
+      length-within 9 (arcCount n) (omega arith),
+      length-within 9
+          (roundMessages n) (omega arith),
+    )
 
 number-below : (input : List ℕ) → numberIn input ≤ 65535
 unfolding numberIn

@@ -5,6 +5,7 @@ use mathlib.Core.List.{List, [], _∷_, _++_, map}
 use Prim.Native.Nat.{ℕ, zero, suc, _-_, _≤_}
 use lib.Dec.{leb, eqb}
 use lib.ListN.{length, getD, take}
+use Rattle.lists.specs.Lists.{joined}
 use Rattle.buffer.specs.Slice.{write}
 use Rattle.routing.specs.Arcs.{Arc, arcs, arcCount, roundMessages}
 use Rattle.text.specs.declared.Spelled.{Spelled}
@@ -38,19 +39,14 @@ firstLine N arcs messages =
 unfoldable pub arcLine : Arc → List ℕ
 arcLine a = decimal (a .0) ++ (blank ∷ []) ++ decimal (a .1) ++ (lineEnd ∷ [])
 
--- The lines of arcs, in their order.
-unfoldable pub arcLines : List Arc → List ℕ
-arcLines [] = []
-arcLines (a ∷ rest) = arcLine a ++ arcLines rest
-
 -- The lines of the arcs from one gateway.
 unfoldable pub linesFrom : ℕ → List ℕ → List ℕ
-linesFrom own numbers = arcLines (map (λ (j : ℕ). (own, j)) numbers)
+linesFrom own numbers = joined arcLine (map (λ (j : ℕ). (own, j)) numbers)
 
 -- The listing of N, and 8 alone for 0.
 unfoldable pub listing : (N : ℕ) → List ℕ
 listing zero = 56 ∷ lineEnd ∷ []
-listing (suc n) = firstLine (suc n) (arcCount (suc n)) (roundMessages (suc n)) ++ arcLines (arcs (suc n))
+listing (suc n) = firstLine (suc n) (arcCount (suc n)) (roundMessages (suc n)) ++ joined arcLine (arcs (suc n))
 
 -- The input without the one line end that may stand last.
 unfoldable pub withoutEnd : List ℕ → List ℕ
@@ -70,19 +66,19 @@ unfoldable pub printed : (input : List ℕ) → List ℕ
 printed input = listing (numberIn input)
 
 -- What render answers, and the output afterwards.
-pub record Rendering : Type 0 where
+pub record RenderResult : Type 0 where
   pub answer : Rendered
   pub out : List ℕ
 
 -- All of the bytes at the front of the output, the rest unchanged; where there is too little room 5, and nothing is written.
-unfoldable pub rendered : (bytes out : List ℕ) → Rendering
+unfoldable pub rendered : (bytes out : List ℕ) → RenderResult
 rendered bytes out =
     cond (leb (length bytes) (length out))
     (record { answer = record { answer = 0; length = length bytes }; out = write 0 bytes out })
     (record { answer = record { answer = 5; length = 0 }; out = out })
 
 -- What render does with an input.
-unfoldable pub rendering : (input out : List ℕ) → Rendering
+unfoldable pub rendering : (input out : List ℕ) → RenderResult
 rendering input out = rendered (printed input) out
 
 -- What holds of the output.

@@ -4,26 +4,28 @@ use Prim.Native.Nat.{ℕ, _+_, _*_, _≤_}
 use native.Mathlib.Omega.{arith}
 use mathlib.Core.List.{List, [], _∷_, _++_}
 use lib.ListN.{length}
+use Rattle.lists.specs.Lists.{joined, All}
+use Rattle.lists.proofs.ListLaws.{all-map}
 use Rattle.buffer.specs.Slice.{part, write}
 use Rattle.buffer.proofs.Writes.{length-write}
 use Rattle.memory.specs.Records.{Gateway, headerOf}
-use Rattle.memory.specs.Layout.{headerSize, queueAt, outstandingAt}
-use Rattle.memory.specs.Codec.{entryBytes, sentBytes, headerFront, headerBack, placesBytes, encode}
+use Rattle.memory.specs.Layout.{headerSize, queueAt, outstandingAt, outstandingSize, queueSize}
+use Rattle.memory.specs.Codec.{entryBytes, sentBytes, headerFront, headerBack, encode}
 use Rattle.memory.specs.declared.Entry.{Entry}
 use Rattle.memory.specs.declared.Sent.{Sent}
-use Rattle.memory.specs.Fits.{All, EntryFits, SentFits, GatewayFits, Room}
+use Rattle.memory.specs.inside.Fits.{EntryFits, SentFits, GatewayFits, Room}
 use Rattle.buffer.proofs.Standing.{Stands, write-stands, write-covers, stands-after}
 use Rattle.memory.proofs.FourWrites.{headed}
-use Rattle.memory.proofs.Places.{all-map, length-places, append-places, append-place, replace-place, remove-place, insert-place}
+use Rattle.memory.proofs.Places.{length-places, append-places, append-place, replace-place, remove-place, insert-place}
 use Rattle.memory.proofs.RoundTrips.{entry-length, sent-length}
 use Rattle.memory.proofs.Holding.{Holds, length-queue, length-outstanding, encode-by}
 
 -- the bytes of the queue and of what is outstanding, written where they belong
 abbrev pub queueWritten : List Entry → List ℕ → List ℕ
-queueWritten es m = write headerSize (placesBytes entryBytes es) m
+queueWritten es m = write headerSize (joined entryBytes es) m
 
 abbrev pub outstandingWritten : ℕ → List Sent → List ℕ → List ℕ
-outstandingWritten q ss m = write (outstandingAt q 0) (placesBytes sentBytes ss) m
+outstandingWritten q ss m = write (outstandingAt q 0) (joined sentBytes ss) m
 
 -- what the header of h adds
 abbrev pub withHeader : Gateway → List ℕ → List ℕ
@@ -33,81 +35,87 @@ withHeader h m = headed (headerFront (headerOf h)) (headerBack (headerOf h)) m
 module _ (m : List ℕ) {old new : List Entry} (fits-old : All EntryFits old) (fits-new : All EntryFits new) where
   pub queue-over : length old ≤ length new → queueAt (length new) ≤ length m → queueWritten new (queueWritten old m) ≡ queueWritten new m
   queue-over h inside =
-      let k = length-places entryBytes 64 (all-map entry-length fits-old) in
-      let l = length-places entryBytes 64 (all-map entry-length fits-new) in
-      write-covers headerSize (placesBytes entryBytes new) (placesBytes entryBytes old) m (rw l inside) (rw (k, l) (omega arith))
+      let k = length-places entryBytes queueSize (all-map entry-length fits-old) in
+      let l = length-places entryBytes queueSize (all-map entry-length fits-new) in
+      write-covers headerSize (joined entryBytes new) (joined entryBytes old) m (rw l inside) (rw (k, l) (omega arith))
 
 -- a queue of which the first entries stand already
 pub queue-from : (m : List ℕ) (xs zs : List Entry) → All EntryFits xs → All EntryFits zs → queueAt (length xs + length zs) ≤ length m
-    → Stands headerSize (placesBytes entryBytes xs) m → queueWritten (xs ++ zs) m ≡ write (queueAt (length xs)) (placesBytes entryBytes zs) m
-queue-from m xs zs p q inside stand = append-places entryBytes 64 headerSize m xs zs (all-map entry-length p) (all-map entry-length q) inside stand
+    → Stands headerSize (joined entryBytes xs) m → queueWritten (xs ++ zs) m ≡ write (queueAt (length xs)) (joined entryBytes zs) m
+queue-from m xs zs p q inside stand = append-places entryBytes queueSize headerSize m xs zs (all-map entry-length p) (all-map entry-length q) inside stand
 
 -- one queue place is replaced, taken out, or put in
-module _ (m : List ℕ) (xs : List Entry) (x : Entry) (zs : List Entry) (fits : All EntryFits (xs ++ (x ∷ zs))) (inside : queueAt (length xs + 1 + length zs) ≤ length m) where
-  pub entry-replaced : (y : Entry) → EntryFits y → Stands headerSize (placesBytes entryBytes (xs ++ (x ∷ zs))) m
+module _ (m : List ℕ) (xs : List Entry) (x : Entry) (zs : List Entry) (fits : All EntryFits (xs ++ (x ∷ zs))) (inside : queueAt (length xs +
+    1 + length zs) ≤ length m) where
+  pub entry-replaced : (y : Entry) → EntryFits y → Stands headerSize (joined entryBytes (xs ++ (x ∷ zs))) m
       → queueWritten (xs ++ (y ∷ zs)) m ≡ write (queueAt (length xs)) (entryBytes y) m
-  entry-replaced y p stand = replace-place entryBytes 64 headerSize m xs x zs inside y (all-map entry-length fits) (entry-length y p) stand
+  entry-replaced y p stand = replace-place entryBytes queueSize headerSize m xs x zs inside y (all-map entry-length fits) (entry-length y p) stand
 
-  pub entry-removed : Stands headerSize (placesBytes entryBytes (xs ++ (x ∷ zs))) m
-      → queueWritten (xs ++ zs) m ≡ write (queueAt (length xs)) (part m (queueAt (length xs + 1)) (64 * length zs)) m
-  entry-removed stand = remove-place entryBytes 64 headerSize m xs x zs inside (all-map entry-length fits) stand
+  pub entry-removed : Stands headerSize (joined entryBytes (xs ++ (x ∷ zs))) m
+      → queueWritten (xs ++ zs) m ≡ write (queueAt (length xs)) (part m (queueAt (length xs + 1)) (queueSize * length zs)) m
+  entry-removed stand = remove-place entryBytes queueSize headerSize m xs x zs inside (all-map entry-length fits) stand
 
-  pub entry-inserted : Stands headerSize (placesBytes entryBytes (xs ++ zs)) m
-      → queueWritten (xs ++ (x ∷ zs)) m ≡ write (queueAt (length xs)) (entryBytes x) (write (queueAt (length xs + 1)) (part m (queueAt (length xs)) (64 * length zs)) m)
-  entry-inserted stand = insert-place entryBytes 64 headerSize m xs x zs inside (all-map entry-length fits) stand
+  pub entry-inserted : Stands headerSize (joined entryBytes (xs ++ zs)) m
+      → queueWritten (xs ++ (x ∷ zs)) m ≡ write (queueAt (length xs)) (entryBytes x) (write (queueAt (length xs + 1)) (part m (queueAt
+      (length xs)) (queueSize * length zs)) m)
+  entry-inserted stand = insert-place entryBytes queueSize headerSize m xs x zs inside (all-map entry-length fits) stand
 
 -- some more are outstanding
 module _ (m : List ℕ) (q : ℕ) where
-  sent-place : (k : ℕ) → outstandingAt q 0 + 32 * k ≡ outstandingAt q k
+  sent-place : (k : ℕ) → outstandingAt q 0 + outstandingSize * k ≡ outstandingAt q k
   sent-place k = omega arith
 
   pub sent-appended : (xs zs : List Sent) → All SentFits xs → All SentFits zs → outstandingAt q (length xs + length zs) ≤ length m
-      → Stands (outstandingAt q 0) (placesBytes sentBytes xs) m → outstandingWritten q (xs ++ zs) m ≡ write (outstandingAt q (length xs)) (placesBytes sentBytes zs) m
+      → Stands (outstandingAt q 0) (joined sentBytes xs) m → outstandingWritten q (xs ++ zs) m ≡ write (outstandingAt q (length xs)) (joined sentBytes zs) m
   sent-appended xs zs p r inside stand =
       rw (sent-place (length xs)) at
-      (append-places sentBytes 32 (outstandingAt q 0) m xs zs (all-map sent-length p) (all-map sent-length r) (rw (sent-place (length xs + length zs)) inside) stand)
+      (append-places sentBytes outstandingSize (outstandingAt q 0) m xs zs (all-map sent-length p) (all-map sent-length r) (rw (sent-place (length xs +
+      length zs)) inside) stand)
 
   pub one-sent : (xs : List Sent) (x : Sent) → All SentFits xs → SentFits x → outstandingAt q (length xs + 1) ≤ length m
-      → Stands (outstandingAt q 0) (placesBytes sentBytes xs) m → outstandingWritten q (xs ++ (x ∷ [])) m ≡ write (outstandingAt q (length xs)) (sentBytes x) m
+      → Stands (outstandingAt q 0) (joined sentBytes xs) m → outstandingWritten q (xs ++ (x ∷ [])) m ≡ write (outstandingAt q (length xs)) (sentBytes x) m
   one-sent xs x p r inside stand =
       rw (sent-place (length xs)) at
-      (append-place sentBytes 32 (outstandingAt q 0) m xs x (all-map sent-length p) (sent-length x r) (rw (sent-place (length xs + 1)) inside) stand)
+      (append-place sentBytes outstandingSize (outstandingAt q 0) m xs x (all-map sent-length p) (sent-length x r) (rw (sent-place (length
+      xs + 1)) inside) stand)
 
   -- one is not outstanding any more
   pub sent-removed : (xs : List Sent) (x : Sent) (zs : List Sent) → All SentFits (xs ++ (x ∷ zs)) → outstandingAt q (length xs + 1 + length zs) ≤ length m
-      → Stands (outstandingAt q 0) (placesBytes sentBytes (xs ++ (x ∷ zs))) m
-      → outstandingWritten q (xs ++ zs) m ≡ write (outstandingAt q (length xs)) (part m (outstandingAt q (length xs + 1)) (32 * length zs)) m
+      → Stands (outstandingAt q 0) (joined sentBytes (xs ++ (x ∷ zs))) m
+      → outstandingWritten q (xs ++ zs) m ≡ write (outstandingAt q (length xs)) (part m (outstandingAt q (length xs + 1)) (outstandingSize * length zs)) m
   sent-removed xs x zs p inside stand =
       rw (sent-place (length xs), sent-place (length xs + 1)) at
-      (remove-place sentBytes 32 (outstandingAt q 0) m xs x zs (rw (sent-place (length xs + 1 + length zs)) inside) (all-map sent-length p) stand)
+      (remove-place sentBytes outstandingSize (outstandingAt q 0) m xs x zs (rw (sent-place (length xs + 1 + length zs)) inside) (all-map sent-length p) stand)
 
 -- memory holds g, and h, with as many queue places, is written over it
 module _ (g h : Gateway) (m : List ℕ) (fits : GatewayFits h) (room : Room h m) (held : Holds g m) (same : h .settings .q ≡ g .settings .q) where
-  queue-before : headerSize + length (placesBytes entryBytes (h .queue)) ≤ outstandingAt (h .settings .q) 0
+  queue-before : headerSize + length (joined entryBytes (h .queue)) ≤ outstandingAt (h .settings .q) 0
   queue-before = rw (length-queue h fits) (omega (arith, room .queued))
 
-  sent-inside : outstandingAt (h .settings .q) 0 + length (placesBytes sentBytes (h .outstanding)) ≤ length m
+  sent-inside : outstandingAt (h .settings .q) 0 + length (joined sentBytes (h .outstanding)) ≤ length m
   sent-inside = rw (length-outstanding h fits) (omega (arith, room .sent, room .long))
 
-  queue-inside : headerSize + length (placesBytes entryBytes (h .queue)) ≤ length m
+  queue-inside : headerSize + length (joined entryBytes (h .queue)) ≤ length m
   queue-inside = omega (arith, queue-before, sent-inside)
 
   pub queue-as-long : length (queueWritten (h .queue) m) ≡ length m
-  queue-as-long = length-write headerSize (placesBytes entryBytes (h .queue)) m queue-inside
+  queue-as-long = length-write headerSize (joined entryBytes (h .queue)) m queue-inside
 
   -- a queue that stays
   pub queue-stays : h .queue ≡ g .queue → queueWritten (h .queue) m ≡ m
-  queue-stays e = write-stands headerSize (placesBytes entryBytes (h .queue)) m queue-inside (rw e (held .queue))
+  queue-stays e = write-stands headerSize (joined entryBytes (h .queue)) m queue-inside (rw e (held .queue))
 
   -- what is outstanding stands behind the new queue as it did, and may stay
-  pub outstanding-still : Stands (outstandingAt (h .settings .q) 0) (placesBytes sentBytes (g .outstanding)) (queueWritten (h .queue) m)
+  pub outstanding-still : Stands (outstandingAt (h .settings .q) 0) (joined sentBytes (g .outstanding)) (queueWritten (h .queue) m)
   outstanding-still =
-      stands-after headerSize (placesBytes entryBytes (h .queue)) m queue-inside (outstandingAt (h .settings .q) 0) (placesBytes sentBytes (g .outstanding)) queue-before
+      stands-after headerSize (joined entryBytes (h .queue)) m queue-inside (outstandingAt (h .settings .q) 0) (joined sentBytes (g .outstanding)) queue-before
       (rw same (held .outstanding))
 
-  pub outstanding-stays : h .outstanding ≡ g .outstanding → outstandingWritten (h .settings .q) (h .outstanding) (queueWritten (h .queue) m) ≡ queueWritten (h .queue) m
+  pub outstanding-stays : h .outstanding ≡ g .outstanding → outstandingWritten (h .settings .q) (h .outstanding) (queueWritten (h .queue) m)
+      ≡ queueWritten (h .queue) m
   outstanding-stays e =
-      write-stands (outstandingAt (h .settings .q) 0) (placesBytes sentBytes (h .outstanding)) (queueWritten (h .queue) m) (rw queue-as-long sent-inside) (rw e outstanding-still)
+      write-stands (outstandingAt (h .settings .q) 0) (joined sentBytes (h .outstanding)) (queueWritten (h .queue) m) (rw queue-as-long
+      sent-inside) (rw e outstanding-still)
 
   -- the header is written last: over the memory with the new queue and what is outstanding now
   pub both-changed : {a b : List ℕ} → queueWritten (h .queue) m ≡ a → outstandingWritten (h .settings .q) (h .outstanding) a ≡ b → encode h m ≡ withHeader h b

@@ -87,4 +87,5 @@ equal-same a b h = by-case (compared (key a) (key b)) refl h
 
 pub same-equal : (a b : Message) → a ≡ b → equal a b ≡ true
 unfolding equal
-same-equal a b e = subst (λ (x : Message). not (different (compared (key a) (key x))) ≡ true) e (ap (λ (c : Comparison). not (different c)) (event-order .reflexive a))
+same-equal a b e = subst (λ (x : Message). not (different (compared (key a) (key x))) ≡ true) e (ap (λ (c : Comparison). not (different c))
+    (event-order .reflexive a))

@@ -6,22 +6,19 @@ use mathlib.Core.Bool.{Bool, true, false, _&&_, _||_}
 use lib.Dec.{eqb, leb}
 use lib.ListN.{length}
 use borrow.Author.Tests.{eqb-true, leb-true}
-use Rattle.model.specs.Messages.{originOf, quantityOf}
+use Rattle.lists.proofs.ListLaws.{all-of, all-each}
 use Rattle.model.specs.declared.Message.{Message}
-use Rattle.memory.specs.Records.{Gateway, headerOf}
+use Rattle.memory.specs.Records.{Gateway}
 use Rattle.routing.specs.Arcs.{from, to}
-use Rattle.memory.specs.Ranges.{RangedState, RangedMessage, Ranged}
+use Rattle.memory.specs.Ranges.{RangedMessage, Ranged}
 use Rattle.memory.specs.Validity.{oneOfTwo, arrivalsPossible, roundPossible}
 use Rattle.memory.specs.declared.Settings.{Settings}
 use Rattle.memory.specs.declared.Round.{Round}
 use Rattle.memory.specs.declared.Phase.{Phase}
 use Rattle.memory.specs.declared.Phase.the-variants.{Idle, Counting, Stopped}
-use Rattle.memory.specs.declared.Header.{Header}
-use Rattle.memory.specs.declared.Entry.{Entry}
-use Rattle.memory.specs.declared.Sent.{Sent}
-use Rattle.memory.specs.Fits.{MessageFits, EntryFits, SentFits, SettingsFit, RoundFits, HeaderFits, GatewayFits, All}
-use Rattle.memory.proofs.Validated.{Valid, ValidSettings, Storable, and-left, and-right}
-use Rattle.memory.proofs.Places.{all-of, all-each}
+use Rattle.memory.specs.inside.Fits.{MessageFits, GatewayFits}
+use Rattle.memory.proofs.Validated.{Valid, ValidSettings, Storable}
+use Rattle.lists.proofs.BoolLaws.{and-left, and-right}
 
 -- a valid gateway's ranges, element by element
 message-fits : (s : Settings) (cancel : Bool) (m : Message) → ValidSettings s → Storable s cancel m → RangedMessage m → MessageFits m
@@ -74,7 +71,10 @@ valid-fits g v r =
         message = message-fits (g .settings) _ (e .message) s (v .entries e m .message) (r .queue e m .message);
         before = r .queue e m .before;
       });
-      outstanding = all-of (g .outstanding) (λ x m. record { message = message-fits (g .settings) _ (x .message) s (v .outstanding x m .message) (r .outstanding x m) });
+      outstanding = all-of (g .outstanding) (λ x m. record {
+        message = message-fits (g .settings) _ (x .message) s (v .outstanding x
+            m .message) (r .outstanding x m);
+      });
     }
 
 -- and back
@@ -84,6 +84,12 @@ fits-ranged g f =
       state = f .header .state;
       agreed = f .header .agreed;
       note = f .header .round .note;
-      queue = λ e m. let x = all-each (f .queue) e m in record { message = record { quantity = x .message .quantity; lamp = x .message .lamp }; before = x .before };
+      queue = λ e m. let x = all-each (f .queue) e m in record {
+        message = record {
+          quantity = x .message .quantity;
+          lamp = x .message .lamp;
+        };
+        before = x .before;
+      };
       outstanding = λ e m. let x = all-each (f .outstanding) e m in record { quantity = x .message .quantity; lamp = x .message .lamp };
     }

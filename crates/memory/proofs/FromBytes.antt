@@ -3,10 +3,11 @@ use mathlib.Core.Path.{_≡_, refl, sym, _∙_, ap₂}
 use Prim.Native.Nat.{ℕ, zero, suc, _+_, _*_, _^_, _≤_, _<_}
 use native.Mathlib.Omega.{arith}
 use mathlib.Core.Bool.{Bool, true, false, cond}
-use mathlib.Core.List.{List, [], _∷_, _++_}
-use lib.Dec.{eqb, lit<}
-use lib.ListN.{length, getD, take, drop}
-use lib.Seq.{getD-drop}
+use mathlib.Core.List.{List, _∷_, _++_}
+use lib.Dec.{eqb}
+use lib.ListN.{length, getD}
+use Rattle.buffer.proofs.Lent.{bytes-part}
+use Rattle.lists.specs.Lists.{All, nil, cons}
 use Rattle.buffer.specs.Slice.{Bytes, part}
 use Rattle.buffer.specs.Number.{bytesOf, numberOf}
 use Rattle.buffer.proofs.Numbers.{number-below, bytes-of-number}
@@ -14,22 +15,12 @@ use Rattle.buffer.proofs.Writes.{length-part, part-cons, part-nil}
 use Rattle.model.specs.Messages.{originOf, quantityOf, kindOf}
 use Rattle.model.specs.declared.Kind.{Kind}
 use Rattle.model.specs.declared.Kind.the-variants.{Failure, Request, Delivery, Restock, Start, Lvt, Update}
+use Rattle.memory.specs.Layout.{backSize, headerUsed, messageSize, outstandingSize, queueSize, stateSize}
 use Rattle.memory.specs.Ranges.{RangedState}
 use Rattle.memory.specs.Codec.{phaseNumber, phaseOf, stateOf, messageOf, entryOf, sentOf, headerAt, headerFront, headerBack, placesAt}
-use Rattle.memory.specs.Fits.{All, nil, cons, MessageFits, EntryFits, SentFits, HeaderFits}
+use Rattle.memory.specs.inside.Fits.{MessageFits, EntryFits, SentFits, HeaderFits}
 use Rattle.buffer.proofs.Standing.{part-add}
 use Rattle.memory.proofs.RoundTrips.{byte-back}
-
--- a part of bytes is bytes
-bytes-take : (n : ℕ) (l : List ℕ) → Bytes l → Bytes (take n l)
-bytes-take zero l h i = lit< tt
-bytes-take (suc n) [] h i = lit< tt
-bytes-take (suc n) (x ∷ l) h zero = h 0
-bytes-take (suc n) (x ∷ l) h (suc i) = bytes-take n l (λ j. h (suc j)) i
-
-pub bytes-part : (m : List ℕ) (at n : ℕ) → Bytes m → Bytes (part m at n)
-unfolding part
-bytes-part m at n h = bytes-take n (drop at m) (λ i. rw (getD-drop at m i 0) (h (at + i)))
 
 -- a number in bytes fits them
 pub number-fits : (m : List ℕ) (at n : ℕ) → Bytes m → at + n ≤ length m → numberOf (part m at n) < 256 ^ n
@@ -55,7 +46,7 @@ unfolding choice
 kind-read n o q = kind-within (eqb n 0) (eqb n 1) (eqb n 2) (eqb n 3) (eqb n 4) (eqb n 5) o q
 
 -- states, messages and places
-pub state-ranged : (b : List ℕ) → 14 ≤ length b → Bytes b → RangedState (stateOf b)
+pub state-ranged : (b : List ℕ) → stateSize ≤ length b → Bytes b → RangedState (stateOf b)
 unfolding stateOf
 state-ranged b h bytes = record {
   stock = number-fits b 0 2 bytes (omega arith);
@@ -64,7 +55,7 @@ state-ranged b h bytes = record {
   short = number-fits b 10 4 bytes (omega arith);
 }
 
-pub message-fits : (b : List ℕ) → 30 ≤ length b → Bytes b → MessageFits (messageOf b)
+pub message-fits : (b : List ℕ) → messageSize ≤ length b → Bytes b → MessageFits (messageOf b)
 unfolding messageOf
 message-fits b h bytes =
     let kind = kind-read (getD b 1 0) (getD b 8 0) (numberOf (part b 10 2)) in
@@ -77,13 +68,17 @@ message-fits b h bytes =
       lamp = length-part b 12 18 (omega arith);
     }
 
-pub entry-fits : (b : List ℕ) → length b ≡ 64 → Bytes b → EntryFits (entryOf b)
+pub entry-fits : (b : List ℕ) → length b ≡ queueSize → Bytes b → EntryFits (entryOf b)
 unfolding entryOf
 entry-fits b h bytes =
-    let saved : length (part b 30 14) ≡ 14 = length-part b 30 14 (omega arith) in
-    record { message = message-fits b (omega arith) bytes; before = state-ranged (part b 30 14) (omega arith) (bytes-part b 30 14 bytes) }
+    let saved : length (part b messageSize stateSize) ≡ stateSize = length-part b messageSize stateSize (omega arith) in
+    record {
+      message = message-fits b (omega arith) bytes;
+      before = state-ranged (part b messageSize stateSize) (omega arith) (bytes-part b
+          messageSize stateSize bytes);
+    }
 
-pub sent-fits : (b : List ℕ) → length b ≡ 32 → Bytes b → SentFits (sentOf b)
+pub sent-fits : (b : List ℕ) → length b ≡ outstandingSize → Bytes b → SentFits (sentOf b)
 unfolding sentOf
 sent-fits b h bytes = record { message = message-fits b (omega arith) bytes }
 
@@ -103,7 +98,7 @@ phase-again (suc zero) h = refl
 phase-again (suc (suc zero)) h = refl
 phase-again (suc (suc (suc n))) h = absurd (let z : _≡_ {A = ℕ} 0 1 = omega arith in omega arith)
 
-module _ (m : List ℕ) (bytes : Bytes m) (long : 40 ≤ length m) where
+module _ (m : List ℕ) (bytes : Bytes m) (long : headerUsed ≤ length m) where
   pub header-fits : HeaderFits (headerAt m)
   unfolding headerAt
   header-fits = record {
@@ -135,16 +130,18 @@ module _ (m : List ℕ) (bytes : Bytes m) (long : 40 ≤ length m) where
   number-again : (at n : ℕ) → at + n ≤ length m → bytesOf n (numberOf (part m at n)) ≡ part m at n
   number-again at n fits = rw (length-part m at n fits) at (bytes-of-number (part m at n) (bytes-part m at n bytes))
 
-  number-next : (at n rest : ℕ) {tail : List ℕ} → at + n ≤ length m → tail ≡ part m (at + n) rest → bytesOf n (numberOf (part m at n)) ++ tail ≡ part m at (n + rest)
+  number-next : (at n rest : ℕ) {tail : List ℕ} → at + n ≤ length m → tail ≡ part m (at + n) rest → bytesOf n (numberOf (part m at n)) ++
+      tail ≡ part m at (n + rest)
   number-next at n rest fits e = ap₂ _++_ (number-again at n fits) e ∙ sym (part-add m at n rest)
 
   pub front-again : getD m 3 0 ≤ 2 → headerFront (headerAt m) ≡ part m 0 5
   unfolding headerFront headerAt bytesOf
   front-again small =
       rw (phase-again (getD m 3 0) small)
-      (byte-next 0 4 (omega arith) (byte-next 1 3 (omega arith) (byte-next 2 2 (omega arith) (byte-next 3 1 (omega arith) (byte-next 4 0 (omega arith) (sym (part-nil m 5)))))))
+      (byte-next 0 4 (omega arith) (byte-next 1 3 (omega arith) (byte-next 2 2 (omega arith) (byte-next 3 1 (omega arith) (byte-next 4 0
+      (omega arith) (sym (part-nil m 5)))))))
 
-  pub back-again : headerBack (headerAt m) ≡ part m 6 34
+  pub back-again : headerBack (headerAt m) ≡ part m 6 backSize
   unfolding headerBack headerAt
   back-again =
       number-next 6 2 32 (omega arith)

@@ -5,37 +5,39 @@ use native.Mathlib.Omega.{arith}
 use mathlib.Core.List.{List}
 use lib.Dec.{lit≤}
 use lib.ListN.{length}
+use Rattle.lists.specs.Lists.{joined, All}
+use Rattle.lists.proofs.ListLaws.{all-map}
 use Rattle.buffer.specs.Slice.{part, write}
 use Rattle.memory.specs.Records.{Gateway, headerOf}
-use Rattle.memory.specs.Layout.{headerSize, outstandingAt, sizeFor}
+use Rattle.memory.specs.Layout.{headerSize, outstandingAt, outstandingSize, queueSize}
 use Rattle.memory.specs.Claims.{Untouched}
-use Rattle.memory.specs.Codec.{entryBytes, entryOf, sentBytes, sentOf, headerAt, headerFront, headerBack, placesAt, placesBytes, decode, encode}
+use Rattle.memory.specs.Codec.{entryBytes, entryOf, sentBytes, sentOf, headerAt, headerFront, headerBack, placesAt, decode, encode}
 use Rattle.buffer.proofs.Standing.{Stands}
 use Rattle.memory.proofs.FourWrites.{headed, FourWrites, four-writes}
-use Rattle.memory.proofs.Places.{Sized, all-map, length-places, read-stored}
-use Rattle.memory.specs.Fits.{GatewayFits, Room, All}
+use Rattle.memory.proofs.Places.{Sized, length-places, read-stored}
+use Rattle.memory.specs.inside.Fits.{GatewayFits, Room}
 use Rattle.memory.proofs.RoundTrips.{length-front, length-back, entry-length, sent-length, entry-kept, sent-kept, header-back}
 
 -- the gateway's bytes stand in the memory
 pub record Holds (g : Gateway) (m : List ℕ) : Type 0 where
   pub front : Stands 0 (headerFront (headerOf g)) m
   pub back : Stands 6 (headerBack (headerOf g)) m
-  pub queue : Stands headerSize (placesBytes entryBytes (g .queue)) m
-  pub outstanding : Stands (outstandingAt (g .settings .q) 0) (placesBytes sentBytes (g .outstanding)) m
+  pub queue : Stands headerSize (joined entryBytes (g .queue)) m
+  pub outstanding : Stands (outstandingAt (g .settings .q) 0) (joined sentBytes (g .outstanding)) m
 
 module _ (g : Gateway) (r : GatewayFits g) where
   -- how long the gateway's bytes are
-  pub queue-sized : All (Sized entryBytes 64) (g .queue)
+  pub queue-sized : All (Sized entryBytes queueSize) (g .queue)
   queue-sized = all-map entry-length (r .queue)
 
-  pub outstanding-sized : All (Sized sentBytes 32) (g .outstanding)
+  pub outstanding-sized : All (Sized sentBytes outstandingSize) (g .outstanding)
   outstanding-sized = all-map sent-length (r .outstanding)
 
-  pub length-queue : length (placesBytes entryBytes (g .queue)) ≡ 64 * length (g .queue)
-  length-queue = length-places entryBytes 64 queue-sized
+  pub length-queue : length (joined entryBytes (g .queue)) ≡ queueSize * length (g .queue)
+  length-queue = length-places entryBytes queueSize queue-sized
 
-  pub length-outstanding : length (placesBytes sentBytes (g .outstanding)) ≡ 32 * length (g .outstanding)
-  length-outstanding = length-places sentBytes 32 outstanding-sized
+  pub length-outstanding : length (joined sentBytes (g .outstanding)) ≡ outstandingSize * length (g .outstanding)
+  length-outstanding = length-places sentBytes outstandingSize outstanding-sized
 
 module _ (g : Gateway) (m : List ℕ) (r : GatewayFits g) (room : Room g m) where
   -- reading memory that holds the gateway
@@ -47,12 +49,13 @@ module _ (g : Gateway) (m : List ℕ) (r : GatewayFits g) (room : Room g m) wher
   unfolding decode
   holds-decode s =
       let h = holds-header s in
-      let queue : placesAt entryOf 64 m 256 (headerAt m .queued) ≡ g .queue =
-      ap (λ k. placesAt entryOf 64 m 256 (k .queued)) h ∙ read-stored entryBytes entryOf 64 m 256 (all-map entry-kept (r .queue)) (s .queue)
+      let queue : placesAt entryOf queueSize m headerSize (headerAt m .queued) ≡ g .queue =
+      ap (λ k. placesAt entryOf queueSize m headerSize (k .queued)) h ∙ read-stored entryBytes entryOf queueSize m headerSize (all-map
+      entry-kept (r .queue)) (s .queue)
       in
-      let outstanding : placesAt sentOf 32 m (outstandingAt (headerAt m .settings .q) 0) (headerAt m .outstanding) ≡ g .outstanding =
-      ap (λ k. placesAt sentOf 32 m (outstandingAt (k .settings .q) 0) (k .outstanding)) h
-      ∙ read-stored sentBytes sentOf 32 m (outstandingAt (g .settings .q) 0) (all-map sent-kept (r .outstanding)) (s .outstanding)
+      let outstanding : placesAt sentOf outstandingSize m (outstandingAt (headerAt m .settings .q) 0) (headerAt m .outstanding) ≡ g .outstanding =
+      ap (λ k. placesAt sentOf outstandingSize m (outstandingAt (k .settings .q) 0) (k .outstanding)) h
+      ∙ read-stored sentBytes sentOf outstandingSize m (outstandingAt (g .settings .q) 0) (all-map sent-kept (r .outstanding)) (s .outstanding)
       in
       λ i. record {
         settings = h i .settings;
@@ -65,9 +68,11 @@ module _ (g : Gateway) (m : List ℕ) (r : GatewayFits g) (room : Room g m) wher
 
 -- writing the gateway
 module _ (g : Gateway) (m : List ℕ) (r : GatewayFits g) (room : Room g m) where
-  pub writes : FourWrites (headerFront (headerOf g)) (headerBack (headerOf g)) (placesBytes entryBytes (g .queue)) (outstandingAt (g .settings .q) 0) (placesBytes sentBytes (g .outstanding)) m
+  pub writes : FourWrites (headerFront (headerOf g)) (headerBack (headerOf g)) (joined entryBytes (g .queue)) (outstandingAt
+      (g .settings .q) 0) (joined sentBytes (g .outstanding)) m
   writes =
-      four-writes (headerFront (headerOf g)) (headerBack (headerOf g)) (placesBytes entryBytes (g .queue)) (placesBytes sentBytes (g .outstanding)) m (outstandingAt (g .settings .q) 0)
+      four-writes (headerFront (headerOf g)) (headerBack (headerOf g)) (joined entryBytes (g .queue)) (joined sentBytes (g .outstanding)) m
+      (outstandingAt (g .settings .q) 0)
       (rw (length-front (headerOf g)) (lit≤ tt))
       (rw (length-back (headerOf g)) (lit≤ tt))
       (rw (length-queue g r) (omega (arith, room .queued)))
@@ -96,7 +101,8 @@ module _ (g : Gateway) (m : List ℕ) (r : GatewayFits g) (room : Room g m) wher
   encode-same s = writes .unchanged (s .front) (s .back) (s .queue) (s .outstanding)
 
   -- the header may be written last, over what is written behind it
-  pub encode-by : {a b : List ℕ} → write headerSize (placesBytes entryBytes (g .queue)) m ≡ a → write (outstandingAt (g .settings .q) 0) (placesBytes sentBytes (g .outstanding)) a ≡ b
+  pub encode-by : {a b : List ℕ} → write headerSize (joined entryBytes (g .queue)) m ≡ a → write (outstandingAt (g .settings .q) 0) (joined
+      sentBytes (g .outstanding)) a ≡ b
       → encode g m ≡ headed (headerFront (headerOf g)) (headerBack (headerOf g)) b
   unfolding encode
   encode-by p q = writes .header-last ∙ rw (p, q)

@@ -1,21 +1,14 @@
 -- Laws of the bytes of a gateway.
 pub mod Stored
-pub mod Lamps
 pub mod Chains
-pub mod Deciding
-pub mod Passing
-pub mod Following
 pub mod EventLaws
 pub mod Validated
 pub mod Places
 pub mod Fitting
 pub mod RoundTrips
 pub mod FromBytes
-pub mod SameBytes
-pub mod ByFields
 pub mod FourWrites
 pub mod Holding
 pub mod StillBytes
 pub mod SoundMemory
 pub mod Changes
-pub mod ByParts

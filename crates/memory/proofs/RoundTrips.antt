@@ -7,6 +7,7 @@ use mathlib.Core.List.{List, _++_}
 use lib.Dec.{eqb, lit<, lit≤}
 use lib.ListN.{length, getD, replicate}
 use lib.Seq.{take-at}
+use Rattle.model.proofs.Ordered.{kind-again}
 use Rattle.buffer.specs.Slice.{part}
 use Rattle.buffer.specs.Number.{bytesOf, numberOf}
 use Rattle.buffer.proofs.Numbers.{number-of-bytes}
@@ -17,8 +18,10 @@ use Rattle.model.specs.declared.Kind.{Kind}
 use Rattle.model.specs.declared.Kind.the-variants.{Failure, Request, Delivery, Restock, Start, Lvt, Update}
 use Rattle.model.specs.declared.Message.{Message}
 use Rattle.model.specs.declared.State.{State}
+use Rattle.memory.specs.Layout.{backSize, messageSize, outstandingSize, queueSize, stateSize}
 use Rattle.memory.specs.Ranges.{RangedState}
-use Rattle.memory.specs.Codec.{markNumber, markOf, phaseNumber, phaseOf, cancelNumber, stateBytes, stateOf, messageBytes, messageOf, entryBytes, entryOf, sentBytes, sentOf, headerAt, headerFront, headerBack}
+use Rattle.memory.specs.Codec.{markNumber, markOf, phaseNumber, phaseOf, cancelNumber, stateBytes, stateOf, messageBytes, messageOf}
+use Rattle.memory.specs.Codec.{entryBytes, entryOf, sentBytes, sentOf, headerAt, headerFront, headerBack}
 use Rattle.memory.specs.declared.Header.{Header}
 use Rattle.memory.specs.declared.Entry.{Entry}
 use Rattle.memory.specs.declared.Sent.{Sent}
@@ -26,7 +29,7 @@ use Rattle.memory.specs.declared.Mark.{Mark}
 use Rattle.memory.specs.declared.Mark.the-variants.{Pending, Processed, Waiting}
 use Rattle.memory.specs.declared.Phase.{Phase}
 use Rattle.memory.specs.declared.Phase.the-variants.{Idle, Counting, Stopped}
-use Rattle.memory.specs.Fits.{MessageFits, EntryFits, SentFits, HeaderFits}
+use Rattle.memory.specs.inside.Fits.{MessageFits, EntryFits, SentFits, HeaderFits}
 use Rattle.memory.proofs.Stored.{length-state, length-message, length-entry, length-sent}
 use Rattle.buffer.proofs.Standing.{part-front, part-back}
 use Rattle.memory.proofs.Places.{ReadBack}
@@ -34,16 +37,6 @@ use Rattle.memory.proofs.Places.{ReadBack}
 -- one byte
 pub byte-back : (n : ℕ) → n < 256 → n / 256 ^ 0 % 256 ≡ n
 byte-back n h = omega arith
-
--- the enumerations
-kind-back : (k : Kind) → kindOf (kindNumber k) (originOf k) (quantityOf k) ≡ k
-kind-back (Failure origin) = refl
-kind-back (Request origin) = refl
-kind-back (Delivery origin) = refl
-kind-back (Restock quantity) = refl
-kind-back Start = refl
-kind-back Lvt = refl
-kind-back Update = refl
 
 pub kind-fits : (k : Kind) → kindNumber k < 256
 kind-fits (Failure origin) = lit< tt
@@ -87,8 +80,13 @@ state-back s r = λ i. record {
 module _ (mark : ℕ) (m : Message) (rest : List ℕ) (r : MessageFits m) where
   message-kind : kindOf (kindNumber (m .kind) / 256 ^ 0 % 256) (originOf (m .kind) / 256 ^ 0 % 256) (numberOf (bytesOf 2 (quantityOf (m .kind)))) ≡ m .kind
   message-kind =
-      rw (byte-back (kindNumber (m .kind)) (kind-fits (m .kind)), byte-back (originOf (m .kind)) (r .origin), number-of-bytes 2 (quantityOf (m .kind)) (r .quantity))
-      (kind-back (m .kind))
+      rw (
+        byte-back (kindNumber (m .kind)) (kind-fits (m .kind)),
+        byte-back (originOf (m .kind)) (r .origin),
+        number-of-bytes 2 (quantityOf
+            (m .kind)) (r .quantity),
+      )
+      (kind-again (m .kind))
 
   pub message-back : messageOf (messageBytes mark m ++ rest) ≡ m
   unfolding messageBytes messageOf bytesOf part
@@ -102,14 +100,15 @@ module _ (mark : ℕ) (m : Message) (rest : List ℕ) (r : MessageFits m) where
 
 -- a queue place
 module _ (e : Entry) (r : EntryFits e) where
-  pub entry-length : length (entryBytes e) ≡ 64
+  pub entry-length : length (entryBytes e) ≡ queueSize
   entry-length = length-entry e (r .message .lamp)
 
-  saved : part (entryBytes e) 30 14 ≡ stateBytes (e .before)
+  saved : part (entryBytes e) messageSize stateSize ≡ stateBytes (e .before)
   unfolding entryBytes
   saved =
-      part-back (messageBytes (markNumber (e .mark)) (e .message)) (stateBytes (e .before) ++ replicate 20 0) 30 0 14 (length-message (markNumber (e .mark)) (e .message) (r .message .lamp))
-      ∙ part-front (stateBytes (e .before)) (replicate 20 0) 14 (length-state (e .before))
+      part-back (messageBytes (markNumber (e .mark)) (e .message)) (stateBytes (e .before) ++ replicate 20 0) messageSize 0 stateSize (length-message
+      (markNumber (e .mark)) (e .message) (r .message .lamp))
+      ∙ part-front (stateBytes (e .before)) (replicate 20 0) stateSize (length-state (e .before))
 
   entry-mark : markOf (getD (entryBytes e) 0 0) ≡ e .mark
   unfolding entryBytes messageBytes bytesOf
@@ -119,7 +118,7 @@ module _ (e : Entry) (r : EntryFits e) where
   unfolding entryBytes
   entry-message = message-back (markNumber (e .mark)) (e .message) (stateBytes (e .before) ++ replicate 20 0) (r .message)
 
-  pub entry-kept : ReadBack entryBytes entryOf 64 e
+  pub entry-kept : ReadBack entryBytes entryOf queueSize e
   unfolding entryOf
   entry-kept = record {
     sized = entry-length;
@@ -128,7 +127,7 @@ module _ (e : Entry) (r : EntryFits e) where
 
 -- an outstanding place
 module _ (s : Sent) (r : SentFits s) where
-  pub sent-length : length (sentBytes s) ≡ 32
+  pub sent-length : length (sentBytes s) ≡ outstandingSize
   sent-length = length-sent s (r .message .lamp)
 
   sent-cancel : eqb (getD (sentBytes s) 0 0) 1 ≡ s .cancel
@@ -139,7 +138,7 @@ module _ (s : Sent) (r : SentFits s) where
   unfolding sentBytes
   sent-message = message-back (cancelNumber (s .cancel)) (s .message) (replicate 2 0) (r .message)
 
-  pub sent-kept : ReadBack sentBytes sentOf 32 s
+  pub sent-kept : ReadBack sentBytes sentOf outstandingSize s
   unfolding sentOf
   sent-kept = record { sized = sent-length; back = λ i. record { message = sent-message i; cancel = sent-cancel i } }
 
@@ -148,17 +147,17 @@ pub length-front : (h : Header) → length (headerFront h) ≡ 5
 unfolding headerFront bytesOf
 length-front h = refl
 
-pub length-back : (h : Header) → length (headerBack h) ≡ 34
+pub length-back : (h : Header) → length (headerBack h) ≡ backSize
 unfolding headerBack bytesOf
 length-back h = refl
 
-module _ (h : Header) (r : HeaderFits h) (m : List ℕ) (front : part m 0 5 ≡ headerFront h) (back : part m 6 34 ≡ headerBack h) where
+module _ (h : Header) (r : HeaderFits h) (m : List ℕ) (front : part m 0 5 ≡ headerFront h) (back : part m 6 backSize ≡ headerBack h) where
   -- a byte of the front and a number of the back
   header-byte : (k x : ℕ) → k < 5 → getD (headerFront h) k 0 ≡ x / 256 ^ 0 % 256 → x < 256 → getD m (0 + k) 0 ≡ x
   header-byte k x lt e small = sym (getD-part m 0 5 k lt) ∙ (ap (λ l. getD l k 0) front ∙ (e ∙ byte-back x small))
 
-  header-number : (k n x : ℕ) → k + n ≤ 34 → part (headerBack h) k n ≡ bytesOf n x → x < 256 ^ n → numberOf (part m (6 + k) n) ≡ x
-  header-number k n x lt e small = ap numberOf (sym (part-part m 6 34 k n lt) ∙ (ap (λ l. part l k n) back ∙ e)) ∙ number-of-bytes n x small
+  header-number : (k n x : ℕ) → k + n ≤ backSize → part (headerBack h) k n ≡ bytesOf n x → x < 256 ^ n → numberOf (part m (6 + k) n) ≡ x
+  header-number k n x lt e small = ap numberOf (sym (part-part m 6 backSize k n lt) ∙ (ap (λ l. part l k n) back ∙ e)) ∙ number-of-bytes n x small
 
   pub phase-byte : getD m 3 0 ≡ phaseNumber (h .round .phase)
   unfolding headerFront bytesOf

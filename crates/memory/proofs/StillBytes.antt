@@ -7,6 +7,8 @@ use mathlib.Core.List.{List, [], _∷_, _++_}
 use lib.Dec.{leb, lit<}
 use lib.ListN.{length, getD, take, drop, replicate, take-append-drop}
 use borrow.Author.Tests.{leb-true}
+use Rattle.lists.specs.Lists.{joined, All, nil, cons}
+use Rattle.lists.proofs.ListLaws.{all-of, all-append, all-left, all-right}
 use Rattle.buffer.specs.Slice.{Bytes, write}
 use Rattle.buffer.specs.Number.{bytesOf}
 use Rattle.model.specs.Messages.{kindNumber, originOf, quantityOf}
@@ -16,14 +18,13 @@ use Rattle.frame.specs.Kinds.{hasLamp}
 use Rattle.frame.specs.Writing.{allBetween, lampFits, wellFormed}
 use Rattle.memory.specs.Records.{Gateway, headerOf}
 use Rattle.memory.specs.Layout.{headerSize, outstandingAt}
-use Rattle.memory.specs.Codec.{markNumber, phaseNumber, cancelNumber, stateBytes, messageBytes, entryBytes, sentBytes, headerFront, headerBack, placesBytes, encode}
+use Rattle.memory.specs.Codec.{markNumber, phaseNumber, cancelNumber, stateBytes, messageBytes, entryBytes, sentBytes, headerFront, headerBack, encode}
 use Rattle.memory.specs.Validity.{isWaiting, frameIf}
 use Rattle.memory.specs.declared.Header.{Header}
 use Rattle.memory.specs.declared.Entry.{Entry}
 use Rattle.memory.specs.declared.Sent.{Sent}
-use Rattle.memory.specs.Fits.{All, nil, cons}
-use Rattle.memory.proofs.Validated.{Valid, and-left, and-right}
-use Rattle.memory.proofs.Places.{all-of, all-append, all-front, all-back}
+use Rattle.memory.proofs.Validated.{Valid}
+use Rattle.lists.proofs.BoolLaws.{and-left, and-right}
 
 abbrev Byte : ℕ → Type 0
 Byte b = b < 256
@@ -42,8 +43,8 @@ written : (at : ℕ) {xs m : List ℕ} → All Byte xs → All Byte m → All By
 unfolding write
 written at {xs} {m} p q =
     all-append
-    (all-front (take at m) (drop at m) (rw take-append-drop q))
-    (all-append p (all-back (take (at + length xs) m) (drop (at + length xs) m) (rw take-append-drop q)))
+    (all-left (take at m) (drop at m) (rw take-append-drop q))
+    (all-append p (all-right (take (at + length xs) m) (drop (at + length xs) m) (rw take-append-drop q)))
 
 zeros : (n : ℕ) → All Byte (replicate n 0)
 zeros zero = nil
@@ -58,8 +59,8 @@ number-bytes (suc width) n = let top : Byte (n / 256 ^ width % 256) = omega arit
 with-number : (width n : ℕ) {rest : List ℕ} → All Byte rest → All Byte (bytesOf width n ++ rest)
 with-number width n p = all-append (number-bytes width n) p
 
-places-bytes : {A : Type 0} (f : A → List ℕ) {xs : List A} → All (λ x. All Byte (f x)) xs → All Byte (placesBytes f xs)
-unfolding placesBytes
+places-bytes : {A : Type 0} (f : A → List ℕ) {xs : List A} → All (λ x. All Byte (f x)) xs → All Byte (joined f xs)
+unfolding joined
 places-bytes f nil = nil
 places-bytes f (cons p ps) = all-append p (places-bytes f ps)
 

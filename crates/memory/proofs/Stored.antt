@@ -1,10 +1,11 @@
 -- Bytes written one behind the other are one write: the header, a state, a message, a place.
-use mathlib.Core.Path.{_≡_, refl, _∙_, ap}
+use mathlib.Core.Path.{_≡_, refl, _∙_}
 use Prim.Native.Nat.{ℕ, _+_, _-_, _<_, _≤_}
 use native.Mathlib.Omega.{arith}
 use mathlib.Core.List.{List, [], _∷_, _++_, append-assoc}
 use lib.ListN.{length, set, take, drop, replicate, length-append}
 use borrow.Author.Tests.{ne-eqb}
+use Rattle.buffer.proofs.Numbers.{one-byte}
 use Rattle.buffer.specs.Slice.{part, write}
 use Rattle.buffer.specs.Number.{bytesOf}
 use Rattle.buffer.proofs.Writes.{length-write, write-join, write-snoc, set-write}
@@ -12,7 +13,9 @@ use Rattle.buffer.proofs.Numbers.{length-bytesOf}
 use Rattle.model.specs.Messages.{kindNumber, originOf, quantityOf}
 use Rattle.model.specs.declared.Message.{Message}
 use Rattle.model.specs.declared.State.{State}
-use Rattle.memory.specs.Codec.{markOf, phaseOf, markNumber, phaseNumber, cancelNumber, stateBytes, messageBytes, entryBytes, sentBytes, headerFront, headerBack}
+use Rattle.memory.specs.Layout.{headerUsed, messageSize, outstandingSize, queueSize, stateSize, zerosAt}
+use Rattle.memory.specs.Codec.{markOf, phaseOf, markNumber, phaseNumber, cancelNumber, stateBytes, messageBytes, entryBytes}
+use Rattle.memory.specs.Codec.{sentBytes, headerFront, headerBack}
 use Rattle.memory.specs.declared.Header.{Header}
 use Rattle.memory.specs.declared.Entry.{Entry}
 use Rattle.memory.specs.declared.Sent.{Sent}
@@ -30,12 +33,8 @@ unfolding part
 part-between m at n = let e : at + n - at ≡ n = omega arith in rw e
 
 -- one byte, and two
-byte : (x : ℕ) → x < 256 → bytesOf 1 x ≡ x ∷ []
-unfolding bytesOf
-byte x h = ap (λ (y : ℕ). y ∷ []) (omega arith)
-
 pub pair-stored : (m : List ℕ) (at a b : ℕ) → at + 2 ≤ length m → a < 256 → b < 256 → set (set m at a) (at + 1) b ≡ write at (bytesOf 1 a ++ bytesOf 1 b) m
-pair-stored m at a b fits ha hb = rw (byte a ha, byte b hb, set-write m at a (omega arith)) (write-snoc at (a ∷ []) m b (at + 1) (omega arith) refl)
+pair-stored m at a b fits ha hb = rw (one-byte a ha, one-byte b hb, set-write m at a (omega arith)) (write-snoc at (a ∷ []) m b (at + 1) (omega arith) refl)
 
 length-pair : (a b : ℕ) → length (bytesOf 1 a ++ bytesOf 1 b) ≡ 2
 length-pair a b = simp (length-append, length-bytesOf)
@@ -48,7 +47,7 @@ front-stored m a b c e phase fits small number p q =
     let d = phaseNumber phase in
     let pairs = (bytesOf 1 a ++ bytesOf 1 b) ++ (bytesOf 1 c ++ bytesOf 1 d) in
     let four : length pairs ≡ 4 = simp (length-append, length-bytesOf) in
-    rw (q, p, number, write-behind 0 2 2 (bytesOf 1 a ++ bytesOf 1 b) (bytesOf 1 c ++ bytesOf 1 d) m (length-pair a b) refl (omega arith), byte e small)
+    rw (q, p, number, write-behind 0 2 2 (bytesOf 1 a ++ bytesOf 1 b) (bytesOf 1 c ++ bytesOf 1 d) m (length-pair a b) refl (omega arith), one-byte e small)
     (write-snoc 0 pairs m e 4 (omega arith) (omega arith) ∙ simp append-assoc)
 
 -- three numbers of four bytes
@@ -80,25 +79,28 @@ five-stored m at a b c d e fits p q r t u =
       write-behind at 2 (at + 2) (bytesOf 2 a) (bytesOf 2 b) m (length-bytesOf 2 a) refl (omega arith),
       write-behind at 4 (at + 4) (bytesOf 2 a ++ bytesOf 2 b) (bytesOf 2 c) m (simp (length-append, length-bytesOf)) refl (omega arith),
       write-behind at 6 (at + 6) ((bytesOf 2 a ++ bytesOf 2 b) ++ bytesOf 2 c) (bytesOf 2 d) m (simp (length-append, length-bytesOf)) refl (omega arith),
-      write-behind at 8 (at + 8) (((bytesOf 2 a ++ bytesOf 2 b) ++ bytesOf 2 c) ++ bytesOf 2 d) (bytesOf 2 e) m (simp (length-append, length-bytesOf)) refl (omega arith),
+      write-behind at 8 (at + 8) (((bytesOf 2 a ++ bytesOf 2 b) ++ bytesOf 2 c) ++ bytesOf 2 d) (bytesOf 2 e) m (simp (
+        length-append,
+        length-bytesOf,
+      )) refl (omega arith),
     )
     (simp append-assoc)
 
-pub state-stored : (m : List ℕ) (at : ℕ) (s : State) {m₁ m₂ : List ℕ} → at + 14 ≤ length m
+pub state-stored : (m : List ℕ) (at : ℕ) (s : State) {m₁ m₂ : List ℕ} → at + stateSize ≤ length m
     → m₁ ≡ write at (bytesOf 2 (s .stock)) m → m₂ ≡ write (at + 2) (bytesOf 4 (s .failed) ++ (bytesOf 4 (s .fitted) ++ bytesOf 4 (s .short))) m₁
     → m₂ ≡ write at (stateBytes s) m
 unfolding stateBytes
 state-stored m at s fits p q = q ∙ rw p (write-behind at 2 (at + 2) (bytesOf 2 (s .stock)) _ m (length-bytesOf 2 (s .stock)) refl (omega arith))
 
-pub length-state : (s : State) → length (stateBytes s) ≡ 14
+pub length-state : (s : State) → length (stateBytes s) ≡ stateSize
 unfolding stateBytes
 length-state s = simp (length-append, length-bytesOf)
 
-pub length-message : (mark : ℕ) (m : Message) → length (m .lamp) ≡ 18 → length (messageBytes mark m) ≡ 30
+pub length-message : (mark : ℕ) (m : Message) → length (m .lamp) ≡ 18 → length (messageBytes mark m) ≡ messageSize
 unfolding messageBytes
 length-message mark m h = simp (length-append, length-bytesOf) (omega arith)
 
-pub message-stored : (m : List ℕ) (at mark : ℕ) (x : Message) {m₁ m₂ m₃ m₄ m₅ m₆ : List ℕ} {kind origin quantity : ℕ} → at + 30 ≤ length m
+pub message-stored : (m : List ℕ) (at mark : ℕ) (x : Message) {m₁ m₂ m₃ m₄ m₅ m₆ : List ℕ} {kind origin quantity : ℕ} → at + messageSize ≤ length m
     → kind ≡ kindNumber (x .kind) → origin ≡ originOf (x .kind) → quantity ≡ quantityOf (x .kind)
     → m₁ ≡ write at (bytesOf 1 mark ++ bytesOf 1 kind) m → m₂ ≡ write (at + 2) (bytesOf 1 (x .from) ++ bytesOf 1 (x .to)) m₁
     → m₃ ≡ write (at + 4) (bytesOf 4 (x .hour)) m₂ → m₄ ≡ write (at + 8) (bytesOf 1 origin ++ bytesOf 1 0) m₃
@@ -129,53 +131,62 @@ message-stored m at mark x fits kind origin quantity p₁ p₂ p₃ p₄ p₅ p�
     )
     (simp append-assoc)
 
-pub length-entry : (e : Entry) → length (e .message .lamp) ≡ 18 → length (entryBytes e) ≡ 64
+pub length-entry : (e : Entry) → length (e .message .lamp) ≡ 18 → length (entryBytes e) ≡ queueSize
 unfolding entryBytes
 length-entry e h = simp (length-append, length-bytesOf) (omega arith)
 
-pub entry-stored : (m : List ℕ) (at : ℕ) (e : Entry) {m₁ m₂ m₃ : List ℕ} {mark : ℕ} → length (e .message .lamp) ≡ 18 → at + 64 ≤ length m → mark ≡ markNumber (e .mark)
-    → m₁ ≡ write at (messageBytes mark (e .message)) m → m₂ ≡ write (at + 30) (stateBytes (e .before)) m₁ → m₃ ≡ write (at + 44) (replicate 20 0) m₂
+pub entry-stored : (m : List ℕ) (at : ℕ) (e : Entry) {m₁ m₂ m₃ : List ℕ} {mark : ℕ} → length (e .message .lamp) ≡ 18 → at + queueSize ≤ length m →
+    mark ≡ markNumber (e .mark)
+    → m₁ ≡ write at (messageBytes mark (e .message)) m → m₂ ≡ write (at + messageSize) (stateBytes (e .before)) m₁ → m₃ ≡ write (at +
+    zerosAt) (replicate 20 0) m₂
     → m₃ ≡ write at (entryBytes e) m
 unfolding entryBytes
 entry-stored m at e size fits mark p q r =
     let a = messageBytes (markNumber (e .mark)) (e .message) in
-    let l : length a ≡ 30 = length-message (markNumber (e .mark)) (e .message) size in
+    let l : length a ≡ messageSize = length-message (markNumber (e .mark)) (e .message) size in
     r
     ∙ rw (
       q,
       p,
       mark,
-      write-behind at 30 (at + 30) a (stateBytes (e .before)) m l refl (omega arith),
-      write-behind at 44 (at + 44) (a ++ stateBytes (e .before)) (replicate 20 0) m (simp (length-append, length-bytesOf) (omega arith)) refl (omega arith),
+      write-behind at messageSize (at + messageSize) a (stateBytes (e .before)) m l refl (omega arith),
+      write-behind at zerosAt (at + zerosAt) (a ++ stateBytes (e .before)) (replicate 20 0) m (simp (length-append, length-bytesOf) (omega
+          arith)) refl (omega arith),
     )
     (simp append-assoc)
 
-pub length-sent : (s : Sent) → length (s .message .lamp) ≡ 18 → length (sentBytes s) ≡ 32
+pub length-sent : (s : Sent) → length (s .message .lamp) ≡ 18 → length (sentBytes s) ≡ outstandingSize
 unfolding sentBytes
 length-sent s h = simp (length-append, length-bytesOf) (omega arith)
 
-pub sent-stored : (m : List ℕ) (at : ℕ) (s : Sent) {m₁ m₂ : List ℕ} {number : ℕ} → length (s .message .lamp) ≡ 18 → at + 32 ≤ length m → number ≡ cancelNumber (s .cancel)
-    → m₁ ≡ write at (messageBytes number (s .message)) m → m₂ ≡ write (at + 30) (bytesOf 2 0) m₁
+pub sent-stored : (m : List ℕ) (at : ℕ) (s : Sent) {m₁ m₂ : List ℕ} {number : ℕ} → length (s .message .lamp) ≡ 18 → at + outstandingSize ≤ length m →
+    number ≡ cancelNumber (s .cancel)
+    → m₁ ≡ write at (messageBytes number (s .message)) m → m₂ ≡ write (at + messageSize) (bytesOf 2 0) m₁
     → m₂ ≡ write at (sentBytes s) m
 unfolding sentBytes bytesOf
 sent-stored m at s size fits number p q =
     let mark = cancelNumber (s .cancel) in
     q
     ∙ rw (p, number)
-    (write-behind at 30 (at + 30) (messageBytes mark (s .message)) (replicate 2 0) m (length-message mark (s .message) size) refl (omega arith))
+    (write-behind at messageSize (at + messageSize) (messageBytes mark (s .message)) (replicate 2 0) m (length-message mark (s .message)
+    size) refl (omega arith))
 
 -- the header, its four stretches behind byte 5 and the one before it
-pub header-stored : (m : List ℕ) (h : Header) {m₁ m₂ m₃ m₄ : List ℕ} → 40 ≤ length m
-    → m₁ ≡ write 0 (bytesOf 1 (h .settings .n) ++ (bytesOf 1 (h .settings .own) ++ (bytesOf 1 (h .settings .supplier) ++ (bytesOf 1 (phaseNumber (h .round .phase)) ++ bytesOf 1 (h .round .arrived))))) m
-    → m₂ ≡ write 6 (bytesOf 2 (h .settings .q) ++ (bytesOf 2 (h .settings .u) ++ (bytesOf 2 (h .queued) ++ (bytesOf 2 (h .outstanding) ++ bytesOf 2 (h .state .stock))))) m₁
+pub header-stored : (m : List ℕ) (h : Header) {m₁ m₂ m₃ m₄ : List ℕ} → headerUsed ≤ length m
+    → m₁ ≡ write 0 (bytesOf 1 (h .settings .n) ++ (bytesOf 1 (h .settings .own) ++ (bytesOf 1 (h .settings .supplier) ++ (bytesOf 1
+    (phaseNumber (h .round .phase)) ++ bytesOf 1 (h .round .arrived))))) m
+    → m₂ ≡ write 6 (bytesOf 2 (h .settings .q) ++ (bytesOf 2 (h .settings .u) ++ (bytesOf 2 (h .queued) ++ (bytesOf 2 (h .outstanding) ++
+    bytesOf 2 (h .state .stock))))) m₁
     → m₃ ≡ write 16 (bytesOf 4 (h .settings .last) ++ (bytesOf 4 (h .agreed) ++ bytesOf 4 (h .round .note))) m₂
     → m₄ ≡ write 28 (bytesOf 4 (h .state .failed) ++ (bytesOf 4 (h .state .fitted) ++ bytesOf 4 (h .state .short))) m₃
     → m₄ ≡ write 6 (headerBack h) (write 0 (headerFront h) m)
 unfolding headerFront headerBack
 header-stored m h fits p q r t =
-    let counts = bytesOf 2 (h .settings .q) ++ (bytesOf 2 (h .settings .u) ++ (bytesOf 2 (h .queued) ++ (bytesOf 2 (h .outstanding) ++ bytesOf 2 (h .state .stock)))) in
+    let counts = bytesOf 2 (h .settings .q) ++ (bytesOf 2 (h .settings .u) ++ (bytesOf 2 (h .queued) ++ (bytesOf 2 (h .outstanding) ++
+    bytesOf 2 (h .state .stock)))) in
     let times = bytesOf 4 (h .settings .last) ++ (bytesOf 4 (h .agreed) ++ bytesOf 4 (h .round .note)) in
-    let front = bytesOf 1 (h .settings .n) ++ (bytesOf 1 (h .settings .own) ++ (bytesOf 1 (h .settings .supplier) ++ (bytesOf 1 (phaseNumber (h .round .phase)) ++ bytesOf 1 (h .round .arrived)))) in
+    let front = bytesOf 1 (h .settings .n) ++ (bytesOf 1 (h .settings .own) ++ (bytesOf 1 (h .settings .supplier) ++ (bytesOf 1 (phaseNumber
+    (h .round .phase)) ++ bytesOf 1 (h .round .arrived)))) in
     let five : length front ≡ 5 = simp (length-append, length-bytesOf) in
     let whole : length (write 0 front m) ≡ length m = length-write 0 front m (omega arith) in
     t

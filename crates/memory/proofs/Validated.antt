@@ -6,29 +6,19 @@ use mathlib.Core.List.{List, [], _∷_, List·Memᴰ·head as here, List·Memᴰ
 use Prim.Native.Nat.{_≤_, _<_}
 use lib.ListN.{length}
 use borrow.Author.Tests.{leb-true, ltb-true, eqb-true, not-true, le-leb, lt-ltb, eq-eqb}
-use Rattle.routing.specs.Arcs.{_∈_, Ascending, none, more}
+use Rattle.lists.specs.Lists.{_∈_, Ascending, none, more, every}
 use Rattle.model.specs.Messages.{kindNumber, originOf}
 use Rattle.model.specs.declared.Message.{Message}
 use Rattle.frame.specs.Writing.{wellFormed}
 use Rattle.frame.specs.Limits.{nothingDue}
 use Rattle.memory.specs.Records.{Gateway}
-use Rattle.memory.specs.Validity.{every, settingsValid, roundPossible, isPending, isProcessed, isWaiting, equal, later, ordered, processedFirst, meet, noneMeet, frameIf, storable, isNoState, entryValid, sentValid, valid}
+use Rattle.memory.specs.Validity.{settingsValid, roundPossible, isPending, isProcessed, isWaiting, equal, later, ordered}
+use Rattle.memory.specs.Validity.{processedFirst, meet, noneMeet, frameIf, storable, isNoState, entryValid, sentValid, valid}
 use Rattle.memory.specs.declared.Settings.{Settings}
 use Rattle.memory.specs.declared.Entry.{Entry}
 use Rattle.memory.specs.declared.Sent.{Sent}
 use Rattle.memory.proofs.EventLaws.{not-later-transitive, neither-later, equal-same, same-equal}
-
-pub and-left : (a b : Bool) → (a && b) ≡ true → a ≡ true
-and-left true b e = refl
-and-left false b e = e
-
-pub and-right : (a b : Bool) → (a && b) ≡ true → b ≡ true
-and-right true b e = e
-and-right false b e = absurd (false≢true e)
-
-pub and-both : (a b : Bool) → a ≡ true → b ≡ true → (a && b) ≡ true
-and-both true b e f = f
-and-both false b e f = e
+use Rattle.lists.proofs.BoolLaws.{and-both, and-left, and-right}
 
 -- every element passes
 module _ {A : Type 0} (f : A → Bool) where
@@ -76,7 +66,19 @@ module _ (s : Settings) where
 
   pub facts-settings : ValidSettings s → settingsValid s ≡ true
   unfolding settingsValid
-  facts-settings v = rw (le-leb 1 (s .n) (v .some), le-leb (s .n) 255 (v .n), lt-ltb (s .own) (s .n) (v .own), lt-ltb (s .supplier) (s .n) (v .supplier), lt-ltb (s .last) nothingDue (v .last), le-leb 1 (s .q) (v .q-some), le-leb (s .q) 512 (v .q), le-leb 1 (s .u) (v .u-some), le-leb (s .u) 512 (v .u))
+  facts-settings v = rw (
+    le-leb 1 (s .n) (v .some),
+    le-leb (s .n) 255 (v .n),
+    lt-ltb (s .own) (s .n) (v .own),
+    lt-ltb (s .supplier) (s .n)
+        (v .supplier),
+    lt-ltb (s .last) nothingDue (v .last),
+    le-leb 1 (s .q) (v .q-some),
+    le-leb (s .q) 512 (v .q),
+    le-leb 1 (s .u)
+        (v .u-some),
+    le-leb (s .u) 512 (v .u),
+  )
 
 -- a stored message
 pub record Storable (s : Settings) (cancel : Bool) (m : Message) : Type 0 where
@@ -102,7 +104,15 @@ module _ (s : Settings) (cancel : Bool) (m : Message) where
 
   pub facts-storable : Storable s cancel m → storable s cancel m ≡ true
   unfolding storable
-  facts-storable v = rw (le-leb (kindNumber (m .kind)) 3 (v .kind), v .form, lt-ltb (m .from) (s .n) (v .from), lt-ltb (m .to) (s .n) (v .to), lt-ltb (originOf (m .kind)) (s .n) (v .origin), le-leb (m .hour) (s .last) (v .hour))
+  facts-storable v = rw (
+    le-leb (kindNumber (m .kind)) 3 (v .kind),
+    v .form,
+    lt-ltb (m .from) (s .n) (v .from),
+    lt-ltb (m .to) (s .n)
+        (v .to),
+    lt-ltb (originOf (m .kind)) (s .n) (v .origin),
+    le-leb (m .hour) (s .last) (v .hour),
+  )
 
 -- a queued one, and an outstanding one
 pub record ValidEntry (s : Settings) (e : Entry) : Type 0 where
@@ -140,7 +150,12 @@ module _ (s : Settings) where
 
   pub facts-sent : (x : Sent) → ValidSent s x → sentValid s x ≡ true
   unfolding sentValid
-  facts-sent x v = rw (facts-storable s (x .cancel) (x .message) (v .message), le-leb (kindNumber (x .message .kind)) 2 (v .kind), eq-eqb (x .message .from) (s .own) (v .from))
+  facts-sent x v = rw (
+    facts-storable s (x .cancel) (x .message) (v .message),
+    le-leb (kindNumber (x .message .kind)) 2 (v .kind),
+    eq-eqb
+        (x .message .from) (s .own) (v .from),
+  )
 
 -- e may stand before f in a queue: it is not later, not an unprocessed plain message before a processed one, and of equal
 -- messages both are waiting cancels or neither is
@@ -226,8 +241,10 @@ queue-facts (e ∷ []) o p n = more (λ g m. absurd (List·Memᴰ·not-nil m)) n
 queue-facts (e ∷ f ∷ es) o p n =
     let order = not-true (later (e .message) (f .message)) (and-left (not (later (e .message) (f .message))) (ordered (f ∷ es)) o) in
     let apart = not-meeting e f (and-left (not (meet e f)) (noneMeet (f ∷ es)) n) in
-    let marks : isPending e ≡ true → (g : Entry) → g ∈ (f ∷ es) → isProcessed g ≡ false = λ h. none-processed (f ∷ es) (subst (λ (t : Bool). processedFirst t (f ∷ es) ≡ true) h p) in
-    let rest = queue-facts (f ∷ es) (and-right (not (later (e .message) (f .message))) (ordered (f ∷ es)) o) (seen-or-not (isPending e) (f ∷ es) p) (and-right (not (meet e f)) (noneMeet (f ∷ es)) n) in
+    let marks : isPending e ≡ true → (g : Entry) → g ∈ (f ∷ es) → isProcessed g ≡ false = λ h. none-processed (f ∷ es) (subst (λ (t : Bool).
+    processedFirst t (f ∷ es) ≡ true) h p) in
+    let rest = queue-facts (f ∷ es) (and-right (not (later (e .message) (f .message))) (ordered (f ∷ es)) o) (seen-or-not (isPending e) (f ∷
+    es) p) (and-right (not (meet e f)) (noneMeet (f ∷ es)) n) in
     more (stands-first e f order apart marks rest) rest
 
 -- and back
@@ -235,15 +252,18 @@ facts-ordered : (es : List Entry) → Ascending MayStand es → ordered es ≡ t
 unfolding ordered
 facts-ordered [] a = refl
 facts-ordered (e ∷ []) a = refl
-facts-ordered (e ∷ f ∷ es) a = and-both (not (later (e .message) (f .message))) (ordered (f ∷ es)) (ap not (first-of a f (here refl) .order)) (facts-ordered (f ∷ es) (rest-of a))
+facts-ordered (e ∷ f ∷ es) a = and-both (not (later (e .message) (f .message))) (ordered (f ∷ es)) (ap not (first-of a f (here
+    refl) .order)) (facts-ordered (f ∷ es) (rest-of a))
 
 facts-apart : (es : List Entry) → Ascending MayStand es → noneMeet es ≡ true
 unfolding noneMeet
 facts-apart [] a = refl
 facts-apart (e ∷ []) a = refl
-facts-apart (e ∷ f ∷ es) a = and-both (not (meet e f)) (noneMeet (f ∷ es)) (meeting-not e f (first-of a f (here refl) .apart)) (facts-apart (f ∷ es) (rest-of a))
+facts-apart (e ∷ f ∷ es) a = and-both (not (meet e f)) (noneMeet (f ∷ es)) (meeting-not e f (first-of a f (here refl) .apart)) (facts-apart
+    (f ∷ es) (rest-of a))
 
-facts-processed : (seen : Bool) (es : List Entry) → (seen ≡ true → (f : Entry) → f ∈ es → isProcessed f ≡ false) → Ascending MayStand es → processedFirst seen es ≡ true
+facts-processed : (seen : Bool) (es : List Entry) → (seen ≡ true → (f : Entry) → f ∈ es → isProcessed f ≡ false) → Ascending MayStand es →
+    processedFirst seen es ≡ true
 unfolding processedFirst
 facts-processed seen [] h a = refl
 facts-processed seen (e ∷ es) h a =
@@ -285,4 +305,18 @@ module _ (g : Gateway) where
 
   pub facts-valid : Valid g → valid g ≡ true
   unfolding valid
-  facts-valid v = rw (facts-settings (g .settings) (v .settings), le-leb (length (g .queue)) (g .settings .q) (v .queued), le-leb (length (g .outstanding)) (g .settings .u) (v .sent), v .round, each-every (entryValid (g .settings)) (g .queue) (λ e m. facts-entry (g .settings) e (v .entries e m)), facts-ordered (g .queue) (v .order), facts-processed false (g .queue) (λ k. absurd (false≢true k)) (v .order), facts-apart (g .queue) (v .order), each-every (sentValid (g .settings)) (g .outstanding) (λ x m. facts-sent (g .settings) x (v .outstanding x m)))
+  facts-valid v = rw (
+    facts-settings (g .settings) (v .settings),
+    le-leb (length (g .queue)) (g .settings .q) (v .queued),
+    le-leb (length
+        (g .outstanding)) (g .settings .u) (v .sent),
+    v .round,
+    each-every (entryValid (g .settings)) (g .queue) (λ e m. facts-entry
+        (g .settings) e (v .entries e m)),
+    facts-ordered (g .queue) (v .order),
+    facts-processed false (g .queue) (λ k. absurd (false≢true k))
+        (v .order),
+    facts-apart (g .queue) (v .order),
+    each-every (sentValid (g .settings)) (g .outstanding) (λ x m. facts-sent (g .settings)
+        x (v .outstanding x m)),
+  )

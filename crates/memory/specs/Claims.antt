@@ -7,7 +7,7 @@ use lib.ListN.{length}
 use Rattle.buffer.specs.Slice.{Bytes, part}
 use Rattle.memory.specs.Records.{Gateway}
 use Rattle.memory.specs.Ranges.{Ranged}
-use Rattle.memory.specs.Layout.{headerSize, queueSize, outstandingSize, outstandingAt, sizeFor}
+use Rattle.memory.specs.Layout.{headerSize, frontSize, backAt, backSize, queueSize, outstandingSize, outstandingAt, sizeFor}
 use Rattle.memory.specs.Codec.{decode, encode}
 use Rattle.memory.specs.Validity.{valid}
 use Rattle.memory.specs.Soundness.{sound}
@@ -19,8 +19,8 @@ pub data Apart (from n at size : ℕ) : Type 0 where
 
 -- these bytes are none that a gateway is written to: not the header's used ones, nor a used place
 pub record Untouched (g : Gateway) (from n : ℕ) : Type 0 where
-  pub front : Apart from n 0 5
-  pub back : Apart from n 6 34
+  pub front : Apart from n 0 frontSize
+  pub back : Apart from n backAt backSize
   pub queue : Apart from n headerSize (queueSize * length (g .queue))
   pub outstanding : Apart from n (outstandingAt (g .settings .q) 0) (outstandingSize * length (g .outstanding))
 

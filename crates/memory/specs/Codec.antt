@@ -1,19 +1,19 @@
 -- A gateway's bytes: what each header field and each place holds, and the gateway that bytes stand for.
-use Prim.Native.Nat.{ℕ, zero, suc, _+_, _*_}
-use mathlib.Core.Bool.{Bool, true, false, cond}
+use Prim.Native.Nat.{ℕ, zero, suc, _+_}
+use mathlib.Core.Bool.{Bool, cond}
 use mathlib.Core.List.{List, [], _∷_, _++_}
 use lib.Dec.{eqb}
-use lib.ListN.{length, getD, replicate}
+use lib.ListN.{getD, replicate}
+use Rattle.lists.specs.Lists.{joined}
 use Rattle.buffer.specs.Slice.{part, write}
 use Rattle.buffer.specs.Number.{bytesOf, numberOf}
 use Rattle.model.specs.Messages.{kindNumber, originOf, quantityOf, kindOf}
 use Rattle.model.specs.declared.Message.{Message}
 use Rattle.model.specs.declared.State.{State}
 use Rattle.memory.specs.Records.{Gateway, headerOf}
-use Rattle.memory.specs.Layout.{headerSize, queueSize, outstandingSize, queueAt, outstandingAt}
-use Rattle.memory.specs.declared.Settings.{Settings}
+use Rattle.memory.specs.Layout.{headerSize, backAt, queuedAt, outstandingCountAt, queueSize, outstandingSize, messageSize, stateSize}
+use Rattle.memory.specs.Layout.{zerosSize, outstandingAt}
 use Rattle.memory.specs.declared.Header.{Header}
-use Rattle.memory.specs.declared.Round.{Round}
 use Rattle.memory.specs.declared.Entry.{Entry}
 use Rattle.memory.specs.declared.Sent.{Sent}
 use Rattle.memory.specs.declared.Mark.{Mark}
@@ -80,12 +80,12 @@ messageOf b = record {
 -- a queue place's sixty-four bytes
 unfoldable pub entryBytes : Entry → List ℕ
 unfolding messageBytes stateBytes
-entryBytes e = messageBytes (markNumber (e .mark)) (e .message) ++ (stateBytes (e .before) ++ replicate 20 0)
+entryBytes e = messageBytes (markNumber (e .mark)) (e .message) ++ (stateBytes (e .before) ++ replicate zerosSize 0)
 
 -- the entry that a queue place holds
 unfoldable pub entryOf : List ℕ → Entry
 unfolding messageOf stateOf
-entryOf b = record { message = messageOf b; mark = markOf (getD b 0 0); before = stateOf (part b 30 14) }
+entryOf b = record { message = messageOf b; mark = markOf (getD b 0 0); before = stateOf (part b messageSize stateSize) }
 
 -- an outstanding place's thirty-two bytes
 unfoldable pub sentBytes : Sent → List ℕ
@@ -116,8 +116,8 @@ headerAt m = record {
   };
   agreed = numberOf (part m 20 4);
   round = record { phase = phaseOf (getD m 3 0); arrived = getD m 4 0; note = numberOf (part m 24 4) };
-  queued = numberOf (part m 10 2);
-  outstanding = numberOf (part m 12 2);
+  queued = numberOf (part m queuedAt 2);
+  outstanding = numberOf (part m outstandingCountAt 2);
 }
 
 -- the header's bytes 0 to 4 and 6 to 39; byte 5 is not used
@@ -148,11 +148,6 @@ unfoldable pub placesAt : {A : Type 0} → (List ℕ → A) → ℕ → List ℕ
 placesAt f size m at zero = []
 placesAt f size m at (suc count) = f (part m at size) ∷ placesAt f size m (at + size) count
 
--- the bytes of a list of places
-unfoldable pub placesBytes : {A : Type 0} → (A → List ℕ) → List A → List ℕ
-placesBytes f [] = []
-placesBytes f (x ∷ xs) = f x ++ placesBytes f xs
-
 -- the gateway that the memory holds
 unfoldable pub decode : List ℕ → Gateway
 unfolding headerAt placesAt
@@ -169,9 +164,9 @@ decode m =
 
 -- the memory with a gateway written over it: header, used queue places and used outstanding places; every other byte stays
 unfoldable pub encode : Gateway → List ℕ → List ℕ
-unfolding headerFront headerBack placesBytes
+unfolding headerFront headerBack joined
 encode g m =
-    write (outstandingAt (g .settings .q) 0) (placesBytes sentBytes (g .outstanding))
-    (write headerSize (placesBytes entryBytes (g .queue))
-    (write 6 (headerBack (headerOf g))
+    write (outstandingAt (g .settings .q) 0) (joined sentBytes (g .outstanding))
+    (write headerSize (joined entryBytes (g .queue))
+    (write backAt (headerBack (headerOf g))
     (write 0 (headerFront (headerOf g)) m)))

@@ -11,14 +11,47 @@
 --   44 zeros (20). Outstanding place, from 30: zeros (2).
 use Prim.Native.Nat.{ℕ, _+_, _*_}
 
+-- the header, its bytes that are used, 0 to 4 and 6 to 39, and where it counts the places that are used
 abbrev pub headerSize : ℕ
 headerSize = 256
 
+abbrev pub frontSize : ℕ
+frontSize = 5
+
+abbrev pub backAt : ℕ
+backAt = 6
+
+abbrev pub backSize : ℕ
+backSize = 34
+
+abbrev pub queuedAt : ℕ
+queuedAt = 10
+
+abbrev pub outstandingCountAt : ℕ
+outstandingCountAt = 12
+
+abbrev pub headerUsed : ℕ
+headerUsed = backAt + backSize
+
+-- a queue place, and an outstanding place
 abbrev pub queueSize : ℕ
 queueSize = 64
 
 abbrev pub outstandingSize : ℕ
 outstandingSize = 32
+
+-- in a place of either kind the mark and the message; in a queue place then the state before it, and zeros
+abbrev pub messageSize : ℕ
+messageSize = 30
+
+abbrev pub stateSize : ℕ
+stateSize = 14
+
+abbrev pub zerosAt : ℕ
+zerosAt = messageSize + stateSize
+
+abbrev pub zerosSize : ℕ
+zerosSize = 20
 
 -- where queue place k begins
 abbrev pub queueAt : ℕ → ℕ

@@ -2,7 +2,7 @@
 use mathlib.Core.Path.{_≡_}
 use Prim.Native.Nat.{_<_}
 use lib.ListN.{length}
-use Rattle.routing.specs.Arcs.{_∈_}
+use Rattle.lists.specs.Lists.{_∈_}
 use Rattle.model.specs.Messages.{quantityOf}
 use Rattle.model.specs.declared.Message.{Message}
 use Rattle.model.specs.declared.State.{State}

@@ -1,6 +1,6 @@
--- A gateway: settings, state, agreed time, round, queue and outstanding messages.
-use Prim.Native.Nat.{ℕ, min}
-use mathlib.Core.List.{List, [], _∷_}
+-- A gateway: settings, state, agreed time (GVT), round, queue and outstanding messages.
+use Prim.Native.Nat.{ℕ}
+use mathlib.Core.List.{List}
 use lib.ListN.{length}
 use Rattle.model.specs.declared.State.{State}
 use Rattle.model.specs.declared.Site.{Site}
@@ -10,7 +10,8 @@ use Rattle.memory.specs.declared.Sent.{Sent}
 use Rattle.memory.specs.declared.Round.{Round}
 use Rattle.memory.specs.declared.Header.{Header}
 
--- A gateway. The queue is in event order; what is outstanding is in the order sent.
+-- A gateway. Its agreed time is the global virtual time (GVT) that it knows. The queue is in event order, the messages and
+-- the cancels (anti-messages) that wait; what is outstanding, sent and not acknowledged, is in the order sent.
 pub record Gateway : Type 0 where
   pub settings : Settings
   pub state : State

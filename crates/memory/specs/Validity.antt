@@ -1,9 +1,10 @@
 -- What a gateway must keep to for its memory to be sound: settings, counts, phase and arrivals, order, stored messages.
-use Prim.Native.Nat.{ℕ, _+_}
+use Prim.Native.Nat.{ℕ}
 use mathlib.Core.Bool.{Bool, true, false, cond, not, _&&_, _||_}
 use mathlib.Core.List.{List, [], _∷_}
 use lib.Dec.{leb, ltb, eqb}
 use lib.ListN.{length}
+use Rattle.lists.specs.Lists.{every}
 use Rattle.routing.specs.Arcs.{from, to}
 use Rattle.model.specs.Messages.{kindNumber}
 use Rattle.model.specs.EventOrder.{key, compared, different}
@@ -26,11 +27,6 @@ use Rattle.memory.specs.declared.Entry.{Entry}
 use Rattle.memory.specs.declared.Sent.{Sent}
 use Rattle.memory.specs.declared.Mark.{Mark}
 use Rattle.memory.specs.declared.Mark.the-variants.{Pending, Processed, Waiting}
-
--- every element passes the test
-unfoldable pub every : {A : Type 0} → (A → Bool) → List A → Bool
-every f [] = true
-every f (x ∷ xs) = f x && every f xs
 
 -- N 1 to 255, own number and supplier below N, H below nothing due, Q and U 1 to 512
 unfoldable pub settingsValid : Settings → Bool

@@ -1,11 +1,26 @@
-// A gateway's lent memory: what stands where in its bytes, and when it is sound.
-pub mod header_bytes; // header_bytes.rt: the memory's first bytes
-pub mod place; // place.rt: queue places and outstanding places
-pub mod rules; // rules.rt: what a gateway keeps to
-pub mod soundness; // soundness.rt: whether lent memory is sound
-
+// A gateway's lent memory: what stands where in its bytes, and when it is sound. The crates decoding, encoding and header read and
+// write the bytes, soundness tests them.
 use model::Message;
 use model::State;
+
+// The sizes in the memory, in bytes, as the definitions of its layout have them: the header; a queue place
+// and an outstanding place; in a place of either kind the mark and the message, in a queue place then a state, and zeros.
+pub const HEADER_SIZE: usize = 256;
+
+pub const QUEUE_SIZE: usize = 64;
+
+pub const OUTSTANDING_SIZE: usize = 32;
+
+pub const MESSAGE_SIZE: usize = 30;
+
+pub const STATE_SIZE: usize = 14;
+
+pub const ZEROS_AT: usize = 44;
+
+// Where the header counts the queue places and the outstanding places that are used.
+pub const QUEUED_AT: usize = 10;
+
+pub const OUTSTANDING_COUNT_AT: usize = 12;
 
 // What set up was told. The letters are document 01's: n gateways, last hour H, q queue places, u outstanding places.
 pub struct Settings {
@@ -24,7 +39,7 @@ pub enum Mark {
     Waiting,
 }
 
-// A queue place: the message, what it is there as, and for a processed one the state before it.
+// A queue place: the message, what it is there as, and for a processed one the state before it, its checkpoint.
 pub struct Entry {
     pub message: Message,
     pub mark: Mark,
@@ -45,7 +60,7 @@ pub enum Phase {
 }
 
 // A round at a gateway: which Starts (idle) or Lvts (stopped) have come, bit by bit in the order of from or to, and the
-// note until the stop, the value after it.
+// note (the running minimum of hours) until the stop, the value after it.
 pub struct Round {
     pub phase: Phase,
     pub arrived: u8,

@@ -1,11 +1,10 @@
 -- Laws of comparing lists of numbers.
 use mathlib.Core.Path.{_≡_, refl, sym, _∙_, ap}
-use Prim.Native.Nat.{ℕ, suc, _+_, _≤_, _<_}
+use Prim.Native.Nat.{ℕ, _+_, _≤_, _<_}
 use native.Mathlib.Omega.{arith}
 use native.Mathlib.Numerals.{add-one}
-use mathlib.Core.Bool.{Bool, true, false, cond, true≢false, false≢true}
+use mathlib.Core.Bool.{Bool, true, false, true≢false, false≢true}
 use mathlib.Core.List.{List, [], _∷_, _++_}
-use lib.Dec.{ltb}
 use lib.ListN.{length, drop, getD, drop-of-length-le}
 use lib.Seq.{drop-cons}
 use borrow.Author.Tests.{lt-ltb, le-ltb}
@@ -49,7 +48,8 @@ unfolding compared
 compared-append [] [] us vs e = refl
 compared-append [] (y ∷ ys) us vs e = absurd (let z : ⊥ = omega arith in z)
 compared-append (x ∷ xs) [] us vs e = absurd (let z : ⊥ = omega arith in z)
-compared-append (x ∷ xs) (y ∷ ys) us vs e = ap (orElse (numbers x y)) (compared-append xs ys us vs (omega arith)) ∙ assoc (numbers x y) (compared xs ys) (compared us vs)
+compared-append (x ∷ xs) (y ∷ ys) us vs e = ap (orElse (numbers x y)) (compared-append xs ys us vs (omega arith)) ∙ assoc (numbers x y)
+    (compared xs ys) (compared us vs)
   where
     assoc : (a b c : Comparison) → orElse a (orElse b c) ≡ orElse (orElse a b) c
     assoc Before b c = refl
@@ -62,10 +62,12 @@ module _ (n : ℕ) (xs ys : List ℕ) (lx : length xs ≡ n) (ly : length ys ≡
   unfolding compared
   from-place h = rw (drop-cons xs i 0 (omega arith), drop-cons ys i 0 (omega arith), add-one)
 
-  pub place-differs : {whole here : Comparison} {found : Bool} → i < n → whole ≡ compared (drop i xs) (drop i ys) → here ≡ numbers (getD xs i 0) (getD ys i 0) → found ≡ different here → found ≡ true → here ≡ whole
+  pub place-differs : {whole here : Comparison} {found : Bool} → i < n → whole ≡ compared (drop i xs) (drop i ys) → here ≡ numbers (getD xs
+      i 0) (getD ys i 0) → found ≡ different here → found ≡ true → here ≡ whole
   place-differs {whole} {here} h w e f d = cc (from-place h, or-different here (compared (drop (i + 1) xs) (drop (i + 1) ys)) (sym f ∙ d))
 
-  pub place-equal : {whole here : Comparison} {found : Bool} → i < n → whole ≡ compared (drop i xs) (drop i ys) → here ≡ numbers (getD xs i 0) (getD ys i 0) → found ≡ different here → found ≡ false
+  pub place-equal : {whole here : Comparison} {found : Bool} → i < n → whole ≡ compared (drop i xs) (drop i ys) → here ≡ numbers (getD xs i
+      0) (getD ys i 0) → found ≡ different here → found ≡ false
       → whole ≡ compared (drop (i + 1) xs) (drop (i + 1) ys)
   place-equal {whole} {here} h w e f d = cc (from-place h, or-equal here (compared (drop (i + 1) xs) (drop (i + 1) ys)) (sym f ∙ d))
 

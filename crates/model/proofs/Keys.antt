@@ -1,6 +1,6 @@
 -- The event order of two messages from the comparisons that the code makes.
 use mathlib.Core.Path.{_≡_, refl, sym, _∙_, ap}
-use Prim.Native.Nat.{ℕ, suc, _+_, _≤_, _<_}
+use Prim.Native.Nat.{ℕ, _+_}
 use mathlib.Core.Bool.{Bool, true, false}
 use mathlib.Core.List.{List, [], _∷_, _++_}
 use lib.ListN.{length}
@@ -8,7 +8,6 @@ use Rattle.model.specs.Messages.{kindNumber, originOf, quantityOf}
 use Rattle.model.specs.EventOrder.{key, compared, numbers, orElse, different}
 use Rattle.model.specs.declared.Message.{Message}
 use Rattle.model.specs.declared.order.Comparison.{Comparison}
-use Rattle.model.specs.declared.order.Comparison.the-variants.{Before, Same, After}
 use Rattle.model.proofs.Comparing.{three, compared-append, or-different, or-equal}
 
 -- what stands before the lamp in the key, and what stands behind it
@@ -22,7 +21,8 @@ module _ (a b : Message) {x y z inner r : Comparison} where
   pub front-compared : {o o′ k k′ : ℕ} → o ≡ originOf (a .kind) → o′ ≡ originOf (b .kind) → z ≡ numbers o o′
       → k ≡ kindNumber (a .kind) → k′ ≡ kindNumber (b .kind) → y ≡ numbers k k′
       → x ≡ numbers (a .hour) (b .hour) → inner ≡ orElse y z → r ≡ orElse x inner → r ≡ compared (front a) (front b)
-  front-compared o o′ z k k′ y x inner r = cc (three (a .hour) (kindNumber (a .kind)) (originOf (a .kind)) (b .hour) (kindNumber (b .kind)) (originOf (b .kind)))
+  front-compared o o′ z k k′ y x inner r = cc (three (a .hour) (kindNumber (a .kind)) (originOf (a .kind)) (b .hour) (kindNumber (b .kind))
+      (originOf (b .kind)))
 
   pub back-compared : {q q′ : ℕ} → q ≡ quantityOf (a .kind) → q′ ≡ quantityOf (b .kind) → x ≡ numbers q q′
       → y ≡ numbers (a .from) (b .from) → z ≡ numbers (a .to) (b .to) → inner ≡ orElse y z → r ≡ orElse x inner → r ≡ compared (back a) (back b)
@@ -40,7 +40,8 @@ module _ (a b : Message) (la : length (a .lamp) ≡ 18) (lb : length (b .lamp) �
     pub front-decides : first-found ≡ true → first ≡ compared (key a) (key b)
     front-decides d = cc (by-stretches, or-different first (orElse (compared (a .lamp) (b .lamp)) (compared (back a) (back b))) (sym f ∙ d))
 
-    module _ {middle : Comparison} {middle-found : Bool} (d : first-found ≡ false) (e′ : middle ≡ compared (a .lamp) (b .lamp)) (f′ : middle-found ≡ different middle) where
+    module _ {middle : Comparison} {middle-found : Bool} (d : first-found ≡ false) (e′ : middle ≡ compared (a .lamp) (b .lamp)) (f′ :
+        middle-found ≡ different middle) where
       rest : compared (key a) (key b) ≡ orElse middle (compared (back a) (back b))
       rest = cc (by-stretches, or-equal first (orElse (compared (a .lamp) (b .lamp)) (compared (back a) (back b))) (sym f ∙ d))
 

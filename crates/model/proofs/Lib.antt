@@ -5,3 +5,4 @@ pub mod Arrays
 pub mod Replies
 pub mod Ordered
 pub mod Sending
+pub mod KindNumbers

@@ -20,19 +20,48 @@ module _ (site : Site) (m : Message) (hours to : ℕ) (kind : Kind) {l : List Me
 
 -- the state after each kind
 module _ (s : State) (kind : Kind) where
-  pub one-failed : {origin n : ℕ} → kind ≡ Kind.Failure origin → n ≡ counted (s .failed) → record { stock = s .stock; failed = n; fitted = s .fitted; short = s .short } ≡ after s kind
+  pub one-failed : {origin n : ℕ} → kind ≡ Kind.Failure origin → n ≡ counted (s .failed) → record {
+    stock = s .stock;
+    failed = n;
+    fitted =
+        s .fitted;
+    short = s .short;
+  } ≡ after s kind
   one-failed e f = rw (e, f)
 
-  pub one-fitted : {origin n : ℕ} → kind ≡ Kind.Delivery origin → n ≡ counted (s .fitted) → record { stock = s .stock; failed = s .failed; fitted = n; short = s .short } ≡ after s kind
+  pub one-fitted : {origin n : ℕ} → kind ≡ Kind.Delivery origin → n ≡ counted (s .fitted) → record {
+    stock = s .stock;
+    failed = s .failed;
+    fitted = n;
+    short = s .short;
+  } ≡ after s kind
   one-fitted e f = rw (e, f)
 
-  pub one-short : {origin n : ℕ} → kind ≡ Kind.Request origin → s .stock ≤ 0 → n ≡ counted (s .short) → record { stock = s .stock; failed = s .failed; fitted = s .fitted; short = n } ≡ after s kind
+  pub one-short : {origin n : ℕ} → kind ≡ Kind.Request origin → s .stock ≤ 0 → n ≡ counted (s .short) → record {
+    stock = s .stock;
+    failed =
+        s .failed;
+    fitted = s .fitted;
+    short = n;
+  } ≡ after s kind
   one-short e h f = rw (e, f, le-ltb 0 (s .stock) h)
 
-  pub one-less : {origin : ℕ} → kind ≡ Kind.Request origin → 0 < s .stock → record { stock = s .stock - 1; failed = s .failed; fitted = s .fitted; short = s .short } ≡ after s kind
+  pub one-less : {origin : ℕ} → kind ≡ Kind.Request origin → 0 < s .stock → record {
+    stock = s .stock - 1;
+    failed = s .failed;
+    fitted =
+        s .fitted;
+    short = s .short;
+  } ≡ after s kind
   one-less e h = rw (e, lt-ltb 0 (s .stock) h)
 
-  pub restocked : {quantity n : ℕ} → kind ≡ Kind.Restock quantity → n ≡ shelved (s .stock) quantity → record { stock = n; failed = s .failed; fitted = s .fitted; short = s .short } ≡ after s kind
+  pub restocked : {quantity n : ℕ} → kind ≡ Kind.Restock quantity → n ≡ shelved (s .stock) quantity → record {
+    stock = n;
+    failed =
+        s .failed;
+    fitted = s .fitted;
+    short = s .short;
+  } ≡ after s kind
   restocked e f = rw (e, f)
 
 -- what a message of each kind sends
@@ -42,8 +71,10 @@ module _ (site : Site) (s : State) (m : Message) {l : List Message} where
   unfolding sent
   of-kind kind e g = subst⁻¹ (λ (k : Kind). l ≡ sentFor site s m k) e g
 
-  pub with-stock : (origin : ℕ) → m .kind ≡ Kind.Request origin → 0 < s .stock → l ≡ notPast (site .last) (reply site m deliveryHours origin (Kind.Delivery origin)) → l ≡ sent site s m
+  pub with-stock : (origin : ℕ) → m .kind ≡ Kind.Request origin → 0 < s .stock → l ≡ notPast (site .last) (reply site m deliveryHours origin
+      (Kind.Delivery origin)) → l ≡ sent site s m
   with-stock origin e h g = of-kind (Kind.Request origin) e (rw (lt-ltb 0 (s .stock) h) g)
 
-  pub without-stock : (origin : ℕ) → m .kind ≡ Kind.Request origin → s .stock ≤ 0 → l ≡ notPast (site .last) (reply site m requestHours (site .supplier) (Kind.Request origin)) → l ≡ sent site s m
+  pub without-stock : (origin : ℕ) → m .kind ≡ Kind.Request origin → s .stock ≤ 0 → l ≡ notPast (site .last) (reply site m requestHours
+      (site .supplier) (Kind.Request origin)) → l ≡ sent site s m
   without-stock origin e h g = of-kind (Kind.Request origin) e (rw (le-ltb 0 (s .stock) h) g)

@@ -34,7 +34,8 @@ module _ (site : Site) (m : Message) where
 
   sends-for : (s : State) (kind : Kind) → Sends site m (sentFor site s m kind)
   sends-for s (Failure origin) = replies _ _ _ (lit< tt)
-  sends-for s (Request origin) = either (ltb 0 (s .stock)) (replies deliveryHours origin (Delivery origin) (lit< tt)) (replies requestHours (site .supplier) (Request origin) (lit< tt))
+  sends-for s (Request origin) = either (ltb 0 (s .stock)) (replies deliveryHours origin (Delivery origin) (lit< tt)) (replies requestHours
+      (site .supplier) (Request origin) (lit< tt))
   sends-for s (Delivery origin) = replies _ _ _ (lit< tt)
   sends-for s (Restock quantity) = nothing
   sends-for s Start = nothing

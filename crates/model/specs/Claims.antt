@@ -1,7 +1,7 @@
 -- What is proved of these definitions beside the contracts.
 use mathlib.Core.Path.{_≡_}
-use Prim.Native.Nat.{ℕ, _<_, _≤_}
-use mathlib.Core.List.{List, [], _∷_}
+use Prim.Native.Nat.{_<_, _≤_}
+use mathlib.Core.List.{[], _∷_}
 use lib.ListN.{length}
 use Rattle.model.specs.Doing.{sent}
 use Rattle.model.specs.EventOrder.{key, compared}

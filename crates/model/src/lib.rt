@@ -1,9 +1,9 @@
 // The lamp model: messages, a gateway's state, the event order, and what doing a message changes and sends.
-pub mod event; // event.rt: doing a message
-pub mod order; // order.rt: the event order
+pub mod event; // event.rt: what doing a message sends
+pub mod order; // order.rt: how two messages compare
 
 ghost use mathlib.Core.Path.{_≡_};
-ghost use Rattle.model.specs.Messages.{kindNumber, originOf, quantityOf};
+ghost use Rattle.model.specs.Messages.{kindNumber, originOf, quantityOf, kindOf};
 
 // A message's kind, with the kind's own fields. The first four are events of the forecast. The last three are the
 // round's: no queue holds them, and doing one would change nothing.
@@ -83,5 +83,20 @@ pub fn quantity_of(kind: Kind) -> u16
         Kind::Start => 0,
         Kind::Lvt => 0,
         Kind::Update => 0,
+    }
+}
+
+// The kind with that number; numbers past 6 do not come here.
+pub fn kind_of(number: u8, origin: u8, quantity: u16) -> Kind
+    ensures { λ r. ⌜ r ≡ kindOf number origin quantity ⌝ }
+{
+    match number {
+        0 => Kind::Failure { origin },
+        1 => Kind::Request { origin },
+        2 => Kind::Delivery { origin },
+        3 => Kind::Restock { quantity },
+        4 => Kind::Start,
+        5 => Kind::Lvt,
+        _ => Kind::Update,
     }
 }

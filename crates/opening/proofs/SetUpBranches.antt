@@ -7,16 +7,18 @@ use native.Mathlib.Omega.{arith}
 use lib.Dec.{eqb}
 use lib.ListN.{length}
 use borrow.Author.Tests.{leb-true, le-leb, lt-leb, eq-eqb, ne-eqb, not-true, not-false}
+use Rattle.lists.specs.Lists.{joined}
 use Rattle.buffer.specs.Slice.{Bytes, write}
 use Rattle.buffer.proofs.Writes.{write-nil}
-use Rattle.memory.specs.Layout.{headerSize, outstandingAt, sizeFor}
+use Rattle.memory.specs.Layout.{headerSize, outstandingAt, sizeFor, outstandingSize, queueSize, queueAt}
 use Rattle.memory.specs.Records.{headerOf}
-use Rattle.memory.specs.Codec.{entryBytes, placesBytes, headerFront, headerBack, encode}
-use Rattle.memory.specs.Fits.{GatewayFits, Room}
+use Rattle.memory.specs.Codec.{entryBytes, headerFront, headerBack, encode}
+use Rattle.memory.specs.inside.Fits.{GatewayFits, Room}
 use Rattle.memory.specs.Validity.{settingsValid}
 use Rattle.memory.specs.declared.Header.{Header}
 use Rattle.memory.specs.declared.Settings.{Settings}
-use Rattle.memory.proofs.Validated.{and-left, and-right, settings-facts, valid-facts}
+use Rattle.memory.proofs.Validated.{settings-facts, valid-facts}
+use Rattle.lists.proofs.BoolLaws.{and-left, and-right}
 use Rattle.memory.proofs.Fitting.{valid-fits}
 use Rattle.memory.proofs.Holding.{encode-by}
 use Rattle.gateway.specs.SettingUp.{settingsOf, openingValid, cutFrames, firstRefusal, queued, opened, setUpRefusal}
@@ -24,16 +26,16 @@ use Rattle.gateway.specs.Calls.{setUp}
 use Rattle.gateway.specs.declared.Answer.{Answer}
 use Rattle.gateway.specs.declared.Opening.{Opening}
 use Rattle.gateway.proofs.Openings.{length-queued, opened-keeps}
-use Rattle.opening.specs.declared.Checked.{Checked}
-use Rattle.opening.specs.Frames.{framesFrom, Checks, openedHeader}
-use Rattle.opening.proofs.FramePositions.{frames-all}
+use Rattle.opening_list.specs.declared.Checked.{Checked}
+use Rattle.opening_list.specs.inside.Frames.{framesFrom, Checks, openedHeader}
+use Rattle.opening_list.proofs.FramePositions.{frames-all}
 
 -- what valid settings say
 pub record ValidOpening (o : Opening) (size : ℕ) : Type 0 where
   pub settings : settingsValid (settingsOf o) ≡ true
   pub stock : o .stock ≤ 65535
   pub q : o .q ≤ 512
-  pub long : 256 + 64 * o .q + 32 * o .u ≤ size
+  pub long : headerSize + queueSize * o .q + outstandingSize * o .u ≤ size
 
 valid-opening : (o : Opening) (size : ℕ) → openingValid o size ≡ true → ValidOpening o size
 unfolding openingValid
@@ -68,7 +70,12 @@ module _ (o : Opening) (list m : List ℕ) where
         first-is : r .number ≡ firstRefusal (settingsOf o) (cutFrames (length list) list)
         first-is = k .number ∙ rw (t, frames-all list)
 
-        pub frame-refused : (r .number ≡ 0 → ⊥) → {a : Answer} → (a .number ≡ r .number) × (a .written ≡ 0) → record { answer = a; memory = m; output = [] } ≡ setUp o list m
+        pub frame-refused : (r .number ≡ 0 → ⊥) → {a : Answer} → (a .number ≡ r .number) × (a .written ≡ 0) → record {
+          answer = a;
+          memory =
+              m;
+          output = [];
+        } ≡ setUp o list m
         unfolding setUpRefusal
         frame-refused d = refused-as (r .number) (rw (is-valid, ← first-is, ne-eqb (r .number) 0 d)) d
 
@@ -93,7 +100,7 @@ module _ (o : Opening) (list m : List ℕ) where
             unfolding setUpRefusal
             accepted = rw (is-valid, none-is, le-leb (length (cutFrames (length list) list)) (o .q) enough)
 
-            pub list-room : 256 + 64 * length (framesFrom list 0) ≤ length m
+            pub list-room : queueAt (length (framesFrom list 0)) ≤ length m
             list-room = rw (frames-all list) (omega (arith, enough, valid-settings .long))
 
             pub few-enough : r .count ≤ 512
@@ -101,24 +108,32 @@ module _ (o : Opening) (list m : List ℕ) where
 
             room : Room (opened o (cutFrames (length list) list)) m
             unfolding opened
-            room = record { long = valid-settings .long; queued = rw (length-queued [] (cutFrames (length list) list)) (omega (arith, enough)); sent = omega arith }
+            room = record {
+              long = valid-settings .long;
+              queued = rw (length-queued [] (cutFrames (length list) list)) (omega (
+                arith,
+                enough,
+              ));
+              sent = omega arith;
+            }
 
             fits : Bytes list → GatewayFits (opened o (cutFrames (length list) list))
             fits bytes =
                 let kept = opened-keeps o (length m) list bytes accepted in
-                valid-fits (opened o (cutFrames (length list) list)) (valid-facts (opened o (cutFrames (length list) list)) (kept .proper .valid)) (kept .proper .ranged)
+                valid-fits (opened o (cutFrames (length list) list)) (valid-facts (opened o (cutFrames (length list) list))
+                (kept .proper .valid)) (kept .proper .ranged)
 
             header-is : openedHeader o (r .count) ≡ headerOf (opened o (cutFrames (length list) list))
             unfolding opened
             header-is = rw (length-queued [] (cutFrames (length list) list), count-is) (ap (openedHeader o) (omega arith))
 
-            pub set-up-done : Bytes list → {a b : List ℕ} {header : Header} → a ≡ write 256 (placesBytes entryBytes (queued [] (framesFrom list 0))) m
+            pub set-up-done : Bytes list → {a b : List ℕ} {header : Header} → a ≡ write headerSize (joined entryBytes (queued [] (framesFrom list 0))) m
                 → header ≡ openedHeader o (r .count) → b ≡ write 6 (headerBack header) (write 0 (headerFront header) a)
                 → record { answer = record { number = 0; written = 0 }; memory = b; output = [] } ≡ setUp o list m
-            unfolding setUp opened placesBytes
+            unfolding setUp opened joined
             set-up-done bytes {a} {b} {header} p q w =
                 let g = opened o (cutFrames (length list) list) in
-                let same : a ≡ write headerSize (placesBytes entryBytes (g .queue)) m = p ∙ rw (frames-all list) in
+                let same : a ≡ write headerSize (joined entryBytes (g .queue)) m = p ∙ rw (frames-all list) in
                 let all = encode-by g m (fits bytes) room (sym same) (write-nil (outstandingAt (o .q) 0) a) in
                 let memory : b ≡ encode g m = w ∙ rw (q, header-is) (sym all) in
                 rw accepted (λ i. record { answer = record { number = 0; written = 0 }; memory = memory i; output = [] })

@@ -1,13 +1,13 @@
 // Set up: the settings, then each frame of the opening list in turn, then the queue places; no store before all of these have passed.
-use crate::list::check_list;
-use crate::list::enter_list;
 use crate::settings::opened_header;
 use crate::settings::opening_valid;
 use crate::settings::settings_of;
 use gateway::Answer;
 use gateway::Opening;
 use gateway::refused;
-use memory::header_bytes::write_header;
+use header::write_header;
+use opening_list::check_list;
+use opening_list::enter_list;
 ghost use mathlib.Core.Path.{_≡_};
 ghost use mathlib.Core.List.{[]};
 ghost use Rattle.gateway.specs.Calls.{setUp};

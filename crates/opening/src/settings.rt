@@ -1,7 +1,10 @@
 // The settings that set up is told: whether they are in their ranges, as the header stores them, and the header just set up.
 use gateway::Opening;
+use memory::HEADER_SIZE;
 use memory::Header;
+use memory::OUTSTANDING_SIZE;
 use memory::Phase;
+use memory::QUEUE_SIZE;
 use memory::Round;
 use memory::Settings;
 use model::State;
@@ -10,7 +13,7 @@ ghost use mathlib.Core.Bool.{true};
 ghost use Prim.Native.Nat.{_≤_};
 ghost use Rattle.memory.specs.Validity.{settingsValid};
 ghost use Rattle.gateway.specs.SettingUp.{settingsOf, openingValid};
-ghost use Rattle.opening.specs.Frames.{openedHeader};
+ghost use Rattle.opening_list.specs.inside.Frames.{openedHeader};
 
 // Whether every setting is in its range, and the memory has so many bytes as it has to.
 pub fn opening_valid(opening: Opening, size: usize) -> bool
@@ -22,7 +25,8 @@ pub fn opening_valid(opening: Opening, size: usize) -> bool
     if opening.stock > 65535 {
         return false;
     }
-    256 + 64 * (opening.q as usize) + 32 * (opening.u as usize) <= size
+    HEADER_SIZE + QUEUE_SIZE * (opening.q as usize) + OUTSTANDING_SIZE * (opening.u as usize)
+        <= size
 }
 
 // N 1 to 255, own number and supplier below N, H below nothing due, Q and U 1 to 512.

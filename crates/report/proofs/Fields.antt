@@ -1,12 +1,12 @@
 -- Fields put one behind the other.
-use mathlib.Core.Path.{_≡_, refl, sym, _∙_, ap}
+use mathlib.Core.Path.{_≡_}
 use Prim.Native.Nat.{ℕ, _+_, _≤_, _<_}
 use native.Mathlib.Omega.{arith}
 use mathlib.Core.Bool.{Bool, true, false, cond}
 use mathlib.Core.List.{List, [], _∷_, _++_}
-use lib.Dec.{eqb, leb}
 use lib.ListN.{length, set}
 use borrow.Author.Tests.{le-leb, lt-leb}
+use Rattle.frame.proofs.Branches.{good-number}
 use Rattle.buffer.specs.Slice.{write, Puts}
 use Rattle.buffer.proofs.Putting.{puts-byte, puts-more, puts-length}
 use Rattle.text.specs.Decimal.{decimal}
@@ -15,10 +15,8 @@ use Rattle.model.specs.Messages.{kindNumber, originOf, quantityOf}
 use Rattle.model.specs.declared.Message.{Message}
 use Rattle.frame.specs.Kinds.{senseNumber}
 use Rattle.frame.specs.Lamps.{isGood}
-use Rattle.frame.specs.Reasons.{reading, formNumber}
+use Rattle.frame.specs.Reasons.{reading}
 use Rattle.frame.specs.declared.Frame.{Frame}
-use Rattle.frame.specs.declared.Form.{Form}
-use Rattle.frame.specs.declared.Form.the-variants.{Good, TooShort, WrongMap, WrongLength, WrongSense, WrongLamp, WrongGateways}
 use Rattle.frame.specs.declared.Reading.{Reading}
 use Rattle.report.specs.Line.{field, route, content, lampText, frameText, line}
 
@@ -40,7 +38,8 @@ field-put at n m {p} {now} room h e =
 same : (at a : ℕ) (m : List ℕ) {xs m₁ : List ℕ} {p : ℕ} → at + a ≤ length m → Puts at xs m m₁ p → p ≤ at + a → length m₁ ≡ length m
 same at a m room x b = puts-length (omega (arith, x .position)) x
 
-two : (at a : ℕ) (m : List ℕ) {xs ys m₁ m₂ : List ℕ} {p q : ℕ} → at + a ≤ length m → Puts at xs m m₁ p → p ≤ at + a → Puts p ys m₁ m₂ q → Puts at (xs ++ ys) m m₂ q
+two : (at a : ℕ) (m : List ℕ) {xs ys m₁ m₂ : List ℕ} {p q : ℕ} → at + a ≤ length m → Puts at xs m m₁ p → p ≤ at + a → Puts p ys m₁ m₂ q →
+    Puts at (xs ++ ys) m m₂ q
 two at a m room x b y = puts-more (omega (arith, x .position)) x y
 
 three : (at a b : ℕ) (m : List ℕ) {xs ys zs m₁ m₂ m₃ : List ℕ} {p q r : ℕ} → at + (a + b) ≤ length m → Puts at xs m m₁ p → p ≤ at + a
@@ -85,20 +84,10 @@ module _ (at : ℕ) (m : List ℕ) (x : Message) {k : ℕ} where
   unfolding lampText
   dash-put room e h = rw (lt-leb (kindNumber (x .kind)) 2 (omega arith)) (puts-byte at 45 m room)
 
--- a frame, or the refusal
-good-number : (form : Form) (b : Bool) → b ≡ isGood form → eqb (formNumber form) 0 ≡ b
-good-number Good b e = sym e
-good-number TooShort b e = sym e
-good-number WrongMap b e = sym e
-good-number WrongLength b e = sym e
-good-number WrongSense b e = sym e
-good-number WrongLamp b e = sym e
-good-number WrongGateways b e = sym e
-
 module _ (at : ℕ) (m s : List ℕ) (r : Reading) {b : Bool} (e : r ≡ reading s) (good : b ≡ isGood (r .form)) where
   is-line : line s ≡ cond b (frameText (r .frame)) (49 ∷ [])
   unfolding line
-  is-line = rw (← e, good-number (r .form) b good)
+  is-line = rw (← e, ← good-number (r .form), ← good)
 
   pub good-put : {now : List ℕ} {p : ℕ} → b ≡ true → Puts at (frameText (r .frame)) m now p → Puts at (line s) m now p
   good-put h x = rw (is-line, h) x

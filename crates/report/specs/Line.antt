@@ -9,7 +9,6 @@ use Rattle.model.specs.declared.Message.{Message}
 use Rattle.frame.specs.Kinds.{senseNumber}
 use Rattle.frame.specs.Reasons.{reading, formNumber}
 use Rattle.frame.specs.declared.Frame.{Frame}
-use Rattle.frame.specs.declared.Reading.{Reading}
 
 -- a number and a blank
 unfoldable pub field : ℕ → List ℕ

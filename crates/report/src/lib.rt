@@ -1,18 +1,17 @@
 // A frame as a line of text, for those who run the gateways: its fields, or the number with which it is refused.
 use buffer::copy;
 use check::same;
-use frame::Answer;
 use frame::Frame;
-use frame::reader::is_good;
-use frame::reader::read;
-use frame::writer::sense_number;
-use frame::writer::write;
+use frame::WriteAnswer;
+use frame::tables::sense_number;
 use model::Message;
 use model::kind_number;
 use model::origin_of;
 use model::quantity_of;
+use reader::is_good;
+use reader::read;
 use text::put_decimal;
-ghost use mathlib.Core.Path.{_≡_};
+use writer::write;
 ghost use Prim.Native.Nat.{_+_, _≤_};
 ghost use lib.ListN.{length};
 ghost use Rattle.buffer.specs.Slice.{Puts};
@@ -33,14 +32,14 @@ pub fn differs(item: &[u8]) -> bool {
 // Whether a frame is written as that byte string, in a buffer lent for it.
 fn written_as(frame: Frame, item: &[u8], again: &mut [u8]) -> bool {
     match write(again, frame) {
-        Answer::Written(count) => {
+        WriteAnswer::Written(count) => {
             if count > again.len() {
                 return false;
             }
             same(item, &again[..count])
         }
-        Answer::NoFrame => false,
-        Answer::NoRoom => false,
+        WriteAnswer::NoFrame => false,
+        WriteAnswer::NoRoom => false,
     }
 }
 

@@ -68,7 +68,12 @@ pub totals-are : (n : ℕ) → 1 ≤ n → n ≤ 65535 → totalsOf n ≡ record
 unfolding totalsOf
 totals-are n low high = rw (in-range n low high)
 
-pub counted : (n : ℕ) → 1 ≤ n → n ≤ 65535 → {m : ℕ} → m ≡ mid0 n → record { answer = 0; arcs = n - 1 + m / 2; messages = 2 * (n - 1 + m / 2) + n - 1 } ≡ totalsOf n
+pub counted : (n : ℕ) → 1 ≤ n → n ≤ 65535 → {m : ℕ} → m ≡ mid0 n → record {
+  answer = 0;
+  arcs = n - 1 + m / 2;
+  messages = 2 * (n - 1 + m / 2)
+      + n - 1;
+} ≡ totalsOf n
 counted n h k {m} e =
     let arcs : n - 1 + m / 2 ≡ arcCount n = omega (arith, count-is n h) in
     let messages : 2 * (n - 1 + m / 2) + n - 1 ≡ roundMessages n = omega (arith, count-is n h, round-is n h) in

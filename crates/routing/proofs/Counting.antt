@@ -3,15 +3,11 @@ use mathlib.Core.Path.{_≡_, refl, _∙_, ap}
 use Prim.Native.Nat.{ℕ, zero, suc, _+_, _*_, _-_, _/_, _≤_, _<_, min}
 use native.Mathlib.Omega.{arith}
 use native.Mathlib.Decide.{decLt}
+use lib.ListN.{length}
 use borrow.Author.Tests.{lt-ltb, le-ltb}
-use Rattle.routing.specs.Arcs.{sum, updates}
+use Rattle.lists.specs.Families.{sum}
+use Rattle.routing.specs.Arcs.{children}
 use Rattle.routing.proofs.Shape.{Split, Sized}
-
--- the sum of two functions
-pub sum-plus : (n : ℕ) (f g : ℕ → ℕ) → sum n (λ (i : ℕ). f i + g i) ≡ sum n f + sum n g
-unfolding sum
-sum-plus zero f g = refl
-sum-plus (suc n) f g = omega (arith, sum-plus n f g)
 
 module _ {N A B : ℕ} (s : Split N A B) (f : ℕ → ℕ) where
   module _ (sized : (i : ℕ) → i < N → Sized (i + 1 ≡ N) (2 * i + 2 ≤ A) (f i)) where
@@ -60,16 +56,17 @@ module _ {N A B : ℕ} (s : Split N A B) (f : ℕ → ℕ) where
         ap (λ (k : ℕ). sum k f) e ∙ omega (arith, from-before (N - 1) (omega arith))
 
 -- every gateway but 0 is sent one Update
-updates-before : (N n : ℕ) → sum n (updates N) ≡ min n (N / 2) + min n ((N - 1) / 2)
-unfolding sum updates
+updates-before : (N n : ℕ) → sum n (λ i. length (children N i)) ≡ min n (N / 2) + min n ((N - 1) / 2)
+unfolding sum children
 updates-before N zero = omega arith
 updates-before N (suc n) = go (decLt (2 * n + 1) N) (decLt (2 * n + 2) N) (updates-before N n)
   where
-    go : Dec (2 * n + 1 < N) → Dec (2 * n + 2 < N) → sum n (updates N) ≡ min n (N / 2) + min n ((N - 1) / 2) → sum n (updates N) + updates N n ≡ min (suc n) (N / 2) + min (suc n) ((N - 1) / 2)
+    go : Dec (2 * n + 1 < N) → Dec (2 * n + 2 < N) → sum n (λ i. length (children N i)) ≡ min n (N / 2) + min n ((N - 1) / 2) → sum n (λ i.
+        length (children N i)) + length (children N n) ≡ min (suc n) (N / 2) + min (suc n) ((N - 1) / 2)
     go (yes p) (yes q) e = rw (lt-ltb (2 * n + 1) N p, lt-ltb (2 * n + 2) N q) (omega arith)
     go (yes p) (no q) e = rw (lt-ltb (2 * n + 1) N p, le-ltb (2 * n + 2) N (omega arith)) (omega arith)
     go (no p) (yes q) e = absurd (omega arith)
     go (no p) (no q) e = rw (le-ltb (2 * n + 1) N (omega arith), le-ltb (2 * n + 2) N (omega arith)) (omega arith)
 
-pub updates-sum : (N : ℕ) → 1 ≤ N → sum N (updates N) ≡ N - 1
+pub updates-sum : (N : ℕ) → 1 ≤ N → sum N (λ i. length (children N i)) ≡ N - 1
 updates-sum N h = omega (arith, updates-before N N)

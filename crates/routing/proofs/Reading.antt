@@ -10,7 +10,7 @@ use lib.Dec.{ltb}
 use lib.IntN.{ℤ, pos, natAbs, _+ℤ_, _-ℤ_, _*ℤ_}
 use lib.Signed.{quotZ}
 use borrow.Author.Tests.{lt-ltb, le-ltb, eq-eqb, ne-eqb}
-use Rattle.routing.specs.Figure2.{Row, widen, share, setFrom, setTo, gvtcfg, odd}
+use Rattle.routing.specs.Figure2.{Row, widen, share, setFrom, setTo, gvtcfg, oddZ}
 use Rattle.routing.specs.Arcs.{figure2, loopEnd, from, to, mid0, mid1}
 use Rattle.routing.proofs.Difference.{Diff, diff-as, diff-pos, diff-plus, diff-minus, diff-from, diff-double, diff-is, le-yes, le-no, eq-yes, eq-no}
 use Rattle.routing.proofs.Shape.{Split, From, To}
@@ -36,7 +36,11 @@ one-fit {N} j k f g = go (decLt j k) (decLt k j)
     go (no p) (no q) = omega arith
 
 -- a turn, by its test
-widen-turn : (t M p : ℕ) {b : Bool} → ltb p (M + 1) ≡ b → widen (suc t) (pos M) (pos p) ≡ elim b as (λ x. ℤ) [ true ↦ widen t (pos M) (pos (2 * p + 1)) | false ↦ pos p ]
+widen-turn : (t M p : ℕ) {b : Bool} → ltb p (M + 1) ≡ b → widen (suc t) (pos M) (pos p) ≡ elim b as (λ x. ℤ) [
+  | true ↦ widen t (pos M) (pos
+      (2 * p + 1))
+  | false ↦ pos p
+]
 unfolding widen
 widen-turn t M p e = ap (λ (b : Bool). elim b as (λ x. ℤ) [ true ↦ widen t (pos M) (pos (2 * p + 1)) | false ↦ pos p ]) e
 
@@ -47,11 +51,16 @@ widen-ends zero M k low enough = (k, refl, low, omega arith)
 widen-ends (suc t) M k low enough = go (decLt (2 * 2 ^ k - 1) (M + 1)) (widen-ends t M (suc k))
   where
     go : Dec (2 * 2 ^ k - 1 < M + 1)
-        → (2 ^ suc k ≤ M + 1 → M + 1 < 2 * 2 ^ suc k + t → (j : ℕ) × (widen t (pos M) (pos (2 * 2 ^ suc k - 1)) ≡ pos (2 * 2 ^ j - 1)) × (2 ^ j ≤ M + 1) × (M + 1 < 2 * 2 ^ j))
+        → (2 ^ suc k ≤ M + 1 → M + 1 < 2 * 2 ^ suc k + t → (j : ℕ) × (widen t (pos M) (pos (2 * 2 ^ suc k - 1)) ≡ pos (2 * 2 ^ j - 1)) × (2
+        ^ j ≤ M + 1) × (M + 1 < 2 * 2 ^ j))
         → (j : ℕ) × (widen (suc t) (pos M) (pos (2 * 2 ^ k - 1)) ≡ pos (2 * 2 ^ j - 1)) × (2 ^ j ≤ M + 1) × (M + 1 < 2 * 2 ^ j)
     go (yes h) next =
         let e : 2 * (2 * 2 ^ k - 1) + 1 ≡ 2 * 2 ^ suc k - 1 = omega (arith, twice-power k, positive k) in
-        rw (widen-turn t M (2 * 2 ^ k - 1) (lt-ltb (2 * 2 ^ k - 1) (M + 1) h), e) (next (omega (arith, twice-power k)) (omega (arith, twice-power k, positive k)))
+        rw (widen-turn t M (2 * 2 ^ k - 1) (lt-ltb (2 * 2 ^ k - 1) (M + 1) h), e) (next (omega (arith, twice-power k)) (omega (
+          arith,
+          twice-power k,
+          positive k,
+        )))
     go (no h) next = (k, widen-turn t M (2 * 2 ^ k - 1) (le-ltb (2 * 2 ^ k - 1) (M + 1) (omega arith)), low, omega (arith, positive k))
 
 -- the middles: one row shared by both trees, or a bottom row for each
@@ -90,10 +99,10 @@ share-is N P {pen0} {pen1} {Mid0} {Mid1} f d0 d1 m0 m1 = go (decLe (N + 2) (3 * 
 start0 : (N : ℕ) → 1 ≤ N → quotZ (pos N -ℤ pos 1) (pos 2) ≡ pos ((N - 1) / 2)
 start0 N h = ap (λ (z : ℤ). quotZ z (pos 2)) (diff-is (diff-minus (diff-pos N) 1) (N - 1) (omega arith))
 
-start1 : (N : ℕ) → 1 ≤ N → {z : ℤ} → z ≡ pos ((N - 1) / 2) → cond (odd (pos N)) z (z +ℤ pos 1) ≡ pos (N / 2)
+start1 : (N : ℕ) → 1 ≤ N → {z : ℤ} → z ≡ pos ((N - 1) / 2) → cond (oddZ (pos N)) z (z +ℤ pos 1) ≡ pos (N / 2)
 start1 N h {z} e = go (ℕ-discrete (N % 2) 1)
   where
-    go : Dec (N % 2 ≡ 1) → cond (odd (pos N)) z (z +ℤ pos 1) ≡ pos (N / 2)
+    go : Dec (N % 2 ≡ 1) → cond (oddZ (pos N)) z (z +ℤ pos 1) ≡ pos (N / 2)
     go (yes o) = rw (eq-eqb (N % 2) 1 o, e) (ap pos (omega arith))
     go (no o) = rw (ne-eqb (N % 2) 1 o, e) (ap pos (omega arith))
 
@@ -116,7 +125,8 @@ row-is N i h =
     let k : ℕ = ends .0 in
     let w : loopEnd N N ≡ pos (2 * 2 ^ k - 1) = ends .1 in
     let fit : Fit N (2 ^ k) = ends .2 in
-    let half : Diff (2 ^ k) 2 (quotZ (pos (2 * 2 ^ k - 1)) (pos 2) -ℤ pos 1) = diff-as (2 ^ k) 2 (diff-minus (diff-pos ((2 * 2 ^ k - 1) / 2)) 1) (omega (arith, positive k)) in
+    let half : Diff (2 ^ k) 2 (quotZ (pos (2 * 2 ^ k - 1)) (pos 2) -ℤ pos 1) = diff-as (2 ^ k) 2 (diff-minus (diff-pos ((2 * 2 ^ k - 1) /
+    2)) 1) (omega (arith, positive k)) in
     let d0 : Diff (2 ^ k) 2 (quotZ (loopEnd N N) (pos 2) -ℤ pos 1) =
     subst (λ (z : ℤ). Diff (2 ^ k) 2 (quotZ z (pos 2) -ℤ pos 1)) (sym w) half in
     let row = share-is N (2 ^ k) fit d0 (diff-as (N + 1) (2 ^ k) (diff-minus (diff-from N d0) 1) (omega arith)) (start0 N h) (start1 N h (start0 N h)) in
@@ -135,11 +145,29 @@ setFrom-is {N} {A} {B} {i} (From.root p) h o d0 d1 dv = rw (eq-yes (diff-pos i) 
 setFrom-is {N} {A} {B} {i} (From.parent p q) h o d0 d1 dv =
     rw (eq-no (diff-pos i) (diff-pos 0) (omega arith), le-yes (diff-pos i) (diff-pos A) (omega arith), o p)
 setFrom-is {N} {A} {B} {i} (From.two p q r) h o d0 d1 dv =
-    rw (eq-no (diff-pos i) (diff-pos 0) (omega arith), le-no (diff-pos i) (diff-pos A) (omega arith), le-yes (diff-pos B) d1 (omega arith), diff-is d0 (2 * i - N) (omega arith), diff-is d1 (2 * i - N - 1) (omega arith))
+    rw (
+      eq-no (diff-pos i) (diff-pos 0) (omega arith),
+      le-no (diff-pos i) (diff-pos A) (omega arith),
+      le-yes (diff-pos B) d1 (omega arith),
+      diff-is d0 (2 * i - N) (omega arith),
+      diff-is d1 (2 * i - N - 1) (omega arith),
+    )
 setFrom-is {N} {A} {B} {i} (From.one p q r) h o d0 d1 dv =
-    rw (eq-no (diff-pos i) (diff-pos 0) (omega arith), le-no (diff-pos i) (diff-pos A) (omega arith), le-no (diff-pos B) d1 (omega arith), eq-yes (diff-pos B) d0 (omega arith), diff-is d0 (2 * i - N) (omega arith))
+    rw (
+      eq-no (diff-pos i) (diff-pos 0) (omega arith),
+      le-no (diff-pos i) (diff-pos A) (omega arith),
+      le-no (diff-pos B) d1 (omega arith),
+      eq-yes (diff-pos B) d0 (omega arith),
+      diff-is d0 (2 * i - N) (omega arith),
+    )
 setFrom-is {N} {A} {B} {i} (From.across p q r) h o d0 d1 dv =
-    rw (eq-no (diff-pos i) (diff-pos 0) (omega arith), le-no (diff-pos i) (diff-pos A) (omega arith), le-no (diff-pos B) d1 (omega arith), eq-no (diff-pos B) d0 (omega arith), diff-is dv (N - i - 1) (omega arith))
+    rw (
+      eq-no (diff-pos i) (diff-pos 0) (omega arith),
+      le-no (diff-pos i) (diff-pos A) (omega arith),
+      le-no (diff-pos B) d1 (omega arith),
+      eq-no (diff-pos B) d0 (omega arith),
+      diff-is dv (N - i - 1) (omega arith),
+    )
 
 setTo-is : {N A B i : ℕ} {l : List ℕ} {InTo Out0 Out1 myInv : ℤ} → To N A B i l → i < N
     → InTo ≡ pos ((N + i + 1) / 2) → Out0 ≡ pos (2 * i + 1) → Out1 ≡ pos (2 * i + 2) → Diff N (i + 1) myInv
@@ -149,11 +177,36 @@ setTo-is {N} {A} {B} {i} (To.root p) h n o0 o1 dv = rw (eq-yes (diff-pos i) (dif
 setTo-is {N} {A} {B} {i} (To.parent p q) h n o0 o1 dv =
     rw (eq-no (diff-pos i) (diff-minus (diff-pos N) 1) (omega arith), le-yes (diff-pos B) (diff-pos i) (omega arith), n)
 setTo-is {N} {A} {B} {i} (To.two p q r) h n o0 o1 dv =
-    rw (eq-no (diff-pos i) (diff-minus (diff-pos N) 1) (omega arith), le-no (diff-pos B) (diff-pos i) (omega arith), o0, o1, le-yes (diff-pos (2 * i + 2)) (diff-pos A) (omega arith))
+    rw (
+      eq-no (diff-pos i) (diff-minus (diff-pos N) 1) (omega arith),
+      le-no (diff-pos B) (diff-pos i) (omega arith),
+      o0,
+      o1,
+      le-yes
+          (diff-pos (2 * i + 2)) (diff-pos A) (omega arith),
+    )
 setTo-is {N} {A} {B} {i} (To.one p q r) h n o0 o1 dv =
-    rw (eq-no (diff-pos i) (diff-minus (diff-pos N) 1) (omega arith), le-no (diff-pos B) (diff-pos i) (omega arith), o0, o1, le-no (diff-pos (2 * i + 2)) (diff-pos A) (omega arith), eq-yes (diff-pos A) (diff-pos (2 * i + 1)) (omega arith))
+    rw (
+      eq-no (diff-pos i) (diff-minus (diff-pos N) 1) (omega arith),
+      le-no (diff-pos B) (diff-pos i) (omega arith),
+      o0,
+      o1,
+      le-no (diff-pos
+          (2 * i + 2)) (diff-pos A) (omega arith),
+      eq-yes (diff-pos A) (diff-pos (2 * i + 1)) (omega arith),
+    )
 setTo-is {N} {A} {B} {i} (To.across p q r) h n o0 o1 dv =
-    rw (eq-no (diff-pos i) (diff-minus (diff-pos N) 1) (omega arith), le-no (diff-pos B) (diff-pos i) (omega arith), o0, o1, le-no (diff-pos (2 * i + 2)) (diff-pos A) (omega arith), eq-no (diff-pos A) (diff-pos (2 * i + 1)) (omega arith), diff-is dv (N - i - 1) (omega arith))
+    rw (
+      eq-no (diff-pos i) (diff-minus (diff-pos N) 1) (omega arith),
+      le-no (diff-pos B) (diff-pos i) (omega arith),
+      o0,
+      o1,
+      le-no (diff-pos
+          (2 * i + 2)) (diff-pos A) (omega arith),
+      eq-no (diff-pos A) (diff-pos (2 * i + 1)) (omega arith),
+      diff-is dv (N - i - 1) (omega
+          arith),
+    )
 
 -- the middles as naturals
 pub record Mids (N i : ℕ) : Type 0 where

@@ -5,7 +5,7 @@ use Prim.Native.Nat.{ℕ, zero, suc, _+_, _*_, _-_, _/_, _≤_, _<_}
 use native.Mathlib.Omega.{arith}
 use native.Mathlib.Decide.{ℕ-discrete, decLe}
 use lib.ListN.{length}
-use Rattle.routing.specs.Arcs.{_∈_, Ascending, none, more}
+use Rattle.lists.specs.Lists.{_∈_, Ascending, none, more}
 
 -- what holds of the two middles, whether the row is shared or not
 pub record Split (N A B : ℕ) : Type 0 where

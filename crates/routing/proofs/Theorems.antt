@@ -2,16 +2,21 @@
 use mathlib.Core.Path.{_≡_, refl, sym, _∙_, ap, subst}
 use mathlib.Core.Logic.{_↔_, _⊎_, inl, inr, ⊎-elim}
 use mathlib.Core.Bool.{true, false≢true}
-use mathlib.Core.List.{List, [], _∷_, _++_, map, List·Memᴰ·head as here, List·Memᴰ·tail as there, Memᴰ·append-left, Memᴰ·append-right, List·Memᴰ·append-cases, cons-ne-nil}
+use mathlib.Core.List.{List, [], _∷_, _++_, map, List·Memᴰ·head as here, List·Memᴰ·tail as there, Memᴰ·append-left, Memᴰ·append-right}
+use mathlib.Core.List.{List·Memᴰ·append-cases, cons-ne-nil}
 use Prim.Native.Nat.{ℕ, zero, suc, _+_, _*_, _-_, _/_, _^_, _≤_, _<_}
 use native.Mathlib.Omega.{arith}
 use native.Mathlib.Numerals.{add-one}
 use native.Mathlib.Decide.{decLt}
 use lib.ListN.{length, length-append, length-map}
+use Rattle.lists.specs.Lists.{_∈_, Ascending, none, more}
+use Rattle.lists.specs.Families.{sum}
 use Rattle.routing.specs.Figure2.{Row}
-use Rattle.routing.specs.Arcs.{_∈_, from, to, mid0, mid1, Arc, arcsOfFirst, arcs, sum, arcCount, updates, roundMessages, Before, Ascending, none, more, Laws}
-use Rattle.routing.proofs.Shape.{Split, From, To, Sized, from-some, to-some, to-joined, from-joined, joined-to, joined-from, joined-up, to-size, from-size, three, to-ascends, from-descends}
-use Rattle.routing.proofs.Counting.{sum-plus, to-sum, from-sum, updates-sum}
+use Rattle.routing.specs.Arcs.{from, to, mid0, mid1, Arc, arcsOfFirst, arcs, arcCount, children, roundMessages, Before, Laws}
+use Rattle.routing.proofs.Shape.{Split, From, To, Sized, from-some, to-some, to-joined, from-joined, joined-to, joined-from}
+use Rattle.routing.proofs.Shape.{joined-up, to-size, from-size, three, to-ascends, from-descends}
+use Rattle.lists.proofs.FamilyLaws.{sum-add}
+use Rattle.routing.proofs.Counting.{to-sum, from-sum, updates-sum}
 use Rattle.routing.proofs.Reading.{loop-ended, twice-power, one-fit, Fit, RowIs, one-row, two-rows, mids, figure-from, figure-to, from-is, to-is}
 
 -- two ascending lists one behind the other
@@ -104,11 +109,11 @@ module _ (N : ℕ) (some : 1 ≤ N) where
   unfolding lvts
   lvts-are = from-sum split (λ (i : ℕ). length (from N i)) from-has
 
-  parts : roundMessages N ≡ arcCount N + lvts + sum N (updates N)
+  parts : roundMessages N ≡ arcCount N + lvts + sum N (λ (i : ℕ). length (children N i))
   unfolding roundMessages arcCount lvts
   parts =
-      sum-plus N (λ (i : ℕ). length (to N i) + length (from N i)) (updates N)
-      ∙ ap (λ (s : ℕ). s + sum N (updates N)) (sum-plus N (λ (i : ℕ). length (to N i)) (λ (i : ℕ). length (from N i)))
+      sum-add N (λ (i : ℕ). length (to N i) + length (from N i)) (λ (i : ℕ). length (children N i))
+      ∙ ap (λ (s : ℕ). s + sum N (λ (i : ℕ). length (children N i))) (sum-add N (λ (i : ℕ). length (to N i)) (λ (i : ℕ). length (from N i)))
 
   pub round-is : roundMessages N ≡ 2 * arcCount N + (N - 1)
   round-is = omega (arith, parts, count-is, lvts-are, updates-sum N some)
@@ -136,7 +141,11 @@ module _ (N : ℕ) (some : 1 ≤ N) where
       record {
         ended = λ more. loop-ended N more some;
         natural = λ i h. (sym (figure-from N i h (from-case i h)), sym (figure-to N i h (to-case i h)));
-        symmetric = λ i j hi hj. (λ m. joined-from split (from-case j hj) (to-joined split (to-case i hi) m), λ m. joined-to split (to-case i hi) (from-joined split hj (from-case j hj) m));
+        symmetric = λ i j hi hj. (
+          λ m. joined-from split (from-case j hj) (to-joined split (to-case i hi) m),
+          λ m. joined-to split (to-case
+              i hi) (from-joined split hj (from-case j hj) m),
+        );
         upward = λ i j h m. joined-up split (to-joined split (to-case i h) m);
         upwardFrom = λ i j h m. joined-up split (from-joined split h (from-case j h) m) .0;
         onceTo = λ i h. to-ascends (to-case i h);

@@ -2,18 +2,15 @@
 use mathlib.Core.Path.{_≡_}
 use mathlib.Core.Logic.{_↔_, _⊎_}
 use mathlib.Core.Bool.{true, cond}
-use mathlib.Core.List.{List, [], _∷_, _++_, map, List·Memᴰ}
+use mathlib.Core.List.{List, [], _∷_, _++_, map}
 use Prim.Native.Nat.{ℕ, zero, suc, _+_, _*_, _-_, _^_, _≤_, _<_}
 use lib.Dec.{ltb}
 use lib.ListN.{length}
 use lib.IntN.{ℤ, pos, natAbs, _-ℤ_}
 use lib.Signed.{quotZ}
+use Rattle.lists.specs.Families.{sum}
+use Rattle.lists.specs.Lists.{_∈_, Ascending}
 use Rattle.routing.specs.Figure2.{Config, widen, gvtcfg}
-
-infix 50 _∈_
--- x is an element of xs.
-abbrev pub _∈_ : {A : Type 0} → A → List A → Type 0
-x ∈ xs = List·Memᴰ x xs
 
 -- Figure 2 at gateway i of N.
 abbrev pub figure2 : (N i : ℕ) → Config
@@ -51,31 +48,25 @@ arcsOfFirst N (suc i) = arcsOfFirst N i ++ map (λ (j : ℕ). (i, j)) (to N i)
 unfoldable pub arcs : ℕ → List Arc
 arcs N = arcsOfFirst N N
 
--- f 0 + .. + f (n − 1)
-unfoldable pub sum : ℕ → (ℕ → ℕ) → ℕ
-sum zero f = 0
-sum (suc i) f = sum i f + f i
-
 -- The number of arcs.
 unfoldable pub arcCount : ℕ → ℕ
 arcCount N = sum N (λ (i : ℕ). length (to N i))
 
--- To how many gateways i sends an Update: to 2i + 1 and 2i + 2 where below N.
-unfoldable pub updates : (N i : ℕ) → ℕ
-updates N i = cond (ltb (2 * i + 1) N) 1 0 + cond (ltb (2 * i + 2) N) 1 0
+-- The gateway k as a list, if it is below N.
+abbrev pub ifBelow : (N k : ℕ) → List ℕ
+ifBelow N k = cond (ltb k N) (k ∷ []) []
+
+-- The gateways that i sends Updates on to: 2i + 1 and 2i + 2 where below N.
+unfoldable pub children : (N i : ℕ) → List ℕ
+children N i = ifBelow N (2 * i + 1) ++ ifBelow N (2 * i + 2)
 
 -- The messages of a round: each gateway sends a Start along its to, an Lvt along its from, and its Updates.
 unfoldable pub roundMessages : ℕ → ℕ
-roundMessages N = sum N (λ (i : ℕ). length (to N i) + length (from N i) + updates N i)
+roundMessages N = sum N (λ (i : ℕ). length (to N i) + length (from N i) + length (children N i))
 
 -- By from and then to.
 abbrev pub Before : Arc → Arc → Type 0
 Before a b = (a .0 < b .0) ⊎ ((a .0 ≡ b .0) × (a .1 < b .1))
-
--- Each element stands before all that follow it; so none is there twice.
-pub data Ascending {A : Type 0} (R : A → A → Type 0) : List A → Type 0 where
-  none : Ascending R []
-  more : {x : A} {xs : List A} → ((y : A) → y ∈ xs → R x y) → Ascending R xs → Ascending R (x ∷ xs)
 
 -- What holds of the arcs of N gateways.
 pub record Laws (N : ℕ) : Type 0 where

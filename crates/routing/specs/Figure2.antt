@@ -12,8 +12,8 @@ abbrev pub eqZ : ℤ → ℤ → Bool
 eqZ a b = leZ a b && leZ b a
 
 -- C's n & 0x01, as a condition
-abbrev pub odd : ℤ → Bool
-odd n = eqb (natAbs n % 2) 1
+abbrev pub oddZ : ℤ → Bool
+oddZ n = eqb (natAbs n % 2) 1
 
 -- for ( ; pen0 < Mid0 + 1; pen0 = 2 * pen0 + 1 ), for at most so many turns
 unfoldable pub widen : ℕ → (Mid0 pen0 : ℤ) → ℤ
@@ -62,7 +62,7 @@ pub record Config : Type 0 where
 unfoldable pub gvtcfg : (numNodes myNum : ℤ) → Config
 gvtcfg numNodes myNum =
     let Mid0 : ℤ = quotZ (numNodes -ℤ pos 1) (pos 2) in
-    let Mid1 : ℤ = cond (odd numNodes) Mid0 (Mid0 +ℤ pos 1) in
+    let Mid1 : ℤ = cond (oddZ numNodes) Mid0 (Mid0 +ℤ pos 1) in
     let myInv : ℤ = numNodes -ℤ myNum -ℤ pos 1 in
     let Out0 : ℤ = pos 2 *ℤ myNum +ℤ pos 1 in
     let Out1 : ℤ = Out0 +ℤ pos 1 in

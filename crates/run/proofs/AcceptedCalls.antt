@@ -7,8 +7,9 @@ use native.Mathlib.Omega.{arith}
 use lib.Dec.{eqb, leb}
 use lib.ListN.{length}
 use borrow.Author.Tests.{eqb-true, eq-eqb}
+use Rattle.lists.specs.Lists.{All}
 use Rattle.buffer.specs.Slice.{write}
-use Rattle.routing.specs.Arcs.{from, to}
+use Rattle.routing.specs.Arcs.{from, to, children}
 use Rattle.model.specs.declared.Message.{Message}
 use Rattle.model.specs.declared.Kind.the-variants.{Start, Lvt, Update}
 use Rattle.frame.specs.Reasons.{reading}
@@ -17,18 +18,17 @@ use Rattle.frame.specs.declared.Sense.the-variants.{Plain}
 use Rattle.memory.specs.Records.{Gateway}
 use Rattle.memory.specs.Codec.{decode, encode}
 use Rattle.memory.specs.Soundness.{sound}
-use Rattle.memory.proofs.Validated.{and-left, and-right}
+use Rattle.lists.proofs.BoolLaws.{and-left, and-right}
 use Rattle.gateway.specs.Effects.{Effect, Outcome, refused, settled, withAgreed}
-use Rattle.gateway.specs.Rounds.{start, begun, isIdle, takeStart, takeLvt, takeUpdate, oneStart, oneLvt, awaited, bitOf, valueIn, frames, children}
-use Rattle.gateway.specs.Calls.{Left, onSound, leaving, refusedWith, takeByKind, takeBySense, takeFrame, takeBytes}
+use Rattle.gateway.specs.Rounds.{allBits, start, begun, isIdle, takeStart, takeLvt, takeUpdate, oneStart, oneLvt, awaited, bitOf, valueIn, framesInRound}
+use Rattle.gateway.specs.Calls.{CallResult, onSound, leaving, refusedWith, takeByKind, takeBySense, takeFrame, takeBytes}
 use Rattle.gateway.specs.declared.Answer.{Answer}
-use Rattle.timewarp.specs.Lists.{All}
 use Rattle.run.specs.World.{framesIn}
 use Rattle.run.proofs.FramesCut.{Whole, frames-in}
 use Rattle.run.proofs.AcceptedFrames.{outcomeOf, settles, not-below, bytes-accepted}
 
 -- what an accepted outcome leaves
-abbrev pub left : Outcome → List ℕ → List ℕ → Left Answer
+abbrev pub left : Outcome → List ℕ → List ℕ → CallResult Answer
 left r memory output =
     record {
       answer = record { number = 0; written = length (r .output) };
@@ -46,7 +46,7 @@ on-sound call memory output = go (sound memory) (eqb (call (length output) (deco
     r : Outcome
     r = call (length output) (decode memory)
 
-    whole : Bool → Bool → Left Answer
+    whole : Bool → Bool → CallResult Answer
     whole b d = cond b (cond d (left r memory output) (refusedWith (r .number) memory output)) (refusedWith 10 memory output)
 
     go : (b d : Bool) → eqb (r .number) 0 ≡ d → whole b d .answer .number ≡ 0 → (b ≡ true) × (r .number ≡ 0) × (whole b d ≡ left r memory output)
@@ -55,11 +55,13 @@ on-sound call memory output = go (sound memory) (eqb (call (length output) (deco
     go false d e h = absurd (omega arith)
 
 -- the number that a call answers on sound memory
-pub call-number : (call : ℕ → Gateway → Outcome) (memory output : List ℕ) → sound memory ≡ true → onSound call memory output .answer .number ≡ call (length output) (decode memory) .number
+pub call-number : (call : ℕ → Gateway → Outcome) (memory output : List ℕ) → sound memory ≡ true → onSound call memory output .answer .number
+    ≡ call (length output) (decode memory) .number
 unfolding onSound leaving
 call-number call memory output s = rw s (by-case (eqb (call (length output) (decode memory) .number) 0) refl)
   where
-    by-case : (t : Bool) → eqb (call (length output) (decode memory) .number) 0 ≡ t → leaving (call (length output) (decode memory)) memory output .answer .number ≡ call (length output) (decode memory) .number
+    by-case : (t : Bool) → eqb (call (length output) (decode memory) .number) 0 ≡ t → leaving (call (length output) (decode memory)) memory
+        output .answer .number ≡ call (length output) (decode memory) .number
     by-case true p = rw p (sym (eqb-true (call (length output) (decode memory) .number) 0 p))
     by-case false p = rw p
 
@@ -86,28 +88,36 @@ in-turn-accepted room g e false h = absurd (omega arith)
 
 pub start-taken-accepted : (room k : ℕ) (g : Gateway) → takeStart room k g .number ≡ 0
     → let heard = from (g .settings .n) (g .settings .own) in
-    takeStart room k g ≡ outcomeOf (oneStart heard (g .round .arrived + bitOf k heard) g)
+    takeStart room k g ≡ outcomeOf (oneStart (allBits heard) (g .round .arrived + bitOf k heard) g)
 unfolding takeStart
 start-taken-accepted room k g h =
     let heard = from (g .settings .n) (g .settings .own) in
-    in-turn-accepted room g (oneStart heard (g .round .arrived + bitOf k heard) g)
+    in-turn-accepted room g (oneStart (allBits heard) (g .round .arrived + bitOf k heard) g)
     (isIdle (g .round .phase) && awaited k heard (g .round .arrived)) h
 
 pub lvt-taken-accepted : (room k hour : ℕ) (g : Gateway) → takeLvt room k hour g .number ≡ 0
     → let told = to (g .settings .n) (g .settings .own) in
-    takeLvt room k hour g ≡ outcomeOf (oneLvt told (g .round .arrived + bitOf k told) (min (valueIn (g .round .phase) g) hour) g)
+    takeLvt room k hour g ≡ outcomeOf (oneLvt (allBits told) (g .round .arrived + bitOf k told) (min (valueIn (g .round .phase) g) hour) g)
 unfolding takeLvt
 lvt-taken-accepted room k hour g h =
     let told = to (g .settings .n) (g .settings .own) in
-    in-turn-accepted room g (oneLvt told (g .round .arrived + bitOf k told) (min (valueIn (g .round .phase) g) hour) g)
+    in-turn-accepted room g (oneLvt (allBits told) (g .round .arrived + bitOf k told) (min (valueIn (g .round .phase) g) hour) g)
     (not (isIdle (g .round .phase)) && awaited k told (g .round .arrived)) h
 
 pub update-taken-accepted : (room k hour : ℕ) (g : Gateway) → takeUpdate room k hour g .number ≡ 0
     → takeUpdate room k hour g
-    ≡ outcomeOf (record { gateway = withAgreed (max (g .agreed) hour) g; frames = frames Update hour (g .settings .own) (children (g .settings)) })
+    ≡ outcomeOf (record {
+      gateway = withAgreed (max (g .agreed) hour) g;
+      frames = framesInRound Update hour (g .settings .own) (children
+          (g .settings .n) (g .settings .own));
+    })
 unfolding takeUpdate
 update-taken-accepted room k hour g h =
-    in-turn-accepted room g (record { gateway = withAgreed (max (g .agreed) hour) g; frames = frames Update hour (g .settings .own) (children (g .settings)) })
+    in-turn-accepted room g (record {
+      gateway = withAgreed (max (g .agreed) hour) g;
+      frames = framesInRound Update hour (g .settings .own)
+          (children (g .settings .n) (g .settings .own));
+    })
     (leb 1 (g .settings .own) && eqb k ((g .settings .own - 1) / 2)) h
 
 -- Start, Lvt and Update as bytes
@@ -121,14 +131,14 @@ module _ (bytes : List ℕ) (room : ℕ) (g : Gateway) (plain : reading bytes .f
 
   pub start-bytes : m .kind ≡ Start
       → let heard = from (g .settings .n) (g .settings .own) in
-      takeBytes bytes room g ≡ outcomeOf (oneStart heard (g .round .arrived + bitOf (m .from) heard) g)
+      takeBytes bytes room g ≡ outcomeOf (oneStart (allBits heard) (g .round .arrived + bitOf (m .from) heard) g)
   start-bytes e =
       let same = by-kind ∙ ap (takeByKind room m g) e in
       same ∙ start-taken-accepted room (m .from) g (ap (λ (r : Outcome). r .number) (sym same) ∙ number)
 
   pub lvt-bytes : m .kind ≡ Lvt
       → let told = to (g .settings .n) (g .settings .own) in
-      takeBytes bytes room g ≡ outcomeOf (oneLvt told (g .round .arrived + bitOf (m .from) told) (min (valueIn (g .round .phase) g) (m .hour)) g)
+      takeBytes bytes room g ≡ outcomeOf (oneLvt (allBits told) (g .round .arrived + bitOf (m .from) told) (min (valueIn (g .round .phase) g) (m .hour)) g)
   lvt-bytes e =
       let same = by-kind ∙ ap (takeByKind room m g) e in
       let due = same ∙ not-below (m .hour) g (takeLvt room (m .from) (m .hour) g) (ap (λ (r : Outcome). r .number) (sym same) ∙ number) .comes-to in
@@ -136,7 +146,11 @@ module _ (bytes : List ℕ) (room : ℕ) (g : Gateway) (plain : reading bytes .f
 
   pub update-bytes : m .kind ≡ Update
       → takeBytes bytes room g
-      ≡ outcomeOf (record { gateway = withAgreed (max (g .agreed) (m .hour)) g; frames = frames Update (m .hour) (g .settings .own) (children (g .settings)) })
+      ≡ outcomeOf (record {
+        gateway = withAgreed (max (g .agreed) (m .hour)) g;
+        frames = framesInRound Update (m .hour) (g .settings .own)
+            (children (g .settings .n) (g .settings .own));
+      })
   update-bytes e =
       let same = by-kind ∙ ap (takeByKind room m g) e in
       same ∙ update-taken-accepted room (m .from) (m .hour) g (ap (λ (r : Outcome). r .number) (sym same) ∙ number)
@@ -147,5 +161,5 @@ pub call-frames : (call : ℕ → Gateway → Outcome) (memory output : List ℕ
     → let l = onSound call memory output in
     framesIn (l .answer .written) (l .output) ≡ map written (e .frames)
 call-frames call memory output e h outcome whole =
-    ap (λ (l : Left Answer). framesIn (l .answer .written) (l .output)) (on-sound call memory output h .2 ∙ ap (λ r. left r memory output) outcome)
+    ap (λ (l : CallResult Answer). framesIn (l .answer .written) (l .output)) (on-sound call memory output h .2 ∙ ap (λ r. left r memory output) outcome)
     ∙ frames-in (e .frames) output whole

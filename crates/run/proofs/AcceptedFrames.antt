@@ -6,6 +6,7 @@ use mathlib.Core.Bool.{Bool, true, false, cond, not, _&&_}
 use mathlib.Core.List.{List, []}
 use lib.Dec.{ltb, eqb}
 use borrow.Author.Tests.{ltb-false, eqb-true, eqb-false}
+use Rattle.lists.specs.Lists.{any, withoutFirst}
 use Rattle.model.specs.Messages.{kindNumber}
 use Rattle.model.specs.declared.Kind.{Kind}
 use Rattle.model.specs.declared.Kind.the-variants.{Failure, Request, Delivery, Restock, Start, Lvt, Update}
@@ -15,9 +16,9 @@ use Rattle.frame.specs.declared.Frame.{Frame}
 use Rattle.frame.specs.declared.Sense.{Sense}
 use Rattle.frame.specs.declared.Sense.the-variants.{Plain, Cancel, Acknowledgment, CancelAcknowledgment}
 use Rattle.memory.specs.Records.{Gateway}
-use Rattle.memory.proofs.Validated.{and-left}
+use Rattle.lists.proofs.BoolLaws.{and-left}
 use Rattle.gateway.specs.Effects.{Effect, Outcome, bytesOfFrames, fits, settled, withOutstanding}
-use Rattle.gateway.specs.Taking.{any, withoutFirst, isSent, takePlain, takeCancel, takeAcknowledgment}
+use Rattle.gateway.specs.Taking.{isSent, takePlain, takeCancel, takeAcknowledgment}
 use Rattle.gateway.specs.Rounds.{takeStart, takeLvt, takeUpdate}
 use Rattle.gateway.specs.Calls.{unlessBelow, takeByKind, takeBySense, takeFrame, takeBytes}
 use Rattle.run.proofs.EventsUnderWay.{IsEvent}
@@ -32,7 +33,8 @@ acknowledgmentSense b = cond b CancelAcknowledgment Acknowledgment
 
 -- how a frame was accepted
 pub data Accepted (room : ℕ) (f : Frame) (g : Gateway) : Outcome → Type 0 where
-  plain-taken : f .sense ≡ Plain → IsEvent (f .message) → kindNumber (f .message .kind) ≤ 2 → g .agreed ≤ f .message .hour → fits room (takePlain (f .message) g) ≡ true
+  plain-taken : f .sense ≡ Plain → IsEvent (f .message) → kindNumber (f .message .kind) ≤ 2 → g .agreed ≤ f .message .hour → fits room
+      (takePlain (f .message) g) ≡ true
       → Accepted room f g (outcomeOf (takePlain (f .message) g))
   cancel-taken : f .sense ≡ Cancel → g .agreed ≤ f .message .hour → fits room (takeCancel (f .message) g) ≡ true
       → Accepted room f g (outcomeOf (takeCancel (f .message) g))
@@ -71,7 +73,8 @@ not-below hour g r h = by-case (ltb hour (g .agreed)) refl
     by-case false p = record { in-time = ltb-false hour (g .agreed) p; comes-to = rw p }
 
 module _ (room : ℕ) (f : Frame) (g : Gateway) where
-  plain-accepted : f .sense ≡ Plain → IsEvent (f .message) → kindNumber (f .message .kind) ≤ 2 → unlessBelow (f .message .hour) g (settled room g (takePlain (f .message) g)) .number ≡ 0
+  plain-accepted : f .sense ≡ Plain → IsEvent (f .message) → kindNumber (f .message .kind) ≤ 2 → unlessBelow (f .message .hour) g (settled
+      room g (takePlain (f .message) g)) .number ≡ 0
       → Accepted room f g (unlessBelow (f .message .hour) g (settled room g (takePlain (f .message) g)))
   plain-accepted s k few h =
       let b = not-below (f .message .hour) g (settled room g (takePlain (f .message) g)) h in
@@ -85,7 +88,8 @@ module _ (room : ℕ) (f : Frame) (g : Gateway) where
       let e = settles room g (takeCancel (f .message) g) (ap (λ (r : Outcome). r .number) (sym (b .comes-to)) ∙ h) in
       subst (Accepted room f g) (sym (b .comes-to ∙ e .comes-to)) (cancel-taken s (b .in-time) (e .room-enough))
 
-  acknowledgment-accepted : (b : Bool) → f .sense ≡ acknowledgmentSense b → takeAcknowledgment b (f .message) g .number ≡ 0 → Accepted room f g (takeAcknowledgment b (f .message) g)
+  acknowledgment-accepted : (b : Bool) → f .sense ≡ acknowledgmentSense b → takeAcknowledgment b (f .message) g .number ≡ 0 → Accepted room
+      f g (takeAcknowledgment b (f .message) g)
   unfolding takeAcknowledgment
   acknowledgment-accepted b s h = by-case (any (isSent b (f .message)) (g .outstanding)) refl
     where
@@ -93,7 +97,8 @@ module _ (room : ℕ) (f : Frame) (g : Gateway) where
       by-case true p = rw p (acknowledgment-taken b s p)
       by-case false p = absurd (omega (arith, rw p at h))
 
-  by-kind : f .sense ≡ Plain → (k : Kind) → f .message .kind ≡ k → takeByKind room (f .message) g k .number ≡ 0 → Accepted room f g (takeByKind room (f .message) g k)
+  by-kind : f .sense ≡ Plain → (k : Kind) → f .message .kind ≡ k → takeByKind room (f .message) g k .number ≡ 0 → Accepted room f g
+      (takeByKind room (f .message) g k)
   by-kind s (Failure origin) e h = plain-accepted s (rw e) (omega (arith, ap kindNumber e)) h
   by-kind s (Request origin) e h = plain-accepted s (rw e) (omega (arith, ap kindNumber e)) h
   by-kind s (Delivery origin) e h = plain-accepted s (rw e) (omega (arith, ap kindNumber e)) h
@@ -135,7 +140,8 @@ bytes-accepted bytes room g h = by-form formTest refl
     by-number p true q =
         let same : takeBytes bytes room g ≡ takeFrame room (reading bytes .frame) g = rw (p, q) in
         record {
-          good = eqb-true (formNumber (reading bytes .form)) 0 (and-left (eqb (formNumber (reading bytes .form)) 0) (not (eqb (kindNumber (reading bytes .frame .message .kind)) 3)) p);
+          good = eqb-true (formNumber (reading bytes .form)) 0 (and-left (eqb (formNumber (reading bytes .form)) 0) (not (eqb (kindNumber
+              (reading bytes .frame .message .kind)) 3)) p);
           passes = eqb-true number 0 q;
           comes-to = same;
           taken = frame-accepted room (reading bytes .frame) g (ap (λ (r : Outcome). r .number) (sym same) ∙ h);

@@ -8,11 +8,11 @@ use native.Mathlib.Omega.{arith}
 use native.Mathlib.Decide.{ℕ-discrete}
 use lib.Dec.{eqb}
 use lib.ListN.{length}
+use Rattle.lists.specs.Lists.{All, nil, cons, count, tally}
+use Rattle.lists.proofs.ListLaws.{matches-equal, matches-other}
+use Rattle.lists.proofs.FamilyLaws.{Same, same, other, same?}
 use Rattle.gateway.specs.Rounds.{bitOf, allBits, awaited}
-use Rattle.timewarp.specs.Lists.{All, nil, cons, count, tally}
 use Rattle.timewarp.specs.Arcs.{times}
-use Rattle.timewarp.proofs.ListLaws.{matches-equal, matches-other}
-use Rattle.timewarp.proofs.FamilyLaws.{Same, same, other, same?}
 
 -- 1 for what passes
 abbrev pub oneIf : Bool → ℕ

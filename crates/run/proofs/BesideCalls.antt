@@ -5,6 +5,7 @@ use mathlib.Core.Bool.{Bool, true, false, cond}
 use mathlib.Core.List.{List}
 use lib.Dec.{eqb}
 use borrow.Author.Tests.{eqb-true, eqb-false}
+use Rattle.lists.specs.Families.{change}
 use Rattle.model.specs.declared.Message.{Message}
 use Rattle.memory.specs.Codec.{decode}
 use Rattle.memory.specs.Soundness.{sound}
@@ -12,15 +13,13 @@ use Rattle.gateway.specs.Calls.{agreedTime}
 use Rattle.timewarp.specs.Arcs.{Graph}
 use Rattle.timewarp.specs.Worlds as Worlds
 use Rattle.timewarp.proofs.CallChains.{steps-join}
-use Rattle.run.specs.Lines.{change}
-use Rattle.run.specs.SingleQueue.{SetUp}
+use Rattle.run.specs.SingleQueue.{SetUpInput}
 use Rattle.run.specs.Ledger as Ledger
 use Rattle.run.specs.World.{World, Carried, Rounds}
 use Rattle.run.proofs.LocalChains.{lower-agreed}
 use Rattle.run.proofs.QueueViews.{viewOf}
-use Rattle.run.proofs.RoundCounters.{same-change}
 use Rattle.run.proofs.RoundChains.{change-same}
-use Rattle.run.proofs.SingleQueues.{recordOf}
+use Rattle.run.proofs.SingleQueues.{historyRecord}
 use Rattle.run.proofs.Ledgers.{Follows}
 use Rattle.run.proofs.EventWorlds.{settingOf, GoesOn}
 use Rattle.run.proofs.ClaimParts.{Beside}
@@ -28,7 +27,7 @@ use Rattle.run.proofs.OpeningWorlds.{agreed-read}
 
 -- a family changed to what it is
 pub change-self : {A : Type 0} (i : ℕ) (f : ℕ → A) → change i (f i) f ≡ f
-change-self i f = λ k j. (same-change i (f i) f j ∙ change-same i f j) k
+change-self i f = λ k j. change-same i f j k
 
 -- the run's world after a call at gateway i
 abbrev pub worldAfter : World → ℕ → List ℕ → List Carried → List ℕ → Ledger.Ledger → Rounds → World
@@ -40,8 +39,12 @@ worldAfter w i memory underWay bytes l rounds = record {
   rounds = rounds;
 }
 
-module _ (n last : ℕ) (setups : ℕ → SetUp) (G : Graph) (same : G .last ≡ n - 1) where
-  module _ (w : World) (t : Worlds.World (settingOf n last setups G same)) (b : Beside n last setups G same w t) (i : ℕ) (h : i < n) (memory : List ℕ) (c : List Message) (cs : List Carried) (bytes : List ℕ) (l : Ledger.Ledger) (rounds : Rounds) {s : List Message} (still : sound memory ≡ true) (goes : GoesOn n last setups G same t i s c (decode memory) cs) (time : decode memory .agreed ≡ decode (w .memories i) .agreed) (written : bytes ≡ recordOf n last setups i c) (follows : Follows n last setups (decode memory .queue) l) where
+module _ (n last : ℕ) (setups : ℕ → SetUpInput) (G : Graph) (same : G .last ≡ n - 1) where
+  module _ (w : World) (t : Worlds.World (settingOf n last setups G same)) (b : Beside n last setups G same w t) (i : ℕ) (h : i < n) (memory
+      : List ℕ) (c : List Message) (cs : List Carried) (bytes : List ℕ) (l : Ledger.Ledger) (rounds : Rounds) {s : List Message} (still :
+      sound memory ≡ true) (goes : GoesOn n last setups G same t i s c (decode memory) cs) (time : decode memory .agreed ≡ decode
+      (w .memories i) .agreed) (written : bytes ≡ historyRecord n last setups i c) (follows : Follows n last setups (decode memory .queue)
+      l) where
     agreed-still : (j : ℕ) → goes .world .rounds .agreed j ≡ t .rounds .agreed j
     agreed-still j = ap (λ r. r .agreed j) (goes .rounds) ∙ ap (λ (f : ℕ → ℕ). f j) (lower-agreed (settingOf n last setups G same) i s (t .rounds))
 
@@ -49,8 +52,10 @@ module _ (n last : ℕ) (setups : ℕ → SetUp) (G : Graph) (same : G .last ≡
     sound-at j k true = still
     sound-at j k false = b .is-sound j k
 
-    view-at : (j : ℕ) → j < n → (x : Bool) → eqb i j ≡ x → goes .world .events .gateways j ≡ viewOf (cond x c (b .done j)) (decode (cond x memory (w .memories j)) .queue) (decode (cond x memory (w .memories j)) .outstanding)
-    view-at j k true e = subst (λ (m : ℕ). goes .world .events .gateways m ≡ viewOf c (decode memory .queue) (decode memory .outstanding)) (eqb-true i j e) (goes .here)
+    view-at : (j : ℕ) → j < n → (x : Bool) → eqb i j ≡ x → goes .world .events .gateways j ≡ viewOf (cond x c (b .done j)) (decode (cond x
+        memory (w .memories j)) .queue) (decode (cond x memory (w .memories j)) .outstanding)
+    view-at j k true e = subst (λ (m : ℕ). goes .world .events .gateways m ≡ viewOf c (decode memory .queue) (decode memory .outstanding))
+        (eqb-true i j e) (goes .here)
     view-at j k false e = goes .elsewhere j (eqb-false i j e) ∙ b .views j k
 
     time-at : (j : ℕ) → j < n → (x : Bool) → eqb i j ≡ x → goes .world .rounds .agreed j ≡ agreedTime (cond x memory (w .memories j)) .hour
@@ -59,8 +64,8 @@ module _ (n last : ℕ) (setups : ℕ → SetUp) (G : Graph) (same : G .last ≡
         (agreed-still i ∙ b .times i h ∙ sym (b .gateway-times i h) ∙ sym time ∙ sym (agreed-read memory still))
     time-at j k false e = agreed-still j ∙ b .times j k
 
-    record-at : (j : ℕ) → j < n → (x : Bool) → eqb i j ≡ x → cond x bytes (w .records j) ≡ recordOf n last setups j (cond x c (b .done j))
-    record-at j k true e = subst (λ (m : ℕ). bytes ≡ recordOf n last setups m c) (eqb-true i j e) written
+    record-at : (j : ℕ) → j < n → (x : Bool) → eqb i j ≡ x → cond x bytes (w .records j) ≡ historyRecord n last setups j (cond x c (b .done j))
+    record-at j k true e = subst (λ (m : ℕ). bytes ≡ historyRecord n last setups m c) (eqb-true i j e) written
     record-at j k false e = b .records j k
 
     ledger-at : (j : ℕ) → j < n → (x : Bool) → Follows n last setups (decode (cond x memory (w .memories j)) .queue) (cond x l (w .ledgers j))

@@ -1,15 +1,15 @@
 -- The relation of the run's world and the theory's world, for all gateways at once, and what it gives of each gateway.
 use mathlib.Core.Path.{_≡_, refl, sym, _∙_}
 use Prim.Native.Nat.{ℕ, _≤_, _<_}
+use Rattle.lists.specs.Lists.{All}
 use Rattle.memory.specs.Records.{Gateway}
 use Rattle.memory.specs.Codec.{decode}
 use Rattle.gateway.specs.Claims.{SoundBytes}
 use Rattle.gateway.proofs.Maintaining.{Proper}
-use Rattle.timewarp.specs.Lists.{All}
 use Rattle.timewarp.specs.Models.{Model}
 use Rattle.timewarp.specs.Worlds as Worlds
 use Rattle.timewarp.proofs.Joined.{Good, good}
-use Rattle.run.specs.SingleQueue.{SetUp}
+use Rattle.run.specs.SingleQueue.{SetUpInput}
 use Rattle.run.specs.World.{World}
 use Rattle.run.proofs.FigureGraph.{figureGraph}
 use Rattle.run.proofs.ForecastModel.{forecastModel}
@@ -23,7 +23,7 @@ use Rattle.run.proofs.DueHours.{NoteDue}
 use Rattle.run.proofs.HeldGateways.{held-proper}
 use Rattle.run.proofs.ClaimParts.{Beside}
 
-module _ (n : ℕ) (some : 1 ≤ n) (last : ℕ) (setups : ℕ → SetUp) where
+module _ (n : ℕ) (some : 1 ≤ n) (last : ℕ) (setups : ℕ → SetUpInput) where
   abbrev pub model : Model
   model = forecastModel n last setups
 

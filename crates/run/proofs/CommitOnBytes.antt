@@ -4,20 +4,19 @@ use Prim.Native.Nat.{ℕ, _≤_, _<_}
 use native.Mathlib.Omega.{arith}
 use mathlib.Core.List.{List, [], _∷_, _++_}
 use lib.ListN.{length, take}
+use Rattle.lists.specs.Lists.{withoutFirst, nil}
 use Rattle.memory.specs.Records.{Gateway}
 use Rattle.memory.specs.Codec.{decode, encode}
 use Rattle.memory.specs.Validity.{isProcessed}
 use Rattle.gateway.specs.Effects.{Outcome, withQueue}
-use Rattle.gateway.specs.Taking.{withoutFirst}
 use Rattle.gateway.specs.Committing as Committing
 use Rattle.gateway.specs.Committing.{commit}
-use Rattle.gateway.specs.Calls.{Left, committed}
+use Rattle.gateway.specs.Calls.{CallResult, committed}
 use Rattle.gateway.specs.declared.Answer.{Answer}
 use Rattle.gateway.proofs.Maintaining.{Kept}
 use Rattle.gateway.proofs.Keeps.{commit-keeps}
-use Rattle.timewarp.specs.Lists.{nil}
 use Rattle.timewarp.specs.Worlds as Worlds
-use Rattle.run.specs.SingleQueue.{SetUp}
+use Rattle.run.specs.SingleQueue.{SetUpInput}
 use Rattle.run.specs.Ledger.{committedOne}
 use Rattle.run.specs.World.{World, afterCommitting}
 use Rattle.run.proofs.FigureGraph.{figureGraph}
@@ -32,7 +31,8 @@ use Rattle.run.proofs.HeldGateways.{written-held}
 use Rattle.run.proofs.BothWorlds.{forecastSetting, Both, Keeps, proper, sees}
 use Rattle.run.proofs.EventsKept.{Comes, keeps}
 
-module _ (n : ℕ) (some : 1 ≤ n) (last : ℕ) (setups : ℕ → SetUp) {w : World} {t : Worlds.World (forecastSetting n some last setups)} (b : Both n some last setups w t) (i : ℕ) (h : i < n) (output : List ℕ) where
+module _ (n : ℕ) (some : 1 ≤ n) (last : ℕ) (setups : ℕ → SetUpInput) {w : World} {t : Worlds.World (forecastSetting n some last setups)} (b
+    : Both n some last setups w t) (i : ℕ) (h : i < n) (output : List ℕ) where
   abbrev g : Gateway
   g = decode (w .memories i)
 
@@ -50,7 +50,8 @@ module _ (n : ℕ) (some : 1 ≤ n) (last : ℕ) (setups : ℕ → SetUp) {w : W
         record {
           sends = [];
           goes =
-              commit-goes n last setups (figureGraph n some) refl t i (omega arith) (b .beside .done i) g (b .stands i h) (w .underWay) (sees n some last setups b i h) (k .event) (k .newer) (k .is) (k .below);
+              commit-goes n last setups (figureGraph n some) refl t i (omega arith) (b .beside .done i) g (b .stands i h) (w .underWay)
+              (sees n some last setups b i h) (k .event) (k .newer) (k .is) (k .below);
           stands =
               still-stands n last setups i (b .beside .done i) g (b .stands i h) (k .event .message ∷ b .beside .done i) next kept
               (commit-saved n last setups i (b .beside .done i) g (b .stands i h) (k .event) (k .newer) (k .is));
@@ -72,7 +73,8 @@ module _ (n : ℕ) (some : 1 ≤ n) (last : ℕ) (setups : ℕ → SetUp) {w : W
         (committedOne (w .ledgers i))
         comes
         (w .records i ++ Committing.recordOf (k .event))
-        (ap (λ x. x ++ Committing.recordOf (k .event)) (b .beside .records i h) ∙ commit-record n last setups i (b .stands i h .saved) (k .event) (k .newer) (k .is))
+        (ap (λ x. x ++ Committing.recordOf (k .event)) (b .beside .records i h) ∙ commit-record n last setups i (b .stands i h .saved)
+        (k .event) (k .newer) (k .is))
 
   pub commits-kept : committed (w .memories i) output .answer .number ≡ 0 →
       let l = committed (w .memories i) output in
@@ -81,6 +83,7 @@ module _ (n : ℕ) (some : 1 ≤ n) (last : ℕ) (setups : ℕ → SetUp) {w : W
   commits-kept z =
       let (is-sound, number, leaves) = on-sound commit (w .memories i) output z in
       let k = commit-taken (length output) g number in
-      subst (λ (l : Left Answer). Keeps n some last setups t (afterCommitting i (l .memory) (take (l .answer .written) (l .output)) w))
+      subst (λ (l : CallResult Answer). Keeps n some last setups t (afterCommitting i (l .memory) (take (l .answer .written) (l .output)) w))
       (sym (leaves ∙ ap (λ (r : Outcome). left r (w .memories i) output) (k .comes-to)))
-      (subst (λ (xs : List ℕ). Keeps n some last setups t (afterCommitting i (encode next (w .memories i)) xs w)) (sym (written-back (Committing.recordOf (k .event)) output)) (commit-kept k))
+      (subst (λ (xs : List ℕ). Keeps n some last setups t (afterCommitting i (encode next (w .memories i)) xs w)) (sym (written-back
+      (Committing.recordOf (k .event)) output)) (commit-kept k))

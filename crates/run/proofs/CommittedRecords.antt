@@ -7,6 +7,7 @@ use mathlib.Core.List.{List, [], _∷_, _++_}
 use lib.Dec.{ltb, leb}
 use lib.ListN.{length}
 use borrow.Author.Tests.{ltb-true, ltb-false}
+use Rattle.lists.specs.Lists.{withoutFirst, Beginning}
 use Rattle.model.specs.Doing.{after}
 use Rattle.model.specs.declared.Message.{Message}
 use Rattle.model.specs.declared.State.{State}
@@ -17,18 +18,17 @@ use Rattle.memory.specs.Validity.{isProcessed, frameIf}
 use Rattle.memory.specs.declared.Entry.{Entry}
 use Rattle.gateway.specs.Effects.{refused, withQueue}
 use Rattle.gateway.specs.Undoing.{processedOf}
-use Rattle.gateway.specs.Taking.{withoutFirst}
 use Rattle.gateway.specs.Committing as Committing
 use Rattle.gateway.specs.Committing.{commit, commitOldest}
 use Rattle.timewarp.specs.Models.{stateAfter}
 use Rattle.timewarp.specs.SingleQueue as Theory
-use Rattle.run.specs.Lines.{Beginning}
-use Rattle.run.specs.SingleQueue.{SetUp, recordFor, wholeRecord}
+use Rattle.gateway.specs.Committing.{recordFor}
+use Rattle.run.specs.SingleQueue.{SetUpInput, wholeRecord}
 use Rattle.run.proofs.ForecastModel.{forecastModel}
 use Rattle.run.proofs.QueueViews.{doneAfter, done-history}
 use Rattle.run.proofs.SavedStates.{Saved}
 use Rattle.run.proofs.QueueChanges.{saved-committed, oldest-taken}
-use Rattle.run.proofs.SingleQueues.{recordOf, record-beginning}
+use Rattle.run.proofs.SingleQueues.{historyRecord, record-beginning}
 
 -- an accepted commit
 pub record CommitTaken (room : ℕ) (g : Gateway) : Type 0 where
@@ -42,8 +42,13 @@ pub commit-taken : (room : ℕ) (g : Gateway) → commit room g .number ≡ 0 �
 unfolding commit
 commit-taken room g h = by-oldest (processedOf (g .queue)) refl h
   where
-    by-tests : (e : Entry) (es : List Entry) → processedOf (g .queue) ≡ e ∷ es → (t : Bool) → ltb (e .message .hour) (g .agreed) ≡ t → (u : Bool) → leb (length (Committing.recordOf e)) room ≡ u
-        → cond t (cond u (record { number = 0; gateway = withQueue (withoutFirst isProcessed (g .queue)) g; output = Committing.recordOf e }) (refused 5 g)) (refused 6 g) .number ≡ 0
+    by-tests : (e : Entry) (es : List Entry) → processedOf (g .queue) ≡ e ∷ es → (t : Bool) → ltb (e .message .hour) (g .agreed) ≡ t → (u :
+        Bool) → leb (length (Committing.recordOf e)) room ≡ u
+        → cond t (cond u (record {
+          number = 0;
+          gateway = withQueue (withoutFirst isProcessed (g .queue)) g;
+          output = Committing.recordOf e;
+        }) (refused 5 g)) (refused 6 g) .number ≡ 0
         → CommitTaken room g
     by-tests e es k true p true q h =
         record { event = e; newer = es; is = k; below = ltb-true (e .message .hour) (g .agreed) p; comes-to = ap (commitOldest room g) k ∙ rw (p, q) }
@@ -76,12 +81,17 @@ none-processed-done h (e ∷ es) k = by-case (isProcessed e) refl (none-processe
     by-case false p ih = rw p (ih (rw p at k))
 
 -- where a commit answers 6, the oldest event done is not below the agreed time
-pub nothing-to-commit : (room : ℕ) (g : Gateway) → commit room g .number ≡ 6 → (m : Message) (newer : List Message) → doneAfter [] (g .queue) ≡ newer ++ (m ∷ []) → g .agreed ≤ m .hour
+pub nothing-to-commit : (room : ℕ) (g : Gateway) → commit room g .number ≡ 6 → (m : Message) (newer : List Message) → doneAfter []
+    (g .queue) ≡ newer ++ (m ∷ []) → g .agreed ≤ m .hour
 unfolding commit
 nothing-to-commit room g h m newer d = by-oldest (processedOf (g .queue)) refl h
   where
     by-tests : (e : Entry) (es : List Entry) → processedOf (g .queue) ≡ e ∷ es → (t : Bool) → ltb (e .message .hour) (g .agreed) ≡ t → (u : Bool)
-        → cond t (cond u (record { number = 0; gateway = withQueue (withoutFirst isProcessed (g .queue)) g; output = Committing.recordOf e }) (refused 5 g)) (refused 6 g) .number ≡ 6
+        → cond t (cond u (record {
+          number = 0;
+          gateway = withQueue (withoutFirst isProcessed (g .queue)) g;
+          output = Committing.recordOf e;
+        }) (refused 5 g)) (refused 6 g) .number ≡ 6
         → g .agreed ≤ m .hour
     by-tests e es k true p true h = absurd (omega (arith, h))
     by-tests e es k true p false h = absurd (omega (arith, h))
@@ -98,17 +108,20 @@ nothing-to-commit room g h m newer d = by-oldest (processedOf (g .queue)) refl h
     by-oldest [] k h = none-done-then k
     by-oldest (e ∷ es) k h = by-tests e es k (ltb (e .message .hour) (g .agreed)) refl (leb (length (Committing.recordOf e)) room) h
 
-module _ (n last : ℕ) (setups : ℕ → SetUp) (i : ℕ) where
+module _ (n last : ℕ) (setups : ℕ → SetUpInput) (i : ℕ) where
   -- what a commit writes is the record of the event that joins the committed ones
-  pub commit-record : {c : List Message} {queue : List Entry} {s : State} → Saved n last setups i c queue s → (e : Entry) (newer : List Entry) → processedOf queue ≡ e ∷ newer
-      → recordOf n last setups i c ++ Committing.recordOf e ≡ recordOf n last setups i (e .message ∷ c)
-  unfolding recordOf Committing.recordOf recordFor stateAfter
+  pub commit-record : {c : List Message} {queue : List Entry} {s : State} → Saved n last setups i c queue s → (e : Entry) (newer : List
+      Entry) → processedOf queue ≡ e ∷ newer
+      → historyRecord n last setups i c ++ Committing.recordOf e ≡ historyRecord n last setups i (e .message ∷ c)
+  unfolding historyRecord recordFor stateAfter
   commit-record {c} v e newer k =
-      ap (λ (z : State). recordOf n last setups i c ++ (written (frameIf false (e .message)) ++ stateBytes (after z (e .message .kind)))) (saved-committed n last setups i v e newer k .before)
+      ap (λ (z : State). historyRecord n last setups i c ++ (written (frameIf false (e .message)) ++ stateBytes (after z
+      (e .message .kind)))) (saved-committed n last setups i v e newer k .before)
 
   -- a committed record is a beginning of the whole one where the committed events are a beginning of the single queue's
-  pub record-begins : (c : List Message) (bytes : List ℕ) → bytes ≡ recordOf n last setups i c → wholeRecord n last setups i ≡ recordOf n last setups i (Theory.singleHistory (forecastModel n last setups) i)
+  pub record-begins : (c : List Message) (bytes : List ℕ) → bytes ≡ historyRecord n last setups i c → wholeRecord n last setups i ≡
+      historyRecord n last setups i (Theory.singleHistory (forecastModel n last setups) i)
       → (later : List Message) → Theory.singleHistory (forecastModel n last setups) i ≡ later ++ c → Beginning bytes (wholeRecord n last setups i)
   record-begins c bytes e whole later h =
       let r = record-beginning n last setups i later c in
-      (r .0, whole ∙ ap (recordOf n last setups i) h ∙ r .1 ∙ ap (λ x. x ++ r .0) (sym e))
+      (r .0, whole ∙ ap (historyRecord n last setups i) h ∙ r .1 ∙ ap (λ x. x ++ r .0) (sym e))

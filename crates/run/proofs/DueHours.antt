@@ -6,7 +6,7 @@ use Prim.Native.Nat.{ℕ, _≤_, _<_, min}
 use native.Mathlib.Omega.{arith}
 use lib.Dec.{leb, eqb}
 use borrow.Author.Tests.{leb-true, le-leb, eqb-true, eq-eqb}
-use Rattle.routing.specs.Arcs.{_∈_}
+use Rattle.lists.specs.Lists.{_∈_, All, nil, cons}
 use Rattle.model.specs.declared.Message.{Message}
 use Rattle.frame.specs.Limits.{nothingDue}
 use Rattle.memory.specs.Records.{Gateway}
@@ -19,7 +19,6 @@ use Rattle.memory.specs.declared.Phase.the-variants.{Idle, Counting, Stopped}
 use Rattle.memory.proofs.Validated.{Valid}
 use Rattle.gateway.specs.Effects.{loweredIn, noted}
 use Rattle.gateway.specs.Rounds.{leastOutstanding, leastQueued, valueAt, valueIn}
-use Rattle.timewarp.specs.Lists.{All, nil, cons}
 use Rattle.run.proofs.EventCalls.{notedAll}
 
 -- an hour that an Lvt or an Update may have

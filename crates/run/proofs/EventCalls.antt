@@ -6,7 +6,9 @@ use mathlib.Core.Bool.{Bool, true, false, cond, not, true≢false}
 use mathlib.Core.List.{List, [], _∷_, _++_, map, append-assoc, append-nil, List·Memᴰ·head as member-first, List·Memᴰ·cases-cons, Memᴰ·append-right}
 use mathlib.Core.Logic.{⊎-elim}
 use borrow.Author.Tests.{not-true}
-use Rattle.routing.specs.Arcs.{_∈_, Ascending, none as ended, more}
+use Rattle.lists.specs.Lists.{_∈_, Ascending, none as ended, more, any, withoutFirst, beforeLast, fromLast, tailOf, All, nil, cons, Insert, here}
+use Rattle.lists.proofs.SearchLaws.{cut-first, before-fails, around-last}
+use Rattle.lists.proofs.ListLaws.{insert-last, insert-between, inserts-back, all-map}
 use Rattle.model.specs.Doing.{after, sent}
 use Rattle.model.specs.EventOrder.{key}
 use Rattle.model.specs.Messages.{originOf}
@@ -19,24 +21,26 @@ use Rattle.memory.specs.declared.Entry.{Entry}
 use Rattle.memory.specs.declared.Sent.{Sent}
 use Rattle.memory.specs.declared.Round.{Round}
 use Rattle.memory.proofs.EventLaws.{equal-same, not-later-self}
-use Rattle.memory.proofs.Validated.{Valid, MayStand, and-left, and-right, first-of}
+use Rattle.memory.proofs.Validated.{Valid, MayStand, first-of}
+use Rattle.lists.proofs.BoolLaws.{and-left, and-right}
 use Rattle.gateway.specs.Effects.{withQueue, withState, withRound, withOutstanding, noted, sentOne, sentAll}
 use Rattle.gateway.specs.Undoing.{processedOf, pendingEntry, undone, restored, sentBack, rolledBack}
 use Rattle.gateway.specs.Working.{pendingOf, processedNext, done}
-use Rattle.gateway.specs.Taking.{any, withoutFirst, beforeLast, fromLast, tailOf, upTo, behind, isCancelOf, isPlain, isSent, waitingEntry, takePlain, takeCancel}
-use Rattle.gateway.proofs.Searches.{pending-member, cut-again, up-to-not-later, behind-later, around-last}
-use Rattle.timewarp.specs.Lists.{All, nil, cons, Insert, here}
+use Rattle.lists.specs.Lists.{beforeFirst, fromFirst}
+use Rattle.gateway.specs.Taking.{isLater, isCancelOf, isPlain, isSent, waitingEntry, takePlain, takeCancel}
+use Rattle.gateway.proofs.Searches.{pending-member, behind-later}
 use Rattle.timewarp.specs.Models.{Model, NotLater, hour, first, sentBy}
 use Rattle.timewarp.specs.Gateways.{Event, plain, cancel, message, history, gatewayOf, networkOf, Network, Gateway as View}
 use Rattle.timewarp.specs.EventSteps.{does, takes, takesAcknowledgment, commits, becomesPending, meetsCancel, strikesOut, waits}
-use Rattle.timewarp.proofs.ListLaws.{insert-last, insert-between, inserts-back, all-map}
 use Rattle.timewarp.proofs.CallChains.{insert-append}
-use Rattle.run.specs.SingleQueue.{SetUp}
+use Rattle.run.specs.SingleQueue.{SetUpInput}
 use Rattle.run.proofs.EventOrders.{not-later-keys, later-keys}
 use Rattle.run.proofs.ForecastModel.{forecastModel, siteAt, sendsAt, sends-all-sent}
-use Rattle.run.proofs.QueueViews.{eventIf, eventFor, doneAfter, waitingOf, viewOf, done-append, done-history, pending-append, waiting-append, undone-done, undone-waiting, Marked, marked, pending, processed, waiting}
+use Rattle.run.proofs.QueueViews.{eventIf, eventFor, doneAfter, waitingOf, viewOf, done-append, done-history, pending-append}
+use Rattle.run.proofs.QueueViews.{waiting-append, undone-done, undone-waiting, Marked, marked, pending, processed, waiting}
 use Rattle.run.proofs.SavedStates.{stateAt, Saved, saved-front, saved-back, saved-join, saved-state, saved-restored, saved-undone, saved-more}
-use Rattle.run.proofs.QueueChanges.{done-all, Found, last-found, cancel-met, oldest-taken, each-all, next-done, sent-taken, saved-without, saved-committed, saved-next}
+use Rattle.run.proofs.QueueChanges.{done-all, Found, last-found, cancel-met, oldest-taken, each-all, next-done, sent-taken}
+use Rattle.run.proofs.QueueChanges.{saved-without, saved-committed, saved-next}
 use Rattle.run.proofs.LocalChains.{Chain, then, single}
 use Rattle.run.proofs.UndoChains.{SendsAll, undo-chain}
 
@@ -48,7 +52,8 @@ notedAll (m ∷ ms) r = notedAll ms (noted (m .hour) r)
 abbrev pub sentAs : Bool → Message → Sent
 sentAs c m = record { message = m; cancel = c }
 
-pub sent-all : (c : Bool) (ms : List Message) (g : Gateway) → sentAll c ms g ≡ withOutstanding (g .outstanding ++ map (sentAs c) ms) (withRound (notedAll ms (g .round)) g)
+pub sent-all : (c : Bool) (ms : List Message) (g : Gateway) → sentAll c ms g ≡ withOutstanding (g .outstanding ++ map (sentAs c) ms)
+    (withRound (notedAll ms (g .round)) g)
 unfolding sentAll sentOne notedAll
 sent-all c [] g = ap (λ o. withOutstanding o g) (sym (append-nil (g .outstanding)))
 sent-all c (m ∷ ms) g =
@@ -61,7 +66,8 @@ sent-events c [] (m ∷ ms) = ap (λ l. eventIf c m ∷ l) (sent-events c [] ms)
 sent-events c (x ∷ o) ms = ap (λ l. eventFor x ∷ l) (sent-events c o ms)
 
 -- a queue's messages that are pending are all not earlier than the first
-pending-later : {es : List Entry} → Ascending MayStand es → (m : Message) → All (λ e. later m (e .message) ≡ false) es → All (λ x. later m x ≡ false) (pendingOf es)
+pending-later : {es : List Entry} → Ascending MayStand es → (m : Message) → All (λ e. later m (e .message) ≡ false) es → All (λ x. later m x
+    ≡ false) (pendingOf es)
 unfolding pendingOf
 pending-later ended m a = nil
 pending-later (more {x = e} {xs = es} f b) m (cons p a) = by-case (isPending e) (pending-later b m a)
@@ -87,7 +93,7 @@ pub ascending-right : {A : Type 0} {R : A → A → Type 0} (us : List A) {vs : 
 ascending-right [] a = a
 ascending-right (u ∷ us) (more f a) = ascending-right us a
 
-module _ (n last : ℕ) (setups : ℕ → SetUp) (i : ℕ) where
+module _ (n last : ℕ) (setups : ℕ → SetUpInput) (i : ℕ) where
   abbrev model : Model
   model = forecastModel n last setups
 
@@ -101,12 +107,14 @@ module _ (n last : ℕ) (setups : ℕ → SetUp) (i : ℕ) where
     pub saved : Saved n last setups i c (g .queue) (g .state)
 
   -- the gateway's view changes in steps
-  abbrev pub Moves : ℕ → List Message → Gateway → List (Event Message) → List (Event Message) → List Message → List Message → Gateway → List (Event Message) → List (Event Message) → Type 1
+  abbrev pub Moves : ℕ → List Message → Gateway → List (Event Message) → List (Event Message) → List Message → List Message → Gateway → List
+      (Event Message) → List (Event Message) → Type 1
   Moves time c g v a s c′ g′ v′ a′ =
       Chain model i time (viewOf c (g .queue) (g .outstanding)) (networkOf v a) s (viewOf c′ (g′ .queue) (g′ .outstanding)) (networkOf v′ a′)
 
   -- views with equal lists are equal
-  view-path : {c d d′ p p′ w w′ : List Message} {o o′ : List (Event Message)} → d ≡ d′ → p ≡ p′ → w ≡ w′ → o ≡ o′ → gatewayOf c d p w o ≡ gatewayOf c d′ p′ w′ o′
+  view-path : {c d d′ p p′ w w′ : List Message} {o o′ : List (Event Message)} → d ≡ d′ → p ≡ p′ → w ≡ w′ → o ≡ o′ → gatewayOf c d p w o ≡
+      gatewayOf c d′ p′ w′ o′
   view-path {c} d p w o = λ k. gatewayOf c (d k) (p k) (w k) (o k)
 
   module _ {time : ℕ} {s : List Message} {m m′ : Network Message} where
@@ -135,16 +143,19 @@ module _ (n last : ℕ) (setups : ℕ → SetUp) (i : ℕ) where
     -- doing the earliest pending message
     pub did : (m : Message) → done m g .gateway ≡
         withOutstanding (g .outstanding ++ map (sentAs false) (sent (siteOf (g .settings)) (g .state) m))
-        (withRound (notedAll (sent (siteOf (g .settings)) (g .state) m) (g .round)) (withState (after (g .state) (m .kind)) (withQueue (processedNext (g .state) (g .queue)) g)))
+        (withRound (notedAll (sent (siteOf (g .settings)) (g .state) m) (g .round)) (withState (after (g .state) (m .kind)) (withQueue
+        (processedNext (g .state) (g .queue)) g)))
     unfolding done
-    did m = sent-all false (sent (siteOf (g .settings)) (g .state) m) (withState (after (g .state) (m .kind)) (withQueue (processedNext (g .state) (g .queue)) g))
+    did m = sent-all false (sent (siteOf (g .settings)) (g .state) m) (withState (after (g .state) (m .kind)) (withQueue (processedNext
+        (g .state) (g .queue)) g))
 
     pending-origin : (m : Message) (ms : List Message) → pendingOf (g .queue) ≡ m ∷ ms → originOf (m .kind) < n
     pending-origin m ms k =
         let r = pending-member (g .queue) m (subst (λ l. m ∈ l) (sym k) (member-first refl)) in
         subst (λ (x : Message). originOf (x .kind) < n) (sym (r .2)) (origins (r .0) (r .1))
 
-    does-send : (m : Message) (ms : List Message) → pendingOf (g .queue) ≡ m ∷ ms → sentBy model i (history (viewOf c (g .queue) (g .outstanding))) m ≡ sent (siteOf (g .settings)) (g .state) m
+    does-send : (m : Message) (ms : List Message) → pendingOf (g .queue) ≡ m ∷ ms → sentBy model i (history (viewOf c (g .queue)
+        (g .outstanding))) m ≡ sent (siteOf (g .settings)) (g .state) m
     unfolding sentBy history
     does-send m ms k =
         ap (λ (s : State). sendsAt n last setups i s m) now
@@ -177,7 +188,8 @@ module _ (n last : ℕ) (setups : ℕ → SetUp) (i : ℕ) where
         (inserts-back _ _)
         (inserts-back _ _))))
 
-    pub done-saved : (m : Message) (ms : List Message) → pendingOf (g .queue) ≡ m ∷ ms → Saved n last setups i c (done m g .gateway .queue) (done m g .gateway .state)
+    pub done-saved : (m : Message) (ms : List Message) → pendingOf (g .queue) ≡ m ∷ ms → Saved n last setups i c (done m g .gateway .queue)
+        (done m g .gateway .state)
     done-saved m ms k =
         subst (λ (h : Gateway). Saved n last setups i c (h .queue) (h .state)) (sym (did m)) (saved-next n last setups i (st .valid .order) (st .saved) m ms k)
 
@@ -209,12 +221,14 @@ module _ (n last : ℕ) (setups : ℕ → SetUp) (i : ℕ) where
           refl
 
       -- the later part is undone for the event e
-      undoing : (e : Event Message) → message e .to ≡ i → ((x : Entry) → x ∈ rest → NotLater model (message e) (x .message)) → (time : ℕ) (v a : List (Event Message)) {others : List (Event Message)} → Insert e others v →
+      undoing : (e : Event Message) → message e .to ≡ i → ((x : Entry) → x ∈ rest → NotLater model (message e) (x .message)) → (time : ℕ) (v
+          a : List (Event Message)) {others : List (Event Message)} → Insert e others v →
           Chain model i time
           (viewOf c (g .queue) (g .outstanding))
           (networkOf v a)
           (back rest)
-          (gatewayOf c (doneAfter [] us) (pendingOf us ++ pendingOf (map undone rest)) (waitingOf us ++ waitingOf rest) (map eventFor (g .outstanding) ++ map cancel (back rest)))
+          (gatewayOf c (doneAfter [] us) (pendingOf us ++ pendingOf (map undone rest)) (waitingOf us ++ waitingOf rest) (map eventFor
+          (g .outstanding) ++ map cancel (back rest)))
           (networkOf (v ++ map cancel (back rest)) a)
       undoing e to-here later time v a under =
           chain-from in-parts
@@ -224,10 +238,12 @@ module _ (n last : ℕ) (setups : ℕ → SetUp) (i : ℕ) where
           (gatewayOf c (doneAfter (doneAfter [] us) rest) (pendingOf us ++ pendingOf rest) (waitingOf us ++ waitingOf rest) (map eventFor (g .outstanding)))
           (networkOf v a)
           (sentBack z (processedOf rest))
-          (gatewayOf c (doneAfter [] us) (pendingOf us ++ pendingOf (map undone rest)) (waitingOf us ++ waitingOf rest) (map eventFor (g .outstanding) ++ map cancel (sentBack z (processedOf rest))))
+          (gatewayOf c (doneAfter [] us) (pendingOf us ++ pendingOf (map undone rest)) (waitingOf us ++ waitingOf rest) (map eventFor
+          (g .outstanding) ++ map cancel (sentBack z (processedOf rest))))
           (networkOf (v ++ map cancel (sentBack z (processedOf rest))) a))
           (sym site)
-          (undo-chain n last setups i sends-all time e to-here {c = c} {w = waitingOf us ++ waitingOf rest} rest (doneAfter [] us) (pendingOf us) (map eventFor (g .outstanding)) v a
+          (undo-chain n last setups i sends-all time e to-here {c = c} {w = waitingOf us ++ waitingOf rest} rest (doneAfter [] us)
+          (pendingOf us) (map eventFor (g .outstanding)) v a
           (subst (λ h. Saved n last setups i h rest (g .state)) (done-history c [] us) (saved-back n last setups i us rest saved-cut))
           (each-all rest (λ x k. record { later = later x k; origin = origins x (subst (λ q. x ∈ q) cut (Memᴰ·append-right us k)) }))
           under))
@@ -236,13 +252,17 @@ module _ (n last : ℕ) (setups : ℕ → SetUp) (i : ℕ) where
       rolled-state : rolledBack (processedOf rest) g .state ≡ stateAt n last setups i (doneAfter c us)
       rolled-state = ap (λ (h : Gateway). h .state) (rolled (processedOf rest)) ∙ saved-restored n last setups i (saved-back n last setups i us rest saved-cut)
 
-      saved-rolled : {es : List Entry} → Saved n last setups i (doneAfter c us) es (stateAt n last setups i (doneAfter c us)) → Saved n last setups i c (us ++ es) (rolledBack (processedOf rest) g .state)
-      saved-rolled {es} v = subst (λ (s : State). Saved n last setups i c (us ++ es) s) (sym rolled-state) (saved-join n last setups i (saved-front n last setups i us rest saved-cut) v)
+      saved-rolled : {es : List Entry} → Saved n last setups i (doneAfter c us) es (stateAt n last setups i (doneAfter c us)) → Saved n last
+          setups i c (us ++ es) (rolledBack (processedOf rest) g .state)
+      saved-rolled {es} v = subst (λ (s : State). Saved n last setups i c (us ++ es) s) (sym rolled-state) (saved-join n last setups i
+          (saved-front n last setups i us rest saved-cut) v)
 
       -- a plain message enters between the two
-      enters-between : (m : Message) → m .to ≡ i → ((x : Entry) → x ∈ us → later (x .message) m ≡ false) → ((x : Entry) → x ∈ rest → later (x .message) m ≡ true) →
+      enters-between : (m : Message) → m .to ≡ i → ((x : Entry) → x ∈ us → later (x .message) m ≡ false) → ((x : Entry) → x ∈ rest → later
+          (x .message) m ≡ true) →
           (time : ℕ) → time ≤ m .hour → (v a : List (Event Message)) {v′ : List (Event Message)} → Insert (plain m) v′ v →
-          Moves time c g v a (back rest) c (withQueue (us ++ (pendingEntry m ∷ map undone rest)) (rolledBack (processedOf rest) g)) (v′ ++ map cancel (back rest)) (a ++ (plain m ∷ []))
+          Moves time c g v a (back rest) c (withQueue (us ++ (pendingEntry m ∷ map undone rest)) (rolledBack (processedOf rest) g)) (v′ ++
+          map cancel (back rest)) (a ++ (plain m ∷ []))
       unfolding message hour first key doneAfter pendingOf waitingOf
       enters-between m to-here before behind time due v a under =
           chain-to
@@ -274,7 +294,8 @@ module _ (n last : ℕ) (setups : ℕ → SetUp) (i : ℕ) where
           (single model (takes (cancel m) under (insert-last (cancel m) a) to-here (waits m (insert-between m (waitingOf us) (waitingOf rest))))))
 
       waits-saved : (m : Message) → Saved n last setups i c (us ++ (waitingEntry m ∷ rest)) (g .state)
-      waits-saved m = saved-join n last setups i (saved-front n last setups i us rest saved-cut) (saved-more n last setups i refl (saved-back n last setups i us rest saved-cut))
+      waits-saved m = saved-join n last setups i (saved-front n last setups i us rest saved-cut) (saved-more n last setups i refl
+          (saved-back n last setups i us rest saved-cut))
 
     -- the cancel of m strikes out the entry x, of which what stands behind is undone
     module _ (m : Message) (us : List Entry) (x : Entry) (rest : List Entry) (cut : us ++ (x ∷ rest) ≡ g .queue) (is-plain : isPlain m x ≡ true) where
@@ -300,12 +321,15 @@ module _ (n last : ℕ) (setups : ℕ → SetUp) (i : ℕ) where
       not-earlier : (y : Entry) → y ∈ (x ∷ rest) → NotLater model m (y .message)
       not-earlier y k =
           ⊎-elim
-          (λ (p : y ≡ x). not-later-keys m (y .message) (subst (λ (z : Message). later m z ≡ false) (sym same ∙ sym (ap (λ (z : Entry). z .message) p)) (not-later-self m)))
-          (λ d. not-later-keys m (y .message) (subst (λ (z : Message). later z (y .message) ≡ false) same (first-of (ascending-right us (subst (Ascending MayStand) (sym cut) (st .valid .order))) y d .order)))
+          (λ (p : y ≡ x). not-later-keys m (y .message) (subst (λ (z : Message). later m z ≡ false) (sym same ∙ sym (ap (λ (z : Entry).
+          z .message) p)) (not-later-self m)))
+          (λ d. not-later-keys m (y .message) (subst (λ (z : Message). later z (y .message) ≡ false) same (first-of (ascending-right us
+          (subst (Ascending MayStand) (sym cut) (st .valid .order))) y d .order)))
           (List·Memᴰ·cases-cons k)
 
       strikes : m .to ≡ i → (time : ℕ) (v a : List (Event Message)) {v′ : List (Event Message)} → Insert (cancel m) v′ v →
-          Moves time c g v a (back (x ∷ rest)) c (withQueue (us ++ map undone rest) (rolledBack (processedOf (x ∷ rest)) g)) (v′ ++ map cancel (back (x ∷ rest))) (a ++ (cancel m ∷ []))
+          Moves time c g v a (back (x ∷ rest)) c (withQueue (us ++ map undone rest) (rolledBack (processedOf (x ∷ rest)) g)) (v′ ++ map
+          cancel (back (x ∷ rest))) (a ++ (cancel m ∷ []))
       unfolding message
       strikes to-here time v a under =
           chain-to
@@ -318,17 +342,19 @@ module _ (n last : ℕ) (setups : ℕ → SetUp) (i : ℕ) where
           (undoing us (x ∷ rest) cut (cancel m) to-here not-earlier time v a under)
           (takes (cancel m) (insert-append (map cancel (back (x ∷ rest))) under) (insert-last (cancel m) a) to-here
           (strikesOut m
-          (subst (λ l. Insert m (pendingOf us ++ pendingOf (map undone rest)) (pendingOf us ++ l)) (sym becomes-pending) (insert-between m (pendingOf us) (pendingOf (map undone rest))))))
+          (subst (λ l. Insert m (pendingOf us ++ pendingOf (map undone rest)) (pendingOf us ++ l)) (sym becomes-pending) (insert-between m
+          (pendingOf us) (pendingOf (map undone rest))))))
           (sym (append-nil (back (x ∷ rest)))))
 
     -- what is undone for a plain message that is taken
     unfoldable pub plainBack : Message → List Message
-    plainBack m = cond (any (isCancelOf m) (g .queue)) [] (back (behind m (g .queue)))
+    plainBack m = cond (any (isCancelOf m) (g .queue)) [] (back (fromFirst (isLater m) (g .queue)))
 
-    plain-cut : (m : Message) → upTo m (g .queue) ++ behind m (g .queue) ≡ g .queue
-    plain-cut m = cut-again m (g .queue)
+    plain-cut : (m : Message) → beforeFirst (isLater m) (g .queue) ++ fromFirst (isLater m) (g .queue) ≡ g .queue
+    plain-cut m = cut-first (isLater m) (g .queue)
 
-    meets : (m : Message) → any (isCancelOf m) (g .queue) ≡ true → m .to ≡ i → (time : ℕ) (v a : List (Event Message)) {v′ : List (Event Message)} → Insert (plain m) v′ v →
+    meets : (m : Message) → any (isCancelOf m) (g .queue) ≡ true → m .to ≡ i → (time : ℕ) (v a : List (Event Message)) {v′ : List (Event
+        Message)} → Insert (plain m) v′ v →
         Moves time c g v a [] c (withQueue (withoutFirst (isCancelOf m) (g .queue)) g) v′ (a ++ (plain m ∷ []))
     unfolding message
     meets m found to-here time v a under =
@@ -338,7 +364,8 @@ module _ (n last : ℕ) (setups : ℕ → SetUp) (i : ℕ) where
         (single model (takes (plain m) under (insert-last (plain m) a) to-here (meetsCancel m (r .met))))
 
     -- taking a plain message
-    pub plain-moves : (m : Message) → m .to ≡ i → (time : ℕ) → time ≤ m .hour → (v a : List (Event Message)) {v′ : List (Event Message)} → Insert (plain m) v′ v →
+    pub plain-moves : (m : Message) → m .to ≡ i → (time : ℕ) → time ≤ m .hour → (v a : List (Event Message)) {v′ : List (Event Message)} →
+        Insert (plain m) v′ v →
         Moves time c g v a (plainBack m) c (takePlain m g .gateway) (v′ ++ map cancel (plainBack m)) (a ++ (plain m ∷ []))
     unfolding takePlain plainBack
     plain-moves m to-here time due v a {v′} under = by-case (any (isCancelOf m) (g .queue)) refl
@@ -348,8 +375,8 @@ module _ (n last : ℕ) (setups : ℕ → SetUp) (i : ℕ) where
         by-case true p = rw (p, append-nil v′) (meets m p to-here time v a under)
         by-case false p =
             rw p
-            (enters-between (upTo m (g .queue)) (behind m (g .queue)) (plain-cut m) m to-here
-            (up-to-not-later m (g .queue))
+            (enters-between (beforeFirst (isLater m) (g .queue)) (fromFirst (isLater m) (g .queue)) (plain-cut m) m to-here
+            (before-fails (isLater m) (g .queue))
             (behind-later m (st .valid .order))
             time due v a under)
 
@@ -369,15 +396,17 @@ module _ (n last : ℕ) (setups : ℕ → SetUp) (i : ℕ) where
         by-case true p = rw p (saved-without n last setups i (isCancelOf m) not-processed (st .saved))
         by-case false p =
             rw p
-            (saved-rolled (upTo m (g .queue)) (behind m (g .queue)) (plain-cut m)
-            (saved-more n last setups i refl (saved-undone n last setups i (doneAfter c (upTo m (g .queue))) (behind m (g .queue)))))
+            (saved-rolled (beforeFirst (isLater m) (g .queue)) (fromFirst (isLater m) (g .queue)) (plain-cut m)
+            (saved-more n last setups i refl (saved-undone n last setups i (doneAfter c (beforeFirst (isLater m) (g .queue))) (fromFirst
+            (isLater m) (g .queue)))))
 
     -- what is undone for a cancel that is taken
     unfoldable pub cancelBack : Message → List Message
     cancelBack m = cond (any (isPlain m) (g .queue)) (back (fromLast (isPlain m) (g .queue))) []
 
     -- the last equal plain message, and what stands behind it
-    struck-cut : (m : Message) → any (isPlain m) (g .queue) ≡ true → (f : Found (isPlain m) (fromLast (isPlain m) (g .queue))) → beforeLast (isPlain m) (g .queue) ++ (f .first ∷ f .rest) ≡ g .queue
+    struck-cut : (m : Message) → any (isPlain m) (g .queue) ≡ true → (f : Found (isPlain m) (fromLast (isPlain m) (g .queue))) → beforeLast
+        (isPlain m) (g .queue) ++ (f .first ∷ f .rest) ≡ g .queue
     struck-cut m found f = ap (λ l. beforeLast (isPlain m) (g .queue) ++ l) (sym (f .is)) ∙ around-last (isPlain m) (g .queue) found
 
     -- taking a cancel
@@ -388,20 +417,23 @@ module _ (n last : ℕ) (setups : ℕ → SetUp) (i : ℕ) where
       where
         struck : any (isPlain m) (g .queue) ≡ true → Found (isPlain m) (fromLast (isPlain m) (g .queue)) →
             Moves time c g v a (back (fromLast (isPlain m) (g .queue))) c
-            (withQueue (beforeLast (isPlain m) (g .queue) ++ map undone (tailOf (fromLast (isPlain m) (g .queue)))) (rolledBack (processedOf (fromLast (isPlain m) (g .queue))) g))
+            (withQueue (beforeLast (isPlain m) (g .queue) ++ map undone (tailOf (fromLast (isPlain m) (g .queue)))) (rolledBack (processedOf
+            (fromLast (isPlain m) (g .queue))) g))
             (v′ ++ map cancel (back (fromLast (isPlain m) (g .queue))))
             (a ++ (cancel m ∷ []))
         struck found f =
             subst
             (λ l.
-            Moves time c g v a (back l) c (withQueue (beforeLast (isPlain m) (g .queue) ++ map undone (tailOf l)) (rolledBack (processedOf l) g)) (v′ ++ map cancel (back l)) (a ++ (cancel m ∷ [])))
+            Moves time c g v a (back l) c (withQueue (beforeLast (isPlain m) (g .queue) ++ map undone (tailOf l)) (rolledBack (processedOf
+            l) g)) (v′ ++ map cancel (back l)) (a ++ (cancel m ∷ [])))
             (sym (f .is))
             (strikes m (beforeLast (isPlain m) (g .queue)) (f .first) (f .rest) (struck-cut m found f) (f .passes) to-here time v a under)
 
         by-case : (t : Bool) → any (isPlain m) (g .queue) ≡ t →
             Moves time c g v a (cancelBack m) c (takeCancel m g .gateway) (v′ ++ map cancel (cancelBack m)) (a ++ (cancel m ∷ []))
         by-case true p = rw p (struck p (last-found (isPlain m) (g .queue) p))
-        by-case false p = rw (p, append-nil v′) (waits-between (upTo m (g .queue)) (behind m (g .queue)) (plain-cut m) m to-here time v a under)
+        by-case false p = rw (p, append-nil v′) (waits-between (beforeFirst (isLater m) (g .queue)) (fromFirst (isLater m) (g .queue))
+            (plain-cut m) m to-here time v a under)
 
     pub cancel-saved : (m : Message) → Saved n last setups i c (takeCancel m g .gateway .queue) (takeCancel m g .gateway .state)
     unfolding takeCancel
@@ -420,10 +452,11 @@ module _ (n last : ℕ) (setups : ℕ → SetUp) (i : ℕ) where
 
         by-case : (t : Bool) → any (isPlain m) (g .queue) ≡ t → Saved n last setups i c (takeCancel m g .gateway .queue) (takeCancel m g .gateway .state)
         by-case true p = rw p (struck p (last-found (isPlain m) (g .queue) p))
-        by-case false p = rw p (waits-saved (upTo m (g .queue)) (behind m (g .queue)) (plain-cut m) m)
+        by-case false p = rw p (waits-saved (beforeFirst (isLater m) (g .queue)) (fromFirst (isLater m) (g .queue)) (plain-cut m) m)
 
     -- taking an acknowledgment
-    pub acknowledgment-moves : (b : Bool) (m : Message) → m .from ≡ i → any (isSent b m) (g .outstanding) ≡ true → (time : ℕ) (v a : List (Event Message)) {a′ : List (Event Message)} → Insert (eventIf b m) a′ a →
+    pub acknowledgment-moves : (b : Bool) (m : Message) → m .from ≡ i → any (isSent b m) (g .outstanding) ≡ true → (time : ℕ) (v a : List
+        (Event Message)) {a′ : List (Event Message)} → Insert (eventIf b m) a′ a →
         Moves time c g v a [] c (withOutstanding (withoutFirst (isSent b m) (g .outstanding)) g) v a′
     unfolding message
     acknowledgment-moves b m from-here found time v a under =
@@ -434,7 +467,8 @@ module _ (n last : ℕ) (setups : ℕ → SetUp) (i : ℕ) where
         from-event false = from-here
 
     -- commit
-    pub commit-moves : (e : Entry) (newer : List Entry) → processedOf (g .queue) ≡ e ∷ newer → (time : ℕ) → e .message .hour < time → (v a : List (Event Message)) →
+    pub commit-moves : (e : Entry) (newer : List Entry) → processedOf (g .queue) ≡ e ∷ newer → (time : ℕ) → e .message .hour < time → (v a :
+        List (Event Message)) →
         Moves time c g v a [] (e .message ∷ c) (withQueue (withoutFirst isProcessed (g .queue)) g) v a
     unfolding hour first key
     commit-moves e newer k time below v a =
@@ -444,5 +478,6 @@ module _ (n last : ℕ) (setups : ℕ → SetUp) (i : ℕ) where
         (single model
         (commits (e .message) (r .taken-done [] ∙ done-history (e .message ∷ []) [] (withoutFirst isProcessed (g .queue))) below))
 
-    pub commit-saved : (e : Entry) (newer : List Entry) → processedOf (g .queue) ≡ e ∷ newer → Saved n last setups i (e .message ∷ c) (withoutFirst isProcessed (g .queue)) (g .state)
+    pub commit-saved : (e : Entry) (newer : List Entry) → processedOf (g .queue) ≡ e ∷ newer → Saved n last setups i (e .message ∷ c)
+        (withoutFirst isProcessed (g .queue)) (g .state)
     commit-saved e newer k = saved-committed n last setups i (st .saved) e newer k .still

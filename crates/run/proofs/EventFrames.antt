@@ -6,6 +6,9 @@ use Prim.Native.Nat.{ℕ, _+_, _-_, _<_}
 use native.Mathlib.Omega.{arith}
 use lib.Dec.{eqb}
 use borrow.Author.Tests.{eqb-true, ne-eqb}
+use Rattle.lists.specs.Lists.{withoutFirst, All, nil, cons}
+use Rattle.lists.specs.Families.{change}
+use Rattle.lists.proofs.ListLaws.{all-map}
 use Rattle.model.specs.Messages.{kindNumber}
 use Rattle.model.specs.declared.Message.{Message}
 use Rattle.model.specs.declared.Kind.{Kind}
@@ -13,10 +16,6 @@ use Rattle.model.specs.declared.Kind.the-variants.{Failure, Request, Delivery, 
 use Rattle.frame.specs.Reasons.{reading}
 use Rattle.frame.specs.Writing.{written}
 use Rattle.frame.specs.declared.Frame.{Frame}
-use Rattle.gateway.specs.Taking.{withoutFirst}
-use Rattle.timewarp.specs.Lists.{All, nil, cons}
-use Rattle.timewarp.proofs.ListLaws.{all-map}
-use Rattle.run.specs.Lines.{change}
 use Rattle.run.specs.World.{Carried, Rounds, carry, isFrame, kindIn, roundFrames, tookMore}
 use Rattle.run.proofs.ArrivalBits.{oneIf}
 use Rattle.run.proofs.RoundsUnderWay.{byKind, roundOf, roundsIn, rounds-append, tagged, round-left, Numbered, carried-more}
@@ -44,7 +43,8 @@ none-written tag (cons {a = f} e a) =
     ∙ no-round (tag - 1) (f .message) (f .message .kind) (omega (arith, e .kind))
 
 -- the frames of rounds that are under way stay the same when such frames are put under way
-pub rounds-still : (tag : ℕ) {n last : ℕ} {fs : List Frame} → All (EventFrame n last) fs → (cs : List Carried) → roundsIn (carry tag (map written fs) cs) ≡ roundsIn cs
+pub rounds-still : (tag : ℕ) {n last : ℕ} {fs : List Frame} → All (EventFrame n last) fs → (cs : List Carried) → roundsIn (carry tag (map
+    written fs) cs) ≡ roundsIn cs
 rounds-still tag {fs} a cs =
     rounds-append cs (map (tagged tag) (map written fs))
     ∙ ap (λ l. roundsIn cs ++ l) (none-written tag a)
@@ -57,7 +57,12 @@ rounds-left frame cs h = round-left frame cs (λ t. no-round t (reading frame .f
 -- none counts for a round
 not-counted : (isOpen : Bool) (kind : Kind) → kindNumber kind < 4 → counts isOpen kind ≡ false
 not-counted isOpen kind h =
-    rw (ne-eqb (kindNumber kind) 6 (λ e. omega arith), ne-eqb (kindNumber kind) 4 (λ e. omega arith), ne-eqb (kindNumber kind) 5 (λ e. omega arith)) (by-case isOpen)
+    rw (
+      ne-eqb (kindNumber kind) 6 (λ e. omega arith),
+      ne-eqb (kindNumber kind) 4 (λ e. omega arith),
+      ne-eqb (kindNumber kind) 5 (λ e. omega
+          arith),
+    ) (by-case isOpen)
   where
     by-case : (b : Bool) → (b && false) ≡ false
     by-case true = refl
@@ -86,9 +91,16 @@ took-none tag r = λ k. record { opened = r .opened; open? = r .open?; lvts = r 
     same t = by-case t (eqb tag t) refl
 
 -- none needs the number of a round
-pub numbered-still : (tag : ℕ) {n last : ℕ} {fs : List Frame} → All (EventFrame n last) fs → {cs : List Carried} → All Numbered cs → All Numbered (carry tag (map written fs) cs)
-numbered-still tag a b = carried-more tag (all-map (λ f e k. absurd (omega (arith, e .kind, ap (λ (x : Frame). kindNumber (x .message .kind)) (e .readable)))) a) b
+pub numbered-still : (tag : ℕ) {n last : ℕ} {fs : List Frame} → All (EventFrame n last) fs → {cs : List Carried} → All Numbered cs → All
+    Numbered (carry tag (map written fs) cs)
+numbered-still tag a b = carried-more tag (all-map (λ f e k. absurd (omega (
+  arith,
+  e .kind,
+  ap (λ (x : Frame). kindNumber
+      (x .message .kind)) (e .readable),
+))) a) b
 
 -- each passes
-pub passing-still : (tag : ℕ) {n last : ℕ} {fs : List Frame} → All (EventFrame n last) fs → {cs : List Carried} → All (λ c. Passing n last (c .frame)) cs → All (λ c. Passing n last (c .frame)) (carry tag (map written fs) cs)
+pub passing-still : (tag : ℕ) {n last : ℕ} {fs : List Frame} → All (EventFrame n last) fs → {cs : List Carried} → All (λ c. Passing n last
+    (c .frame)) cs → All (λ c. Passing n last (c .frame)) (carry tag (map written fs) cs)
 passing-still tag a b = carried-more tag (all-map (λ f e. e .passing) a) b

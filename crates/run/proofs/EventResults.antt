@@ -2,15 +2,15 @@
 use mathlib.Core.Path.{_≡_}
 use Prim.Native.Nat.{ℕ, _-_, _≤_}
 use mathlib.Core.List.{List, map}
+use Rattle.lists.specs.Lists.{All}
 use Rattle.model.specs.declared.Message.{Message}
 use Rattle.frame.specs.Writing.{written}
 use Rattle.frame.specs.declared.Frame.{Frame}
 use Rattle.memory.specs.Records.{Gateway}
 use Rattle.gateway.specs.Effects.{bytesOfFrames}
-use Rattle.timewarp.specs.Lists.{All}
 use Rattle.timewarp.specs.Arcs.{Graph}
 use Rattle.timewarp.specs.Worlds.{World}
-use Rattle.run.specs.SingleQueue.{SetUp}
+use Rattle.run.specs.SingleQueue.{SetUpInput}
 use Rattle.run.specs.Ledger as Ledger
 use Rattle.run.specs.World.{Carried, carry}
 use Rattle.run.proofs.EventCalls.{Stands, notedAll}
@@ -19,7 +19,9 @@ use Rattle.run.proofs.ReadableFrames.{EventFrame}
 use Rattle.run.proofs.EventWorlds.{settingOf, GoesOn}
 
 -- Gateway i, which was g and has committed c, is next after the call; the output's frames go under way behind rest; l is the ledger.
-pub record CallResult (n last : ℕ) (setups : ℕ → SetUp) (G : Graph) (same : G .last ≡ n - 1) (i : ℕ) (w : World (settingOf n last setups G same)) (c : List Message) (g : Gateway) (tag : ℕ) (rest : List Carried) (next : Gateway) (output : List ℕ) (l : Ledger.Ledger) : Type 1 where
+pub record CallResult (n last : ℕ) (setups : ℕ → SetUpInput) (G : Graph) (same : G .last ≡ n - 1) (i : ℕ) (w : World (settingOf n last
+    setups G same)) (c : List Message) (g : Gateway) (tag : ℕ) (rest : List Carried) (next : Gateway) (output : List ℕ) (l : Ledger.Ledger)
+    : Type 1 where
   pub frames : List Frame
   pub bytes : bytesOfFrames frames ≡ output
   pub are-events : All (EventFrame n last) frames

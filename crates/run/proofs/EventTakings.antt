@@ -5,10 +5,12 @@ use native.Mathlib.Omega.{arith}
 use mathlib.Core.Bool.{Bool, true, false}
 use mathlib.Core.List.{List, [], append-nil, Memᴰ·append-right}
 use borrow.Author.Tests.{le-leb}
-use Rattle.routing.specs.Arcs.{_∈_}
+use Rattle.lists.specs.Lists.{_∈_, any, withoutFirst, beforeLast, fromLast, All, nil, cons, joined}
+use Rattle.lists.proofs.SearchLaws.{cut-first, around-last}
+use Rattle.lists.proofs.ListLaws.{all-map}
 use Rattle.model.specs.Messages.{kindNumber}
 use Rattle.model.specs.declared.Message.{Message}
-use Rattle.frame.specs.Claims.{Ranged}
+use Rattle.frame.specs.Claims.{RangedFrame}
 use Rattle.frame.specs.Reasons.{reading}
 use Rattle.frame.specs.Writing.{wellFormed}
 use Rattle.frame.specs.declared.Frame.{Frame}
@@ -18,37 +20,41 @@ use Rattle.memory.specs.Records.{Gateway}
 use Rattle.memory.specs.Validity.{isWaiting}
 use Rattle.memory.specs.declared.Entry.{Entry}
 use Rattle.memory.proofs.Validated.{valid-facts}
-use Rattle.gateway.specs.Effects.{Outcome, bytesOfFrames, framesFor, withOutstanding}
+use Rattle.gateway.specs.Effects.{Outcome, framesFor, withOutstanding}
 use Rattle.gateway.specs.Undoing.{processedOf}
-use Rattle.gateway.specs.Taking.{any, withoutFirst, upTo, behind, beforeLast, fromLast, isCancelOf, isPlain, isSent, takePlain, takeCancel}
+use Rattle.lists.specs.Lists.{beforeFirst, fromFirst}
+use Rattle.gateway.specs.Taking.{isLater, isCancelOf, isPlain, isSent, takePlain, takeCancel}
 use Rattle.gateway.proofs.Maintaining.{Proper, Kept}
 use Rattle.gateway.proofs.Replies.{Good}
 use Rattle.gateway.proofs.Accepting as Accepting
 use Rattle.gateway.proofs.Accepting.{Passes, accepted-good}
-use Rattle.gateway.proofs.Searches.{processed-member, cut-again, around-last}
-use Rattle.timewarp.specs.Lists.{All, nil, cons}
-use Rattle.timewarp.proofs.ListLaws.{all-map}
+use Rattle.gateway.proofs.Searches.{processed-member}
 use Rattle.timewarp.specs.Arcs.{Graph}
 use Rattle.timewarp.specs.Worlds.{World}
-use Rattle.run.specs.SingleQueue.{SetUp}
+use Rattle.run.specs.SingleQueue.{SetUpInput}
 use Rattle.run.specs.Ledger as Ledger
 use Rattle.run.specs.World.{Carried, isFrame, takenBySense}
 use Rattle.run.proofs.EventCalls.{Stands, notedAll, plainBack, plain-saved, cancelBack, cancel-saved}
 use Rattle.run.proofs.EventsUnderWay.{IsEvent}
-use Rattle.run.proofs.AcceptedFrames.{outcomeOf, acknowledgmentSense, Accepted, plain-taken, cancel-taken, acknowledgment-taken, start-taken, lvt-taken, update-taken}
+use Rattle.run.proofs.AcceptedFrames.{outcomeOf, acknowledgmentSense, Accepted, plain-taken, cancel-taken, acknowledgment-taken}
+use Rattle.run.proofs.AcceptedFrames.{start-taken, lvt-taken, update-taken}
 use Rattle.run.proofs.Ledgers.{Follows, entered-follows, struckOut-follows}
 use Rattle.run.proofs.ReadableFrames.{EventFrame, same-limits, frames-hours, sensed-kind, acknowledgment-frame, back-frames}
 use Rattle.run.proofs.EventWorlds.{settingOf, Sees, GoesOn, plain-frames, cancel-frames, plain-goes, cancel-goes, acknowledgment-goes}
 use Rattle.run.proofs.EventResults.{CallResult}
 use Rattle.run.proofs.TakeChains.{still-stands, plain-noted, cancel-noted}
 
-module _ (n last : ℕ) (setups : ℕ → SetUp) (G : Graph) (same : G .last ≡ n - 1) (i : ℕ) (inside : i ≤ n - 1) (c : List Message) (w : World (settingOf n last setups G same)) (g : Gateway) (cs : List Carried) (l : Ledger.Ledger) (p : Proper g) (st : Stands n last setups i c g) (sees : Sees n last setups G same w i c g cs) (followed : Follows n last setups (g .queue) l) (frame : List ℕ) (found : any (isFrame frame) cs ≡ true) (tag : ℕ) where
+module _ (n last : ℕ) (setups : ℕ → SetUpInput) (G : Graph) (same : G .last ≡ n - 1) (i : ℕ) (inside : i ≤ n - 1) (c : List Message) (w :
+    World (settingOf n last setups G same)) (g : Gateway) (cs : List Carried) (l : Ledger.Ledger) (p : Proper g) (st : Stands n last setups
+    i c g) (sees : Sees n last setups G same w i c g cs) (followed : Follows n last setups (g .queue) l) (frame : List ℕ) (found : any
+    (isFrame frame) cs ≡ true) (tag : ℕ) where
   abbrev m : Message
   m = reading frame .frame .message
 
   -- what an accepted frame comes to
   abbrev pub TakeGoes : Outcome → Type 1
-  TakeGoes o = CallResult n last setups G same i w c g tag (withoutFirst (isFrame frame) cs) (o .gateway) (o .output) (takenBySense m (reading frame .frame .sense) l)
+  TakeGoes o = CallResult n last setups G same i w c g tag (withoutFirst (isFrame frame) cs) (o .gateway) (o .output) (takenBySense m
+      (reading frame .frame .sense) l)
 
   -- the messages that the queue holds are good
   held : (e : Entry) → e ∈ g .queue → Good (g .settings) (isWaiting e) (e .message)
@@ -63,13 +69,15 @@ module _ (n last : ℕ) (setups : ℕ → SetUp) (G : Graph) (same : G .last ≡
   plain-back-frames true q = rw q nil
   plain-back-frames false q =
       rw q
-      (all-map (λ f e. settled e) (back-frames (g .settings) (valid-facts g (p .valid) .settings) (processedOf (behind m (g .queue)))
-      (λ e k. held e (subst (λ es. e ∈ es) (cut-again m (g .queue)) (Memᴰ·append-right (upTo m (g .queue)) (processed-member (behind m (g .queue)) e k))))))
+      (all-map (λ f e. settled e) (back-frames (g .settings) (valid-facts g (p .valid) .settings) (processedOf (fromFirst (isLater m) (g .queue)))
+      (λ e k. held e (subst (λ es. e ∈ es) (cut-first (isLater m) (g .queue)) (Memᴰ·append-right (beforeFirst (isLater m) (g .queue))
+      (processed-member (fromFirst (isLater m) (g .queue)) e k))))))
 
   plain-event-frames : Good (g .settings) false m → kindNumber (m .kind) ≤ 2 → All (EventFrame n last) (takePlain m g .frames)
   plain-event-frames good few =
       subst (All (EventFrame n last)) (sym (plain-frames n last setups i c g st m))
-      (cons (settled (acknowledgment-frame (g .settings) (valid-facts g (p .valid) .settings) false m good few)) (plain-back-frames (any (isCancelOf m) (g .queue)) refl))
+      (cons (settled (acknowledgment-frame (g .settings) (valid-facts g (p .valid) .settings) false m good few)) (plain-back-frames (any
+      (isCancelOf m) (g .queue)) refl))
 
   cancel-back-frames : (t : Bool) → any (isPlain m) (g .queue) ≡ t → All (EventFrame n last) (framesFor true (cancelBack n last setups i c g st m))
   unfolding cancelBack
@@ -77,14 +85,17 @@ module _ (n last : ℕ) (setups : ℕ → SetUp) (G : Graph) (same : G .last ≡
   cancel-back-frames true q =
       rw q
       (all-map (λ f e. settled e) (back-frames (g .settings) (valid-facts g (p .valid) .settings) (processedOf (fromLast (isPlain m) (g .queue)))
-      (λ e k. held e (subst (λ es. e ∈ es) (around-last (isPlain m) (g .queue) q) (Memᴰ·append-right (beforeLast (isPlain m) (g .queue)) (processed-member (fromLast (isPlain m) (g .queue)) e k))))))
+      (λ e k. held e (subst (λ es. e ∈ es) (around-last (isPlain m) (g .queue) q) (Memᴰ·append-right (beforeLast (isPlain m) (g .queue))
+      (processed-member (fromLast (isPlain m) (g .queue)) e k))))))
 
   cancel-event-frames : Good (g .settings) true m → kindNumber (m .kind) ≤ 2 → All (EventFrame n last) (takeCancel m g .frames)
   cancel-event-frames good few =
       subst (All (EventFrame n last)) (sym (cancel-frames n last setups i c g st m))
-      (cons (settled (acknowledgment-frame (g .settings) (valid-facts g (p .valid) .settings) true m good few)) (cancel-back-frames (any (isPlain m) (g .queue)) refl))
+      (cons (settled (acknowledgment-frame (g .settings) (valid-facts g (p .valid) .settings) true m good few)) (cancel-back-frames (any
+      (isPlain m) (g .queue)) refl))
 
-  pub plain-take : reading frame .frame .sense ≡ Plain → IsEvent m → kindNumber (m .kind) ≤ 2 → m .to ≡ i → g .agreed ≤ m .hour → Good (g .settings) false m → Kept (g .settings) (takePlain m g .gateway) →
+  pub plain-take : reading frame .frame .sense ≡ Plain → IsEvent m → kindNumber (m .kind) ≤ 2 → m .to ≡ i → g .agreed ≤ m .hour → Good
+      (g .settings) false m → Kept (g .settings) (takePlain m g .gateway) →
       TakeGoes (outcomeOf (takePlain m g))
   plain-take s k few to-here due good kept =
       let are-events = plain-event-frames good few in
@@ -104,7 +115,8 @@ module _ (n last : ℕ) (setups : ℕ → SetUp) (G : Graph) (same : G .last ≡
         agreed = plain-noted n last setups i c g st m .agreed;
       }
 
-  pub cancel-take : reading frame .frame .sense ≡ Cancel → kindNumber (m .kind) ≤ 2 → m .to ≡ i → Good (g .settings) true m → Kept (g .settings) (takeCancel m g .gateway) →
+  pub cancel-take : reading frame .frame .sense ≡ Cancel → kindNumber (m .kind) ≤ 2 → m .to ≡ i → Good (g .settings) true m → Kept
+      (g .settings) (takeCancel m g .gateway) →
       TakeGoes (outcomeOf (takeCancel m g))
   cancel-take s few to-here good kept =
       let are-events = cancel-event-frames good few in
@@ -127,7 +139,7 @@ module _ (n last : ℕ) (setups : ℕ → SetUp) (G : Graph) (same : G .last ≡
   pub acknowledgment-take : (b : Bool) → reading frame .frame .sense ≡ acknowledgmentSense b → m .from ≡ i → any (isSent b m) (g .outstanding) ≡ true →
       Kept (g .settings) (withOutstanding (withoutFirst (isSent b m) (g .outstanding)) g) →
       TakeGoes (record { number = 0; gateway = withOutstanding (withoutFirst (isSent b m) (g .outstanding)) g; output = [] })
-  unfolding bytesOfFrames notedAll
+  unfolding joined notedAll
   acknowledgment-take b s from-here out kept =
       record {
         frames = [];
@@ -150,9 +162,15 @@ module _ (n last : ℕ) (setups : ℕ → SetUp) (G : Graph) (same : G .last ≡
       unmoved false = refl
 
   -- an accepted frame that is none of a round, in any sense
-  module _ (form : wellFormed (reading frame .frame) ≡ true) (ranged : Ranged (reading frame .frame)) (passes : Passes (g .settings) (reading frame .frame)) (few : kindNumber (m .kind) < 4) where
+  module _ (form : wellFormed (reading frame .frame) ≡ true) (ranged : RangedFrame (reading frame .frame)) (passes : Passes (g .settings)
+      (reading frame .frame)) (few : kindNumber (m .kind) < 4) where
     in-sense : {sense : Sense} → reading frame .frame .sense ≡ sense → Accepting.Accepted (g .settings) (record { message = m; sense = sense })
-    in-sense e = subst (λ (s : Sense). Accepting.Accepted (g .settings) (record { message = m; sense = s })) e (record { form = form; ranged = ranged; passes = passes })
+    in-sense e = subst (λ (s : Sense). Accepting.Accepted (g .settings) (record { message = m; sense = s })) e (record {
+      form = form;
+      ranged
+          = ranged;
+      passes = passes;
+    })
 
     addressed : (b : Bool) → reading frame .frame .sense ≡ acknowledgmentSense b → m .from ≡ i
     addressed true s = in-sense s .passes .here ∙ st .own

@@ -6,6 +6,8 @@ use mathlib.Core.Bool.{true}
 use mathlib.Core.List.{List}
 use lib.ListN.{length}
 use borrow.Author.Tests.{eq-eqb, ne-eqb}
+use Rattle.lists.specs.Lists.{any, withoutFirst, All}
+use Rattle.lists.specs.Families.{change}
 use Rattle.buffer.specs.Slice.{Bytes, write}
 use Rattle.model.specs.Messages.{kindNumber}
 use Rattle.frame.specs.Reasons.{reading, formNumber}
@@ -17,16 +19,13 @@ use Rattle.frame.proofs.Laws.{one-to-one}
 use Rattle.memory.specs.Records.{Gateway}
 use Rattle.memory.specs.Codec.{decode, encode}
 use Rattle.gateway.specs.Effects.{Outcome}
-use Rattle.gateway.specs.Taking.{any, withoutFirst}
-use Rattle.gateway.specs.Calls.{Left, takeBytes, taken}
+use Rattle.gateway.specs.Calls.{CallResult, takeBytes, taken}
 use Rattle.gateway.specs.declared.Answer.{Answer}
 use Rattle.gateway.proofs.Maintaining.{Kept}
 use Rattle.gateway.proofs.Keeps.{bytes-keep}
 use Rattle.gateway.proofs.Accepting.{form-good, not-refused}
-use Rattle.timewarp.specs.Lists.{All}
 use Rattle.timewarp.specs.Worlds as Worlds
-use Rattle.run.specs.Lines.{change}
-use Rattle.run.specs.SingleQueue.{SetUp}
+use Rattle.run.specs.SingleQueue.{SetUpInput}
 use Rattle.run.specs.World.{World, Carried, framesIn, carry, isFrame, kindIn, takenBySense, tookMore, roundFrames, afterTaking}
 use Rattle.run.proofs.FigureGraph.{figureGraph}
 use Rattle.run.proofs.AcceptedFrames.{Accepted, BytesAccepted, bytes-accepted}
@@ -51,7 +50,8 @@ kind-few f form plain = by-sense (f .sense) refl
 
 -- the world after taking such a frame: the rounds stay as they were
 taken-world : (n i : ℕ) (frame memory : List ℕ) (frames : List (List ℕ)) (w : World) → kindIn frame < 4 → roundFrames (w .rounds .open?) frames ≡ 0 →
-    sendingAfter w i memory (w .rounds .opened) frames (withoutFirst (isFrame frame) (w .underWay)) (takenBySense (reading frame .frame .message) (reading frame .frame .sense) (w .ledgers i))
+    sendingAfter w i memory (w .rounds .opened) frames (withoutFirst (isFrame frame) (w .underWay)) (takenBySense (reading
+    frame .frame .message) (reading frame .frame .sense) (w .ledgers i))
     ≡ afterTaking n i frame memory frames w
 unfolding afterTaking
 taken-world n i frame memory frames w few none =
@@ -67,7 +67,8 @@ taken-world n i frame memory frames w few none =
     unchanged : w .rounds ≡ tookMore (w .rounds .opened) (roundFrames (w .rounds .open?) frames) (w .rounds)
     unchanged = sym (ap (λ (m : ℕ). tookMore (w .rounds .opened) m (w .rounds)) none ∙ took-none (w .rounds .opened) (w .rounds))
 
-module _ (n : ℕ) (some : 1 ≤ n) (last : ℕ) (setups : ℕ → SetUp) {w : World} {t : Worlds.World (forecastSetting n some last setups)} (b : Both n some last setups w t) (i : ℕ) (h : i < n) (frame : List ℕ) (bytes : Bytes frame) (output : List ℕ) where
+module _ (n : ℕ) (some : 1 ≤ n) (last : ℕ) (setups : ℕ → SetUpInput) {w : World} {t : Worlds.World (forecastSetting n some last setups)} (b
+    : Both n some last setups w t) (i : ℕ) (h : i < n) (frame : List ℕ) (bytes : Bytes frame) (output : List ℕ) where
   abbrev g : Gateway
   g = decode (w .memories i)
 
@@ -83,7 +84,8 @@ module _ (n : ℕ) (some : 1 ≤ n) (last : ℕ) (setups : ℕ → SetUp) {w : W
   kept : Kept (g .settings) (o .gateway)
   kept = bytes-keep (proper n some last setups b i h) frame bytes (length output) .gateway
 
-  module _ (a : BytesAccepted frame (length output) g) (found : any (isFrame frame) (w .underWay) ≡ true) (plain : reading frame .frame .sense ≡ Plain → kindIn frame < 4) where
+  module _ (a : BytesAccepted frame (length output) g) (found : any (isFrame frame) (w .underWay) ≡ true) (plain : reading
+      frame .frame .sense ≡ Plain → kindIn frame < 4) where
     formed : wellFormed (reading frame .frame) ≡ true
     formed = one-to-one .readWellFormed frame bytes (form-good (reading frame .form) (eq-eqb (formNumber (reading frame .form)) 0 (a .good)))
 
@@ -112,7 +114,8 @@ module _ (n : ℕ) (some : 1 ≤ n) (last : ℕ) (setups : ℕ → SetUp) {w : W
     passing : All (λ c. Passing n last (c .frame)) rest
     passing = carried-rest (isFrame frame) (b .passing)
 
-    take-kept : Keeps n some last setups t (afterTaking n i frame (encode (o .gateway) (w .memories i)) (framesIn (length (o .output)) (write 0 (o .output) output)) w)
+    take-kept : Keeps n some last setups t (afterTaking n i frame (encode (o .gateway) (w .memories i)) (framesIn (length (o .output))
+        (write 0 (o .output) output)) w)
     take-kept =
         subst (Keeps n some last setups t)
         (taken-world n i frame (encode (o .gateway) (w .memories i)) (framesIn (length (o .output)) (write 0 (o .output) output)) w few
@@ -127,5 +130,6 @@ module _ (n : ℕ) (some : 1 ≤ n) (last : ℕ) (setups : ℕ → SetUp) {w : W
   event-taken-kept z found plain =
       let (is-sound, number, leaves) = on-sound (takeBytes frame) (w .memories i) output z in
       let a = bytes-accepted frame (length output) g number in
-      subst (λ (l : Left Answer). Keeps n some last setups t (afterTaking n i frame (l .memory) (framesIn (l .answer .written) (l .output)) w)) (sym leaves)
+      subst (λ (l : CallResult Answer). Keeps n some last setups t (afterTaking n i frame (l .memory) (framesIn (l .answer .written)
+      (l .output)) w)) (sym leaves)
       (take-kept a found plain)

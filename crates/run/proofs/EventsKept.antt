@@ -5,6 +5,9 @@ use native.Mathlib.Omega.{arith}
 use mathlib.Core.Bool.{Bool, true, false, cond}
 use mathlib.Core.List.{List, map}
 use lib.ListN.{length}
+use Rattle.lists.specs.Lists.{All}
+use Rattle.lists.specs.Families.{change}
+use Rattle.lists.proofs.ListLaws.{all-map}
 use Rattle.buffer.specs.Slice.{write}
 use Rattle.frame.specs.Writing.{written}
 use lib.Dec.{eqb}
@@ -15,18 +18,14 @@ use Rattle.memory.specs.Codec.{decode, encode}
 use Rattle.gateway.specs.Effects.{withRound}
 use Rattle.gateway.specs.Claims.{SoundBytes}
 use Rattle.gateway.proofs.Maintaining.{Kept}
-use Rattle.timewarp.specs.Lists.{All}
-use Rattle.timewarp.specs.Families as Families
 use Rattle.timewarp.specs.RoundSteps as RoundSteps
 use Rattle.timewarp.specs.RoundSteps.{RoundFrame}
 use Rattle.timewarp.specs.Worlds as Worlds
-use Rattle.timewarp.proofs.ListLaws.{all-map}
-use Rattle.run.specs.Lines.{change}
-use Rattle.run.specs.SingleQueue.{SetUp}
+use Rattle.run.specs.SingleQueue.{SetUpInput}
 use Rattle.run.specs.Ledger as Ledger
 use Rattle.run.specs.World.{World, Carried, carry, framesIn, roundFrames}
 use Rattle.run.proofs.FigureGraph.{figureGraph}
-use Rattle.run.proofs.SingleQueues.{recordOf}
+use Rattle.run.proofs.SingleQueues.{historyRecord}
 use Rattle.run.proofs.EventCalls.{Stands, notedAll}
 use Rattle.run.proofs.Ledgers.{Follows}
 use Rattle.run.proofs.EventWorlds.{GoesOn}
@@ -56,7 +55,8 @@ sendingAfter w i memory tag frames rest l = record {
 abbrev withRecords : (ℕ → List ℕ) → World → World
 withRecords r w = record { memories = w .memories; underWay = w .underWay; records = r; ledgers = w .ledgers; rounds = w .rounds }
 
-module _ (n : ℕ) (some : 1 ≤ n) (last : ℕ) (setups : ℕ → SetUp) {w : World} {t : Worlds.World (forecastSetting n some last setups)} (b : Both n some last setups w t) (i : ℕ) (h : i < n) where
+module _ (n : ℕ) (some : 1 ≤ n) (last : ℕ) (setups : ℕ → SetUpInput) {w : World} {t : Worlds.World (forecastSetting n some last setups)} (b
+    : Both n some last setups w t) (i : ℕ) (h : i < n) where
   -- What a call on events at gateway i comes to: the gateway next, which has committed c, the frames cs under way, and the ledger l.
   pub record Comes (next : Gateway) (c : List Message) (cs : List Carried) (l : Ledger.Ledger) : Type 1 where
     -- the messages and cancels that it sends, which lower the note, and nothing else of the rounds changes
@@ -71,7 +71,8 @@ module _ (n : ℕ) (some : 1 ≤ n) (last : ℕ) (setups : ℕ → SetUp) {w : W
     pub timely : All (λ m. m .hour ≤ last) sends
     pub passing : All (λ x. Passing n last (x .frame)) cs
 
-  module _ (memory : List ℕ) (next : Gateway) (holds : Holds (decode (w .memories i)) memory next) (c : List Message) (cs : List Carried) (l : Ledger.Ledger) (comes : Comes next c cs l) where
+  module _ (memory : List ℕ) (next : Gateway) (holds : Holds (decode (w .memories i)) memory next) (c : List Message) (cs : List Carried) (l
+      : Ledger.Ledger) (comes : Comes next c cs l) where
     -- the gateways after it
     abbrev after : ℕ → Gateway
     after j = decode (change i memory (w .memories) j)
@@ -99,16 +100,16 @@ module _ (n : ℕ) (some : 1 ≤ n) (last : ℕ) (setups : ℕ → SetUp) {w : W
     abbrev noted : Gateway
     noted = withRound (notedAll (comes .sends) (decode (w .memories i) .round)) (decode (w .memories i))
 
-    round-at : (j : ℕ) → Families.change i noted (gatewaysIn n some last setups w) j .round ≡ after j .round
-    unfolding Families.change change
+    round-at : (j : ℕ) → change i noted (gatewaysIn n some last setups w) j .round ≡ after j .round
+    unfolding change
     round-at j = by-case (eqb i j)
       where
         by-case : (x : Bool) → cond x noted (decode (w .memories j)) .round ≡ decode (cond x memory (w .memories j)) .round
         by-case true = sym (ap (λ (x : Gateway). x .round) (holds .holds) ∙ comes .round)
         by-case false = refl
 
-    agreed-at : (j : ℕ) → Families.change i noted (gatewaysIn n some last setups w) j .agreed ≡ after j .agreed
-    unfolding Families.change change
+    agreed-at : (j : ℕ) → change i noted (gatewaysIn n some last setups w) j .agreed ≡ after j .agreed
+    unfolding change
     agreed-at j = by-case (eqb i j)
       where
         by-case : (x : Bool) → cond x noted (decode (w .memories j)) .agreed ≡ decode (cond x memory (w .memories j)) .agreed
@@ -123,7 +124,7 @@ module _ (n : ℕ) (some : 1 ≤ n) (last : ℕ) (setups : ℕ → SetUp) {w : W
         (alike-sent n some last setups i (omega arith) (comes .sends) (gatewaysIn n some last setups w) (b .rounds))))
 
     -- the world after the call, with bytes as the record that gateway i has committed
-    module _ (bytes : List ℕ) (written : bytes ≡ recordOf n last setups i c) where
+    module _ (bytes : List ℕ) (written : bytes ≡ historyRecord n last setups i c) where
       abbrev time : decode memory .agreed ≡ decode (w .memories i) .agreed
       time = ap (λ (x : Gateway). x .agreed) (holds .holds) ∙ comes .agreed
 
@@ -138,10 +139,12 @@ module _ (n : ℕ) (some : 1 ≤ n) (last : ℕ) (setups : ℕ → SetUp) {w : W
             steps = goes-on .steps;
             both =
                 record {
-                  beside = beside-after n last setups (figureGraph n some) refl w t (b .beside) i h memory c cs bytes l (w .rounds) (holds .still .is-sound) goes-on time written follows;
+                  beside = beside-after n last setups (figureGraph n some) refl w t (b .beside) i h memory c cs bytes l (w .rounds)
+                      (holds .still .is-sound) goes-on time written follows;
                   stands = λ j k.
                       subst (λ (d : ℕ → List Message). Stands n last setups j (d j) (after j))
-                      (sym (done-after n last setups (figureGraph n some) refl w t (b .beside) i h memory c cs bytes l (w .rounds) (holds .still .is-sound) goes-on time written follows))
+                      (sym (done-after n last setups (figureGraph n some) refl w t (b .beside) i h memory c cs bytes l (w .rounds)
+                      (holds .still .is-sound) goes-on time written follows))
                       (stands-at j k (eqb i j) refl);
                   bytes = λ j k. bytes-at j k (eqb i j);
                   rounds = alike-after;
@@ -152,7 +155,8 @@ module _ (n : ℕ) (some : 1 ≤ n) (last : ℕ) (setups : ℕ → SetUp) {w : W
           }
 
   -- a call that writes frames: the rest of what is under way has the same frames of rounds
-  module _ (tag : ℕ) (rest : List Carried) (still : roundsIn rest ≡ roundsIn (w .underWay)) (numbered : All Numbered rest) (passing : All (λ x. Passing n last (x .frame)) rest) {next : Gateway} {output : List ℕ} {l : Ledger.Ledger}
+  module _ (tag : ℕ) (rest : List Carried) (still : roundsIn rest ≡ roundsIn (w .underWay)) (numbered : All Numbered rest) (passing : All (λ
+      x. Passing n last (x .frame)) rest) {next : Gateway} {output : List ℕ} {l : Ledger.Ledger}
       (r : CallResult n last setups (figureGraph n some) refl i t (b .beside .done i) (decode (w .memories i)) tag rest next output l)
       (kept : Kept (decode (w .memories i) .settings) next) (lent : List ℕ) where
     comes-of : Comes next (b .beside .done i) (carry tag (map written (r .frames)) rest) l
@@ -180,6 +184,8 @@ module _ (n : ℕ) (some : 1 ≤ n) (last : ℕ) (setups : ℕ → SetUp) {w : W
     pub result-keeps : Keeps n some last setups t (sendingAfter w i (encode next (w .memories i)) tag (framesIn (length output) (write 0 output lent)) rest l)
     result-keeps =
         subst (λ (fs : List (List ℕ)). Keeps n some last setups t (sendingAfter w i (encode next (w .memories i)) tag fs rest l)) (sym cut)
-        (subst (λ (x : ℕ → List ℕ). Keeps n some last setups t (withRecords x (sendingAfter w i (encode next (w .memories i)) tag (map written (r .frames)) rest l))) (change-self i (w .records))
-        (keeps (encode next (w .memories i)) next (written-held (w .memories i) (b .bytes i h) next kept) (b .beside .done i) (carry tag (map written (r .frames)) rest) l comes-of
+        (subst (λ (x : ℕ → List ℕ). Keeps n some last setups t (withRecords x (sendingAfter w i (encode next (w .memories i)) tag (map
+        written (r .frames)) rest l))) (change-self i (w .records))
+        (keeps (encode next (w .memories i)) next (written-held (w .memories i) (b .bytes i h) next kept) (b .beside .done i) (carry tag
+        (map written (r .frames)) rest) l comes-of
         (w .records i) (b .beside .records i h)))

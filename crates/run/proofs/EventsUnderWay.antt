@@ -6,7 +6,8 @@ use mathlib.Core.Bool.{Bool, true, false, cond, _||_, false≢true}
 use mathlib.Core.List.{List, [], _∷_, _++_, map, append-assoc, List·Memᴰ·not-nil, List·Memᴰ·cases-cons}
 use mathlib.Core.Logic.{⊎-elim}
 use lib.Dec.{ltb, leb}
-use Rattle.routing.specs.Arcs.{_∈_}
+use Rattle.lists.specs.Lists.{_∈_, any, withoutFirst, All, nil, cons, Insert, here, there}
+use Rattle.lists.proofs.ListLaws.{all-left, all-right}
 use Rattle.model.specs.Doing.{sent, sentFor, notPast, reply, requestHours, deliveryHours, lifeHours}
 use Rattle.model.specs.Messages.{kindNumber}
 use Rattle.model.specs.declared.Message.{Message}
@@ -21,10 +22,8 @@ use Rattle.frame.specs.declared.Sense.{Sense}
 use Rattle.frame.specs.declared.Sense.the-variants.{Plain, Cancel, Acknowledgment, CancelAcknowledgment}
 use Rattle.buffer.proofs.Equality.{same-bytes}
 use Rattle.gateway.specs.Effects.{framesFor}
-use Rattle.gateway.specs.Taking.{any, withoutFirst, acknowledgment}
-use Rattle.timewarp.specs.Lists.{All, nil, cons, Insert, here, there}
+use Rattle.gateway.specs.Taking.{acknowledgment}
 use Rattle.timewarp.specs.Gateways.{Event, plain, cancel, message}
-use Rattle.timewarp.proofs.ListLaws.{all-left, all-right}
 use Rattle.run.specs.World.{Carried, isFrame, carry, kindIn}
 use Rattle.run.proofs.QueueViews.{eventIf}
 
@@ -46,17 +45,23 @@ module _ {A : Type 0} (see : Frame → List A) where
   seen-append (c ∷ cs) ds =
       ap (λ l. see (reading (c .frame) .frame) ++ l) (seen-append cs ds) ∙ sym (append-assoc (see (reading (c .frame) .frame)) (seenIn cs) (seenIn ds))
 
-  seen-written : (tag : ℕ) {fs : List Frame} → All (λ f. reading (written f) .frame ≡ f) fs → seenIn (map (λ b. record { frame = b; tag = tag }) (map written fs)) ≡ seenOf fs
+  seen-written : (tag : ℕ) {fs : List Frame} → All (λ f. reading (written f) .frame ≡ f) fs → seenIn (map (λ b. record {
+    frame = b;
+    tag =
+        tag;
+  }) (map written fs)) ≡ seenOf fs
   unfolding seenIn seenOf
   seen-written tag nil = refl
   seen-written tag (cons e a) = ap₂ (λ f l. see f ++ l) e (seen-written tag a)
 
   -- frames that can be read are put under way
-  pub seen-carried : (tag : ℕ) (fs : List Frame) → All (λ f. reading (written f) .frame ≡ f) fs → (cs : List Carried) → seenIn (carry tag (map written fs) cs) ≡ seenIn cs ++ seenOf fs
+  pub seen-carried : (tag : ℕ) (fs : List Frame) → All (λ f. reading (written f) .frame ≡ f) fs → (cs : List Carried) → seenIn (carry tag
+      (map written fs) cs) ≡ seenIn cs ++ seenOf fs
   seen-carried tag fs a cs = seen-append cs (map (λ b. record { frame = b; tag = tag }) (map written fs)) ∙ ap (λ l. seenIn cs ++ l) (seen-written tag a)
 
   -- the oldest equal frame is taken out
-  pub seen-taken : (frame : List ℕ) (cs : List Carried) → any (isFrame frame) cs ≡ true → (x : A) → see (reading frame .frame) ≡ x ∷ [] → Insert x (seenIn (withoutFirst (isFrame frame) cs)) (seenIn cs)
+  pub seen-taken : (frame : List ℕ) (cs : List Carried) → any (isFrame frame) cs ≡ true → (x : A) → see (reading frame .frame) ≡ x ∷ [] →
+      Insert x (seenIn (withoutFirst (isFrame frame) cs)) (seenIn cs)
   unfolding any withoutFirst seenIn
   seen-taken frame [] h x e = absurd (false≢true h)
   seen-taken frame (c ∷ cs) h x e = by-case (isFrame frame c) refl (λ k. seen-taken frame cs k x e) h
@@ -65,7 +70,8 @@ module _ {A : Type 0} (see : Frame → List A) where
       further [] i = i
       further (y ∷ l) i = there (further l i)
 
-      by-case : (b : Bool) → isFrame frame c ≡ b → (any (isFrame frame) cs ≡ true → Insert x (seenIn (withoutFirst (isFrame frame) cs)) (seenIn cs)) → (b || any (isFrame frame) cs) ≡ true
+      by-case : (b : Bool) → isFrame frame c ≡ b → (any (isFrame frame) cs ≡ true → Insert x (seenIn (withoutFirst (isFrame frame) cs))
+          (seenIn cs)) → (b || any (isFrame frame) cs) ≡ true
           → Insert x (seenIn (cond b cs (c ∷ withoutFirst (isFrame frame) cs))) (see (reading (c .frame) .frame) ++ seenIn cs)
       by-case true d rest k =
           subst (λ l. Insert x (seenIn cs) (l ++ seenIn cs)) (sym (ap (λ (b : List ℕ). see (reading b .frame)) (sym (same-bytes frame (c .frame) d)) ∙ e)) here
@@ -132,7 +138,8 @@ cancels-seen (m ∷ ms) = (ap (λ l. cancel m ∷ l) (cancels-seen ms .0), cance
 abbrev pub IsEvent : Message → Type 0
 IsEvent m = plainByKind m (m .kind) ≡ plain m ∷ []
 
-pub plains-seen : {ms : List Message} → All IsEvent ms → (seenOf eventOf (framesFor false ms) ≡ map plain ms) × (seenOf acknowledgedOf (framesFor false ms) ≡ [])
+pub plains-seen : {ms : List Message} → All IsEvent ms → (seenOf eventOf (framesFor false ms) ≡ map plain ms) × (seenOf acknowledgedOf
+    (framesFor false ms) ≡ [])
 unfolding seenOf
 plains-seen nil = (refl, refl)
 plains-seen (cons {a = m} {l = ms} e a) = (ap₂ _++_ e (plains-seen a .0), plains-seen a .1)
@@ -149,7 +156,8 @@ events-for : (z : Site) (s : State) (m : Message) (kind : Kind) → All IsEvent 
 events-for z s m (Failure origin) = event-if (z .last) (reply z m requestHours (z .supplier) (Request (z .own))) refl
 events-for z s m (Request origin) = by-stock (ltb 0 (s .stock))
   where
-    by-stock : (b : Bool) → All IsEvent (cond b (notPast (z .last) (reply z m deliveryHours origin (Delivery origin))) (notPast (z .last) (reply z m requestHours (z .supplier) (Request origin))))
+    by-stock : (b : Bool) → All IsEvent (cond b (notPast (z .last) (reply z m deliveryHours origin (Delivery origin))) (notPast (z .last)
+        (reply z m requestHours (z .supplier) (Request origin))))
     by-stock true = event-if (z .last) (reply z m deliveryHours origin (Delivery origin)) refl
     by-stock false = event-if (z .last) (reply z m requestHours (z .supplier) (Request origin)) refl
 events-for z s m (Delivery origin) = event-if (z .last) (reply z m lifeHours (z .own) (Failure (z .own))) refl
@@ -163,7 +171,8 @@ unfolding sent
 sent-events-all z s m = events-for z s m (m .kind)
 
 -- the acknowledgment of an event
-pub acknowledgment-seen : (b : Bool) (m : Message) (fs : List Frame) → (seenOf eventOf (acknowledgment b m ∷ fs) ≡ seenOf eventOf fs) × (seenOf acknowledgedOf (acknowledgment b m ∷ fs) ≡ eventIf b m ∷ seenOf acknowledgedOf fs)
+pub acknowledgment-seen : (b : Bool) (m : Message) (fs : List Frame) → (seenOf eventOf (acknowledgment b m ∷ fs) ≡ seenOf eventOf fs) ×
+    (seenOf acknowledgedOf (acknowledgment b m ∷ fs) ≡ eventIf b m ∷ seenOf acknowledgedOf fs)
 unfolding seenOf
 acknowledgment-seen true m fs = (refl, refl)
 acknowledgment-seen false m fs = (refl, refl)
@@ -180,7 +189,8 @@ bound-seen p cs a b c m small = by-sense (f .sense) (f .message .kind) refl refl
     only : (x : Event Message) {q : Event Message → Type 0} → All q (x ∷ []) → q x
     only x (cons h a) = h
 
-    by-sense : (s : Sense) (k : Kind) → f .sense ≡ s → f .message .kind ≡ k → All (λ e. p (message e)) (eventOf f) → All (λ e. p (message e)) (acknowledgedOf f) → p (f .message)
+    by-sense : (s : Sense) (k : Kind) → f .sense ≡ s → f .message .kind ≡ k → All (λ e. p (message e)) (eventOf f) → All (λ e. p (message
+        e)) (acknowledgedOf f) → p (f .message)
     by-sense Plain (Failure origin) e d a b = only (plain (f .message)) (rw (e, d) at a)
     by-sense Plain (Request origin) e d a b = only (plain (f .message)) (rw (e, d) at a)
     by-sense Plain (Delivery origin) e d a b = only (plain (f .message)) (rw (e, d) at a)

@@ -2,18 +2,19 @@
 use mathlib.Core.Path.{_≡_, refl, sym, _∙_, ap, subst}
 use mathlib.Core.Bool.{Bool, true, false, cond}
 use mathlib.Core.List.{List, [], _∷_, List·Memᴰ·head as here, List·Memᴰ·tail as there}
-use Prim.Native.Nat.{ℕ, zero, suc, _+_, _*_, _-_, _≤_, _<_}
+use Prim.Native.Nat.{ℕ, suc, _+_, _*_, _-_, _≤_, _<_}
 use native.Mathlib.Omega.{arith}
 use native.Mathlib.Decide.{decLt, ℕ-discrete}
 use lib.Dec.{ltb, ltb→lt, nltb→le}
 use lib.ListN.{length}
-use Rattle.routing.specs.Arcs.{_∈_, from, to, Ascending, none, more, Laws}
+use Rattle.lists.specs.Lists.{_∈_, Ascending, none, more, matches, count, tally}
+use Rattle.lists.specs.Families.{sum}
+use Rattle.lists.proofs.FamilyLaws.{sum-agree}
+use Rattle.lists.proofs.ListLaws.{matches-equal, matches-other}
+use Rattle.routing.specs.Arcs.{from, to, Laws}
 use Rattle.routing.specs.Arcs
 use Rattle.routing.proofs.Theorems.{laws}
-use Rattle.timewarp.specs.Lists.{matches, count, tally}
-use Rattle.timewarp.specs.Families.{sum}
 use Rattle.timewarp.specs.Arcs.{Graph, times, arcCount, roundMessages}
-use Rattle.timewarp.proofs.ListLaws.{matches-equal, matches-other}
 
 -- how often a number stands in a list, and that it is an element
 pub times-member : (k : ℕ) (l : List ℕ) → 1 ≤ times k l → k ∈ l
@@ -174,18 +175,12 @@ module _ (n : ℕ) (some : 1 ≤ n) where
         few = few-arcs;
       }
 
-  -- the sum over the gateways 0 to m of what two families give alike
-  same-sum : (m : ℕ) → m < n → (f g : ℕ → ℕ) → ((i : ℕ) → i < n → f i ≡ g i) → sum m f ≡ Arcs.sum (suc m) g
-  unfolding sum Arcs.sum
-  same-sum zero l f g e = omega (arith, e 0 (omega arith))
-  same-sum (suc m) l f g e = omega (arith, same-sum m (omega arith) f g e, e (suc m) (omega arith))
-
   pub same-arc-count : arcCount figureGraph ≡ Arcs.arcCount n
   unfolding arcCount Arcs.arcCount
   same-arc-count =
       let all : suc (n - 1) ≡ n = omega arith in
-      same-sum (n - 1) (omega arith) (λ i. length (tells i)) (λ i. length (to n i)) (λ i l. ap length (tells-is i l))
-      ∙ ap (λ m. Arcs.sum m (λ i. length (to n i))) all
+      ap (λ m. sum m (λ i. length (tells i))) all
+      ∙ sum-agree n (λ i. length (tells i)) (λ i. length (to n i)) (λ i l. ap length (tells-is i l))
 
   pub same-round-messages : roundMessages figureGraph ≡ 2 * Arcs.arcCount n + (n - 1)
   unfolding roundMessages

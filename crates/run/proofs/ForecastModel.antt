@@ -7,6 +7,8 @@ use mathlib.Core.List.{List, [], _∷_}
 use lib.Dec.{ltb, leb, eqb}
 use lib.ListN.{length}
 use borrow.Author.Tests.{ltb-true, leb-true, eqb-true, lt-ltb}
+use Rattle.lists.specs.Lists.{All, nil, cons}
+use Rattle.lists.proofs.ListLaws.{all-map}
 use Rattle.model.specs.Doing.{after, sent, sentFor, notPast, reply, requestHours, deliveryHours, lifeHours}
 use Rattle.model.specs.Messages.{originOf}
 use Rattle.model.specs.declared.Kind.{Kind}
@@ -18,13 +20,11 @@ use Rattle.model.specs.declared.Site.{Site}
 use Rattle.model.proofs.Ordered.{key-injective}
 use Rattle.model.proofs.Sending.{sending}
 use Rattle.frame.specs.Limits.{nothingDue}
-use Rattle.memory.proofs.Validated.{and-left, and-right, and-both}
+use Rattle.lists.proofs.BoolLaws.{and-left, and-right, and-both}
 use Rattle.gateway.specs.SettingUp.{cutFrames, queued}
 use Rattle.gateway.specs.Working.{pendingOf}
-use Rattle.timewarp.specs.Lists.{All, nil, cons}
 use Rattle.timewarp.specs.Models.{Model, first}
-use Rattle.timewarp.proofs.ListLaws.{all-map}
-use Rattle.run.specs.SingleQueue.{SetUp}
+use Rattle.run.specs.SingleQueue.{SetUpInput}
 
 -- the elements that pass the test
 unfoldable pub passing : {A : Type 0} → (A → Bool) → List A → List A
@@ -73,7 +73,7 @@ all-of-one [] h f = nil
 all-of-one (x ∷ []) h f = cons (f x refl) nil
 all-of-one (x ∷ y ∷ xs) h f = absurd (omega arith)
 
-module _ (n last : ℕ) (setups : ℕ → SetUp) where
+module _ (n last : ℕ) (setups : ℕ → SetUpInput) where
   -- where gateway i does its messages
   abbrev pub siteAt : ℕ → Site
   siteAt i = record { own = i; supplier = setups i .opening .supplier; last = last }
@@ -164,14 +164,18 @@ module _ (n last : ℕ) (setups : ℕ → SetUp) where
       where
         timely : (b : Bool) → leb (m .hour + extra) last ≡ b → All (λ x. deliverable x ≡ true) (cond b (reply (siteAt i) m extra to kind ∷ []) [])
         timely true e =
-            cons (and-both (ltb to n) (ltb (m .hour + extra) nothingDue) (lt-ltb to n h) (lt-ltb (m .hour + extra) nothingDue (omega (arith, leb-true (m .hour + extra) last e)))) nil
+            cons (and-both (ltb to n) (ltb (m .hour + extra) nothingDue) (lt-ltb to n h) (lt-ltb (m .hour + extra) nothingDue (omega (
+              arith,
+              leb-true (m .hour + extra) last e,
+            )))) nil
         timely false e = nil
 
     sent-for : (s : State) (m : Message) (kind : Kind) → originOf kind < n → All (λ x. deliverable x ≡ true) (sentFor (siteAt i) s m kind)
     sent-for s m (Failure origin) h = replied m _ _ _ supplied
     sent-for s m (Request origin) h = by-stock (ltb 0 (s .stock))
       where
-        by-stock : (b : Bool) → All (λ x. deliverable x ≡ true) (cond b (notPast last (reply (siteAt i) m deliveryHours origin (Delivery origin))) (notPast last (reply (siteAt i) m requestHours (setups i .opening .supplier) (Request origin))))
+        by-stock : (b : Bool) → All (λ x. deliverable x ≡ true) (cond b (notPast last (reply (siteAt i) m deliveryHours origin (Delivery
+            origin))) (notPast last (reply (siteAt i) m requestHours (setups i .opening .supplier) (Request origin))))
         by-stock true = replied m deliveryHours origin (Delivery origin) h
         by-stock false = replied m requestHours (setups i .opening .supplier) (Request origin) supplied
     sent-for s m (Delivery origin) h = replied m _ _ _ here
@@ -196,7 +200,8 @@ module _ (n last : ℕ) (setups : ℕ → SetUp) where
     origins-for s m (Failure origin) h = not-past (reply (siteAt i) m requestHours (setups i .opening .supplier) (Request i)) here
     origins-for s m (Request origin) h = by-stock (ltb 0 (s .stock))
       where
-        by-stock : (b : Bool) → All (λ x. originOf (x .kind) < n) (cond b (notPast last (reply (siteAt i) m deliveryHours origin (Delivery origin))) (notPast last (reply (siteAt i) m requestHours (setups i .opening .supplier) (Request origin))))
+        by-stock : (b : Bool) → All (λ x. originOf (x .kind) < n) (cond b (notPast last (reply (siteAt i) m deliveryHours origin (Delivery
+            origin))) (notPast last (reply (siteAt i) m requestHours (setups i .opening .supplier) (Request origin))))
         by-stock true = not-past (reply (siteAt i) m deliveryHours origin (Delivery origin)) h
         by-stock false = not-past (reply (siteAt i) m requestHours (setups i .opening .supplier) (Request origin)) h
     origins-for s m (Delivery origin) h = not-past (reply (siteAt i) m lifeHours i (Failure i)) here

@@ -5,6 +5,7 @@ use Prim.Native.Nat.{ℕ, zero, suc, _+_, _≤_}
 use native.Mathlib.Omega.{arith}
 use lib.ListN.{length, take, drop, length-append}
 use lib.Seq.{take-append-seam, drop-append-seam}
+use Rattle.lists.specs.Lists.{All, cons, joined}
 use Rattle.buffer.specs.Slice.{write}
 use Rattle.frame.specs.Layout.{wholeLength}
 use Rattle.frame.specs.Kinds.{mapOf}
@@ -12,7 +13,6 @@ use Rattle.frame.specs.Writing.{written}
 use Rattle.frame.specs.declared.Frame.{Frame}
 use Rattle.gateway.specs.Effects.{bytesOfFrames}
 use Rattle.gateway.specs.SettingUp.{cutFrames}
-use Rattle.timewarp.specs.Lists.{All, cons}
 use Rattle.run.specs.World.{framesIn}
 
 -- a frame is as long as the table says of its map
@@ -21,7 +21,7 @@ Whole f = wholeLength (mapOf f) ≡ length (written f)
 
 -- frames one behind the other are cut into these frames
 pub cut-written : (fs : List Frame) → All Whole fs → (turns : ℕ) → length fs ≤ turns → cutFrames turns (bytesOfFrames fs) ≡ map written fs
-unfolding cutFrames bytesOfFrames written
+unfolding cutFrames joined written
 cut-written [] a zero h = refl
 cut-written [] a (suc turns) h = refl
 cut-written (f ∷ fs) a zero h = absurd (omega arith)
@@ -33,7 +33,7 @@ cut-written (f ∷ fs) (cons e a) (suc turns) h =
 
 -- every frame has a byte
 pub frames-bytes : (fs : List Frame) → length fs ≤ length (bytesOfFrames fs)
-unfolding bytesOfFrames written
+unfolding joined written
 frames-bytes [] = omega arith
 frames-bytes (f ∷ fs) = omega (arith, frames-bytes fs, length-append (written f) (bytesOfFrames fs))
 

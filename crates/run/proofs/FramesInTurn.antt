@@ -8,7 +8,9 @@ use mathlib.Core.Logic.{⊎-elim}
 use lib.Dec.{eqb}
 use lib.ListN.{length}
 use borrow.Author.Tests.{eq-eqb, ltb-true, le-ltb, le-leb}
-use Rattle.routing.specs.Arcs.{_∈_, from, to}
+use Rattle.lists.specs.Lists.{_∈_, any, All, nil, cons, Insert}
+use Rattle.lists.proofs.ListLaws.{all-taken, all-left, all-right, all-each}
+use Rattle.routing.specs.Arcs.{from, to}
 use Rattle.model.specs.EventOrder.{key}
 use Rattle.model.specs.Messages.{kindNumber}
 use Rattle.model.specs.declared.Message.{Message}
@@ -23,23 +25,21 @@ use Rattle.memory.specs.Records.{Gateway}
 use Rattle.memory.specs.Validity.{equal}
 use Rattle.memory.specs.declared.Sent.{Sent}
 use Rattle.memory.proofs.EventLaws.{same-equal}
-use Rattle.memory.proofs.Validated.{and-left, and-right}
+use Rattle.lists.proofs.BoolLaws.{and-left, and-right}
 use Rattle.gateway.specs.Effects.{Effect, Outcome, fits, settled, refused}
-use Rattle.gateway.specs.Taking.{any, isSent, takePlain, takeCancel, takeAcknowledgment}
+use Rattle.gateway.specs.Taking.{isSent, takePlain, takeCancel, takeAcknowledgment}
 use Rattle.gateway.specs.Rounds.{isIdle, awaited, takeStart, takeLvt, takeUpdate}
 use Rattle.gateway.specs.Calls.{taken, unlessBelow, takeByKind, takeBySense, takeFrame, takeBytes}
-use Rattle.gateway.proofs.Neighbours.{from-few, to-few}
-use Rattle.timewarp.specs.Lists.{All, nil, cons, Insert}
+use Rattle.routing.proofs.FewArcs.{from-few, to-few}
 use Rattle.timewarp.specs.Models.{hour, first}
 use Rattle.timewarp.specs.Gateways.{Event, plain, cancel, message, Network, Gateway as View}
 use Rattle.timewarp.specs.Arcs.{times}
 use Rattle.timewarp.specs.RoundSteps.{RoundFrame, start, lvt, update, InTurn, start-in-turn, lvt-in-turn, update-in-turn}
 use Rattle.timewarp.specs.Claims.{IsOutstanding}
 use Rattle.timewarp.specs.Worlds as Worlds
-use Rattle.timewarp.proofs.ListLaws.{all-taken, all-left, all-right}
 use Rattle.timewarp.proofs.ArcLaws.{ChildOf, child, no-child, child?}
 use Rattle.timewarp.proofs.Theorem.{claim-holds}
-use Rattle.run.specs.SingleQueue.{SetUp}
+use Rattle.run.specs.SingleQueue.{SetUpInput}
 use Rattle.run.specs.World.{World, Carried}
 use Rattle.run.specs.Demand3.{agreed}
 use Rattle.run.proofs.FigureGraph.{figureGraph, tells-is, hears-is}
@@ -50,7 +50,6 @@ use Rattle.run.proofs.EventsUnderWay.{seen-have, eventOf, acknowledgedO
 use Rattle.run.proofs.RoundsUnderWay.{roundOf, roundsIn}
 use Rattle.run.proofs.AcceptedFrames.{outcomeOf}
 use Rattle.run.proofs.AcceptedCalls.{call-number}
-use Rattle.run.proofs.Ledgers.{all-each}
 use Rattle.run.proofs.PassingFrames.{Passing}
 use Rattle.run.proofs.BothWorlds.{Both, forecastSetting, gatewaysIn}
 
@@ -87,13 +86,15 @@ unfolding any
 none-found c m [] h = nil
 none-found c m (x ∷ xs) h = by-first (isSent c m x) refl h (none-found c m xs)
   where
-    by-first : (t : Bool) → isSent c m x ≡ t → (t || any (isSent c m) xs) ≡ false → (any (isSent c m) xs ≡ false → All (λ e. eventIf c m ≡ e → ⊥) (map eventFor xs))
+    by-first : (t : Bool) → isSent c m x ≡ t → (t || any (isSent c m) xs) ≡ false → (any (isSent c m) xs ≡ false → All (λ e. eventIf c m ≡ e
+        → ⊥) (map eventFor xs))
         → All (λ e. eventIf c m ≡ e → ⊥) (eventFor x ∷ map eventFor xs)
     by-first true p h ih = absurd (true≢false h)
     by-first false p h ih = cons (other-event c (x .cancel) m (x .message) p) (ih h)
 
 -- an event that is outstanding is found
-outstanding-found : (c : Bool) (m : Message) (xs : List Sent) (rest : List (Event Message)) → Insert (eventIf c m) rest (map eventFor xs) → any (isSent c m) xs ≡ true
+outstanding-found : (c : Bool) (m : Message) (xs : List Sent) (rest : List (Event Message)) → Insert (eventIf c m) rest (map eventFor xs) →
+    any (isSent c m) xs ≡ true
 outstanding-found c m xs rest i = by-case (any (isSent c m) xs) refl
   where
     by-case : (t : Bool) → any (isSent c m) xs ≡ t → any (isSent c m) xs ≡ true
@@ -101,19 +102,22 @@ outstanding-found c m xs rest i = by-case (any (isSent c m) xs) refl
     by-case false p = absurd (all-taken i (none-found c m xs p) refl)
 
 -- what all frames of rounds under way have, those of one of them have
-rounds-have : {p : RoundFrame → Type 0} (cs : List Carried) → All p (roundsIn cs) → (c : Carried) → c ∈ cs → All p (roundOf (c .tag - 1) (reading (c .frame) .frame))
+rounds-have : {p : RoundFrame → Type 0} (cs : List Carried) → All p (roundsIn cs) → (c : Carried) → c ∈ cs → All p (roundOf (c .tag - 1)
+    (reading (c .frame) .frame))
 unfolding roundsIn
 rounds-have [] a c m = absurd (List·Memᴰ·not-nil m)
 rounds-have {p} (d ∷ cs) a c m =
     ⊎-elim
-    (λ (e : c ≡ d). subst (λ (x : Carried). All p (roundOf (x .tag - 1) (reading (x .frame) .frame))) (sym e) (all-left (roundOf (d .tag - 1) (reading (d .frame) .frame)) (roundsIn cs) a))
+    (λ (e : c ≡ d). subst (λ (x : Carried). All p (roundOf (x .tag - 1) (reading (x .frame) .frame))) (sym e) (all-left (roundOf (d .tag -
+    1) (reading (d .frame) .frame)) (roundsIn cs) a))
     (λ k. rounds-have cs (all-right (roundOf (d .tag - 1) (reading (d .frame) .frame)) (roundsIn cs) a) c k)
     (List·Memᴰ·cases-cons m)
 
 only : {A : Type 0} {p : A → Type 0} (x : A) → All p (x ∷ []) → p x
 only x (cons h a) = h
 
-module _ (n : ℕ) (some : 1 ≤ n) (last : ℕ) (setups : ℕ → SetUp) {w : World} {t : Worlds.World (forecastSetting n some last setups)} (b : Both n some last setups w t) (c : Carried) (under : c ∈ w .underWay) where
+module _ (n : ℕ) (some : 1 ≤ n) (last : ℕ) (setups : ℕ → SetUpInput) {w : World} {t : Worlds.World (forecastSetting n some last setups)} (b
+    : Both n some last setups w t) (c : Carried) (under : c ∈ w .underWay) where
   abbrev f : Frame
   f = reading (c .frame) .frame
 
@@ -137,7 +141,8 @@ module _ (n : ℕ) (some : 1 ≤ n) (last : ℕ) (setups : ℕ → SetUp) {w : W
     unfolding hour first key
     event-in-time e is =
         let r = claim-holds (forecastSetting n some last setups) (b .beside .reached) .bound-events i (omega arith) in
-        let a = seen-have eventOf (w .underWay) (subst (λ (k : Network Message). All (λ (x : Event Message). t .rounds .agreed i ≤ message x .hour) (k .events)) (b .beside .network) r) c under in
+        let a = seen-have eventOf (w .underWay) (subst (λ (k : Network Message). All (λ (x : Event Message). t .rounds .agreed i ≤ message
+        x .hour) (k .events)) (b .beside .network) r) c under in
         omega (arith, only e (subst (All (λ (x : Event Message). t .rounds .agreed i ≤ message x .hour)) is a), time-is)
 
     plain-room : eventOf f ≡ plain m ∷ [] → OnlyRoom (unlessBelow (m .hour) g (settled room g (takePlain m g)) .number)
@@ -149,7 +154,8 @@ module _ (n : ℕ) (some : 1 ≤ n) (last : ℕ) (setups : ℕ → SetUp) {w : W
     unfolding takeAcknowledgment
     acknowledgment-room x is from-here =
         let r = claim-holds (forecastSetting n some last setups) (b .beside .reached) .acknowledged in
-        let a = seen-have acknowledgedOf (w .underWay) (subst (λ (k : Network Message). All (IsOutstanding (forecastSetting n some last setups) t) (k .acknowledgments)) (b .beside .network) r) c under in
+        let a = seen-have acknowledgedOf (w .underWay) (subst (λ (k : Network Message). All (IsOutstanding (forecastSetting n some last
+        setups) t) (k .acknowledgments)) (b .beside .network) r) c under in
         let (rest, put) = only (eventIf x m) (subst (All (IsOutstanding (forecastSetting n some last setups) t)) is a) in
         let sent : Insert (eventIf x m) rest (map eventFor (g .outstanding)) =
         subst (λ (v : View Message). Insert (eventIf x m) rest (v .outstanding)) (ap (t .events .gateways) from-here ∙ b .beside .views i inside) put in
@@ -159,7 +165,8 @@ module _ (n : ℕ) (some : 1 ≤ n) (last : ℕ) (setups : ℕ → SetUp) {w : W
     turns : All (InTurn (figureGraph n some) (t .rounds)) (roundOf (c .tag - 1) f)
     turns =
         rounds-have (w .underWay)
-        (subst (All (InTurn (figureGraph n some) (t .rounds))) (sym (b .rounds .frames)) (claim-holds (forecastSetting n some last setups) (b .beside .reached) .in-turn))
+        (subst (All (InTurn (figureGraph n some) (t .rounds))) (sym (b .rounds .frames)) (claim-holds (forecastSetting n some last setups)
+        (b .beside .reached) .in-turn))
         c
         under
 
@@ -179,11 +186,13 @@ module _ (n : ℕ) (some : 1 ≤ n) (last : ℕ) (setups : ℕ → SetUp) {w : W
     unfolding takeStart
     start-room {k} (start-in-turn a s z e) = by-standing (b .rounds .standing i (omega arith))
       where
-        by-standing : StandingAt (figureGraph n some) (t .rounds .status) (t .rounds .mark) (t .rounds .arrived) i (g .round) → OnlyRoom (takeStart room k g .number)
+        by-standing : StandingAt (figureGraph n some) (t .rounds .status) (t .rounds .mark) (t .rounds .arrived) i (g .round) → OnlyRoom
+            (takeStart room k g .number)
         by-standing (is-idle p q r) =
             let idles : isIdle (g .round .phase) ≡ true = ap isIdle p in
             let first : awaited k (from (g .settings .n) (g .settings .own)) (g .round .arrived) ≡ true =
-            rw (heard-is, r) (first-arrival (startIn (figureGraph n some) (t .rounds .arrived) i) k (figureGraph n some .from i) few-heard (omega (arith, figureGraph n some .matched k i)) (rw z refl)) in
+            rw (heard-is, r) (first-arrival (startIn (figureGraph n some) (t .rounds .arrived) i) k (figureGraph n some .from i) few-heard
+            (omega (arith, figureGraph n some .matched k i)) (rw z refl)) in
             rw (idles, first) (settled-room room g _)
         by-standing (is-finished p q r) = absurd (omega arith)
         by-standing (is-counting p q r v) = absurd (omega arith)
@@ -194,13 +203,15 @@ module _ (n : ℕ) (some : 1 ≤ n) (last : ℕ) (setups : ℕ → SetUp) {w : W
     lvt-room {k} {tag} {hour} (lvt-in-turn a s u z v e) =
         in-time hour g (takeLvt room k hour g) (omega (arith, time-is)) (by-standing (b .rounds .standing i (omega arith)))
       where
-        awaits : g .round .arrived ≡ lvtBits (figureGraph n some) (t .rounds .arrived) i → isIdle (g .round .phase) ≡ false → OnlyRoom (takeLvt room k hour g .number)
+        awaits : g .round .arrived ≡ lvtBits (figureGraph n some) (t .rounds .arrived) i → isIdle (g .round .phase) ≡ false → OnlyRoom
+            (takeLvt room k hour g .number)
         awaits r begun =
             let first : awaited k (to (g .settings .n) (g .settings .own)) (g .round .arrived) ≡ true =
             rw (told-is, r) (first-arrival (lvtIn (figureGraph n some) (t .rounds .arrived) i) k (figureGraph n some .to i) few-told a (rw z refl)) in
             rw (begun, first) (settled-room room g _)
 
-        by-standing : StandingAt (figureGraph n some) (t .rounds .status) (t .rounds .mark) (t .rounds .arrived) i (g .round) → OnlyRoom (takeLvt room k hour g .number)
+        by-standing : StandingAt (figureGraph n some) (t .rounds .status) (t .rounds .mark) (t .rounds .arrived) i (g .round) → OnlyRoom
+            (takeLvt room k hour g .number)
         by-standing (is-idle p q r) = absurd (omega arith)
         by-standing (is-finished p q r) = absurd (omega arith)
         by-standing (is-counting p q r v) = awaits r (ap isIdle p)
@@ -226,11 +237,14 @@ module _ (n : ℕ) (some : 1 ≤ n) (last : ℕ) (setups : ℕ → SetUp) {w : W
     by-kind s (Delivery origin) e p = plain-room (rw (s, e) refl)
     by-kind s (Restock quantity) e p = absurd (true≢false p)
     by-kind s Start e p =
-        start-room (only (start (m .from) i (c .tag - 1)) (subst (λ (x : ℕ). All (InTurn (figureGraph n some) (t .rounds)) (start (m .from) x (c .tag - 1) ∷ [])) (to-here s) (rw e at turns)))
+        start-room (only (start (m .from) i (c .tag - 1)) (subst (λ (x : ℕ). All (InTurn (figureGraph n some) (t .rounds)) (start (m .from)
+        x (c .tag - 1) ∷ [])) (to-here s) (rw e at turns)))
     by-kind s Lvt e p =
-        lvt-room (only (lvt (m .from) i (c .tag - 1) (m .hour)) (subst (λ (x : ℕ). All (InTurn (figureGraph n some) (t .rounds)) (lvt (m .from) x (c .tag - 1) (m .hour) ∷ [])) (to-here s) (rw e at turns)))
+        lvt-room (only (lvt (m .from) i (c .tag - 1) (m .hour)) (subst (λ (x : ℕ). All (InTurn (figureGraph n some) (t .rounds)) (lvt
+        (m .from) x (c .tag - 1) (m .hour) ∷ [])) (to-here s) (rw e at turns)))
     by-kind s Update e p =
-        update-room (only (update (m .from) i (c .tag - 1) (m .hour)) (subst (λ (x : ℕ). All (InTurn (figureGraph n some) (t .rounds)) (update (m .from) x (c .tag - 1) (m .hour) ∷ [])) (to-here s) (rw e at turns)))
+        update-room (only (update (m .from) i (c .tag - 1) (m .hour)) (subst (λ (x : ℕ). All (InTurn (figureGraph n some) (t .rounds))
+        (update (m .from) x (c .tag - 1) (m .hour) ∷ [])) (to-here s) (rw e at turns)))
 
     by-sense : (s : Sense) → f .sense ≡ s → eqb (kindNumber (m .kind)) 3 ≡ false → OnlyRoom (takeBySense room m g s .number)
     unfolding message

@@ -33,7 +33,8 @@ nothing-changed n last setups lent forecast calls h c d = by-call c d
 
 -- a frame under way at its addressee
 pub only-for-room : OnlyForRoom
-only-for-room n last setups lent forecast calls h c under output = taken-or-room n (forecast .some) last setups (reached-both n last setups lent forecast calls h .both) c under output
+only-for-room n last setups lent forecast calls h c under output = taken-or-room n (forecast .some) last setups (reached-both n last setups
+    lent forecast calls h .both) c under output
 
 -- every memory
 pub always-sound : AlwaysSound

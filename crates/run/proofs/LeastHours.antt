@@ -4,6 +4,7 @@ use mathlib.Core.Bool.{Bool, true, false}
 use mathlib.Core.List.{List, [], _∷_, map}
 use Prim.Native.Nat.{ℕ, min}
 use native.Mathlib.Omega.{arith}
+use Rattle.lists.specs.Lists.{least}
 use Rattle.model.specs.EventOrder.{key}
 use Rattle.model.specs.declared.Message.{Message}
 use Rattle.frame.specs.Limits.{nothingDue}
@@ -11,7 +12,6 @@ use Rattle.memory.specs.declared.Entry.{Entry}
 use Rattle.memory.specs.declared.Sent.{Sent}
 use Rattle.gateway.specs.Rounds.{leastOutstanding, leastQueued}
 use Rattle.gateway.specs.Working.{pendingOf}
-use Rattle.timewarp.specs.Lists.{least}
 use Rattle.timewarp.specs.Models.{first}
 use Rattle.timewarp.specs.Gateways.{cancel, message}
 use Rattle.run.proofs.QueueViews.{eventIf, eventFor, waitingOf, Marked, pending, processed, waiting, marked}

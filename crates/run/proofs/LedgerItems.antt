@@ -2,20 +2,22 @@
 use mathlib.Core.Path.{_≡_, refl, sym, _∙_, ap, ap₂, subst}
 use mathlib.Core.Bool.{Bool, true, false, cond, not, _&&_, _||_, true≢false}
 use mathlib.Core.List.{List, [], _∷_, _++_, map}
-use Rattle.routing.specs.Arcs.{Ascending, none, more}
+use Rattle.lists.specs.Lists.{Ascending, none, more, any, withoutFirst, beforeLast, fromLast, tailOf, All, nil, cons}
+use Rattle.lists.proofs.SearchLaws.{before-stop, before-go, from-stop, from-go}
+use Rattle.lists.proofs.SearchLaws.{around-last}
 use Rattle.model.specs.declared.Message.{Message}
 use Rattle.model.specs.declared.State.{State}
 use Rattle.memory.specs.Validity.{isPending, isProcessed, isWaiting, equal, later}
 use Rattle.memory.specs.declared.Entry.{Entry}
 use Rattle.memory.specs.declared.Mark.the-variants.{Processed}
 use Rattle.memory.proofs.EventLaws.{later-onward}
-use Rattle.memory.proofs.Validated.{MayStand, and-left, first-of}
+use Rattle.memory.proofs.Validated.{MayStand, first-of}
+use Rattle.lists.proofs.BoolLaws.{and-left}
 use borrow.Author.Tests.{not-true}
 use Rattle.gateway.specs.Undoing.{undone}
 use Rattle.gateway.specs.Working.{pendingOf, processedNext}
-use Rattle.gateway.specs.Taking.{any, withoutFirst, beforeLast, fromLast, tailOf, upTo, behind, isCancelOf, isPlain}
-use Rattle.gateway.proofs.Searches.{around-last}
-use Rattle.timewarp.specs.Lists.{All, nil, cons}
+use Rattle.lists.specs.Lists.{beforeFirst, fromFirst}
+use Rattle.gateway.specs.Taking.{isLater, isCancelOf, isPlain}
 use Rattle.run.specs.Ledger as Ledger
 use Rattle.run.specs.Ledger.{Item, notDone, isItem, undoneAfter, didOne, notDoneOf}
 use Rattle.run.proofs.QueueViews.{Marked, marked, pending, processed, waiting}
@@ -45,7 +47,8 @@ unfolding itemsOf
 items-append [] vs = refl
 items-append (u ∷ us) vs = by-case (isWaiting u) (items-append us vs)
   where
-    by-case : (t : Bool) → itemsOf (us ++ vs) ≡ itemsOf us ++ itemsOf vs → cond t (itemsOf (us ++ vs)) (itemOf u ∷ itemsOf (us ++ vs)) ≡ cond t (itemsOf us) (itemOf u ∷ itemsOf us) ++ itemsOf vs
+    by-case : (t : Bool) → itemsOf (us ++ vs) ≡ itemsOf us ++ itemsOf vs → cond t (itemsOf (us ++ vs)) (itemOf u ∷ itemsOf (us ++ vs)) ≡
+        cond t (itemsOf us) (itemOf u ∷ itemsOf us) ++ itemsOf vs
     by-case true p = p
     by-case false p = ap (λ l. itemOf u ∷ l) p
 
@@ -66,81 +69,57 @@ unfolding itemsOf
 items-none nil = refl
 items-none (cons {a = e} {l = es} p a) = by-case (isWaiting e) (items-none a)
   where
-    by-case : (t : Bool) → map notDone (itemsOf es) ≡ itemsOf es → map notDone (cond t (itemsOf es) (itemOf e ∷ itemsOf es)) ≡ cond t (itemsOf es) (itemOf e ∷ itemsOf es)
+    by-case : (t : Bool) → map notDone (itemsOf es) ≡ itemsOf es → map notDone (cond t (itemsOf es) (itemOf e ∷ itemsOf es)) ≡ cond t
+        (itemsOf es) (itemOf e ∷ itemsOf es)
     by-case true k = k
     by-case false k = ap₂ (λ (d : Bool) l. record { message = e .message; done = d } ∷ l) (sym p) k
 
--- where a message enters: there, or further on
+-- where a message enters
 module _ (m : Message) where
-  module _ (e : Entry) (es : List Entry) where
-    up-stop : later (e .message) m ≡ true → upTo m (e ∷ es) ≡ []
-    unfolding upTo
-    up-stop p = rw p
-
-    up-go : later (e .message) m ≡ false → upTo m (e ∷ es) ≡ e ∷ upTo m es
-    unfolding upTo
-    up-go p = rw p
-
-    behind-stop : later (e .message) m ≡ true → behind m (e ∷ es) ≡ e ∷ es
-    unfolding behind
-    behind-stop p = rw p
-
-    behind-go : later (e .message) m ≡ false → behind m (e ∷ es) ≡ behind m es
-    unfolding behind
-    behind-go p = rw p
-
-  module _ (x : Item) (xs : List Item) where
-    ledger-up-stop : later (x .message) m ≡ true → Ledger.upTo m (x ∷ xs) ≡ []
-    unfolding Ledger.upTo
-    ledger-up-stop p = rw p
-
-    ledger-up-go : later (x .message) m ≡ false → Ledger.upTo m (x ∷ xs) ≡ x ∷ Ledger.upTo m xs
-    unfolding Ledger.upTo
-    ledger-up-go p = rw p
-
-    ledger-behind-stop : later (x .message) m ≡ true → Ledger.behind m (x ∷ xs) ≡ x ∷ xs
-    unfolding Ledger.behind
-    ledger-behind-stop p = rw p
-
-    ledger-behind-go : later (x .message) m ≡ false → Ledger.behind m (x ∷ xs) ≡ Ledger.behind m xs
-    unfolding Ledger.behind
-    ledger-behind-go p = rw p
-
-  all-behind : {es : List Entry} → All (λ e. later (e .message) m ≡ true) es → (Ledger.upTo m (itemsOf es) ≡ []) × (Ledger.behind m (itemsOf es) ≡ itemsOf es)
-  unfolding itemsOf Ledger.upTo Ledger.behind
+  all-behind : {es : List Entry} → All (λ e. later (e .message) m ≡ true) es → (beforeFirst (Ledger.isLaterItem m) (itemsOf es) ≡ []) ×
+      (fromFirst (Ledger.isLaterItem m) (itemsOf es) ≡ itemsOf es)
+  unfolding itemsOf beforeFirst fromFirst
   all-behind nil = (refl, refl)
   all-behind (cons {a = e} {l = es} p a) = by-case (isWaiting e) (all-behind a)
     where
-      by-case : (t : Bool) → (Ledger.upTo m (itemsOf es) ≡ []) × (Ledger.behind m (itemsOf es) ≡ itemsOf es)
-          → (Ledger.upTo m (cond t (itemsOf es) (itemOf e ∷ itemsOf es)) ≡ []) × (Ledger.behind m (cond t (itemsOf es) (itemOf e ∷ itemsOf es)) ≡ cond t (itemsOf es) (itemOf e ∷ itemsOf es))
+      by-case : (t : Bool) → (beforeFirst (Ledger.isLaterItem m) (itemsOf es) ≡ []) × (fromFirst (Ledger.isLaterItem m) (itemsOf es) ≡ itemsOf es)
+          → (beforeFirst (Ledger.isLaterItem m) (cond t (itemsOf es) (itemOf e ∷ itemsOf es)) ≡ []) × (fromFirst (Ledger.isLaterItem m)
+          (cond t (itemsOf es) (itemOf e ∷ itemsOf es)) ≡ cond t (itemsOf es) (itemOf e ∷ itemsOf es))
       by-case true k = k
       by-case false k = (rw p, rw p)
 
-  pub items-cut : {es : List Entry} → Ascending MayStand es → (Ledger.upTo m (itemsOf es) ≡ itemsOf (upTo m es)) × (Ledger.behind m (itemsOf es) ≡ itemsOf (behind m es))
-  unfolding itemsOf Ledger.upTo Ledger.behind upTo behind
+  pub items-cut : {es : List Entry} → Ascending MayStand es → (beforeFirst (Ledger.isLaterItem m) (itemsOf es) ≡ itemsOf (beforeFirst
+      (isLater m) es)) × (fromFirst (Ledger.isLaterItem m) (itemsOf es) ≡ itemsOf (fromFirst (isLater m) es))
+  unfolding itemsOf beforeFirst fromFirst
   items-cut none = (refl, refl)
   items-cut (more {x = e} {xs = es} f a) = by-case (later (e .message) m) refl (isWaiting e) refl (items-cut a)
     where
       Cut : List Entry → Type 0
-      Cut xs = (Ledger.upTo m (itemsOf xs) ≡ itemsOf (upTo m xs)) × (Ledger.behind m (itemsOf xs) ≡ itemsOf (behind m xs))
+      Cut xs = (beforeFirst (Ledger.isLaterItem m) (itemsOf xs) ≡ itemsOf (beforeFirst (isLater m) xs)) × (fromFirst (Ledger.isLaterItem m)
+          (itemsOf xs) ≡ itemsOf (fromFirst (isLater m) xs))
 
       by-case : (t : Bool) → later (e .message) m ≡ t → (u : Bool) → isWaiting e ≡ u → Cut es → Cut (e ∷ es)
       by-case true p true q k =
           let b = all-behind (each-all es (λ y d. later-onward m (e .message) (y .message) p (f y d .order))) in (
-            ap (Ledger.upTo m) (items-waiting e es q) ∙ b .0 ∙ ap itemsOf (sym (up-stop e es p)),
-            ap (Ledger.behind m) (items-waiting e es q) ∙ b .1 ∙ sym (items-waiting e es q) ∙ ap itemsOf (sym (behind-stop e es p)),
+            ap (beforeFirst (Ledger.isLaterItem m)) (items-waiting e es q) ∙ b .0 ∙ ap itemsOf (sym (before-stop (isLater m) e es p)),
+            ap (fromFirst (Ledger.isLaterItem m)) (items-waiting e es q) ∙ b .1 ∙ sym (items-waiting e es q) ∙ ap itemsOf (sym (from-stop (isLater m) e es p)),
           )
       by-case true p false q k = (
-        ap (Ledger.upTo m) (items-plain e es q) ∙ ledger-up-stop (itemOf e) (itemsOf es) p ∙ ap itemsOf (sym (up-stop e es p)),
-        ap (Ledger.behind m) (items-plain e es q) ∙ ledger-behind-stop (itemOf e) (itemsOf es) p ∙ sym (items-plain e es q) ∙ ap itemsOf (sym (behind-stop e es p)),
+        ap (beforeFirst (Ledger.isLaterItem m)) (items-plain e es q) ∙ before-stop (Ledger.isLaterItem m) (itemOf e) (itemsOf es) p ∙ ap
+            itemsOf (sym (before-stop (isLater m) e es p)),
+        ap (fromFirst (Ledger.isLaterItem m)) (items-plain e es q) ∙ from-stop (Ledger.isLaterItem m) (itemOf e) (itemsOf es) p ∙ sym
+            (items-plain e es q) ∙ ap itemsOf (sym (from-stop (isLater m) e es p)),
       )
       by-case false p true q k = (
-        ap (Ledger.upTo m) (items-waiting e es q) ∙ k .0 ∙ sym (items-waiting e (upTo m es) q) ∙ ap itemsOf (sym (up-go e es p)),
-        ap (Ledger.behind m) (items-waiting e es q) ∙ k .1 ∙ ap itemsOf (sym (behind-go e es p)),
+        ap (beforeFirst (Ledger.isLaterItem m)) (items-waiting e es q) ∙ k .0 ∙ sym (items-waiting e (beforeFirst (isLater m) es) q) ∙ ap
+            itemsOf (sym (before-go (isLater m) e es p)),
+        ap (fromFirst (Ledger.isLaterItem m)) (items-waiting e es q) ∙ k .1 ∙ ap itemsOf (sym (from-go (isLater m) e es p)),
       )
       by-case false p false q k = (
-        ap (Ledger.upTo m) (items-plain e es q) ∙ ledger-up-go (itemOf e) (itemsOf es) p ∙ ap (λ l. itemOf e ∷ l) (k .0) ∙ sym (items-plain e (upTo m es) q) ∙ ap itemsOf (sym (up-go e es p)),
-        ap (Ledger.behind m) (items-plain e es q) ∙ ledger-behind-go (itemOf e) (itemsOf es) p ∙ k .1 ∙ ap itemsOf (sym (behind-go e es p)),
+        ap (beforeFirst (Ledger.isLaterItem m)) (items-plain e es q) ∙ before-go (Ledger.isLaterItem m) (itemOf e) (itemsOf es) p ∙ ap (λ l.
+            itemOf e ∷ l) (k .0) ∙ sym (items-plain e (beforeFirst (isLater m) es) q) ∙ ap itemsOf (sym (before-go (isLater m) e es p)),
+        ap (fromFirst (Ledger.isLaterItem m)) (items-plain e es q) ∙ from-go (Ledger.isLaterItem m) (itemOf e) (itemsOf es) p ∙ k .1 ∙ ap
+            itemsOf (sym (from-go (isLater m) e es p)),
       )
 
 -- the equal messages
@@ -259,7 +238,8 @@ module _ (m : Message) where
           }
 
   -- what stands behind the message that is struck out
-  behind-struck : (x : Entry) (rest : List Entry) → isWaiting x ≡ false → Ascending MayStand (x ∷ rest) → undoneAfter (itemsOf (x ∷ rest)) ≡ itemsOf (map undone rest)
+  behind-struck : (x : Entry) (rest : List Entry) → isWaiting x ≡ false → Ascending MayStand (x ∷ rest) → undoneAfter (itemsOf (x ∷ rest)) ≡
+      itemsOf (map undone rest)
   behind-struck x rest w a = ap undoneAfter (items-plain x rest w) ∙ by-mark (marked x) ∙ sym (items-undone rest)
     where
       by-mark : Marked x → undoneAfter (itemOf x ∷ itemsOf rest) ≡ map notDone (itemsOf rest)
@@ -268,13 +248,17 @@ module _ (m : Message) where
       by-mark (waiting p q r) = absurd (true≢false (sym r ∙ w))
 
   pub items-struck : (es : List Entry) → Ascending MayStand es → any (isPlain m) es ≡ true
-      → beforeLast (isItem m) (itemsOf es) ++ undoneAfter (fromLast (isItem m) (itemsOf es)) ≡ itemsOf (beforeLast (isPlain m) es ++ map undone (tailOf (fromLast (isPlain m) es)))
+      → beforeLast (isItem m) (itemsOf es) ++ undoneAfter (fromLast (isItem m) (itemsOf es)) ≡ itemsOf (beforeLast (isPlain m) es ++ map
+      undone (tailOf (fromLast (isPlain m) es)))
   items-struck es a h =
       let l = items-last es in
       let f = last-found (isPlain m) es h in
-      let not-waiting : isWaiting (f .first) ≡ false = not-true (isWaiting (f .first)) (and-left (not (isWaiting (f .first))) (equal (f .first .message) m) (f .passes)) in
-      let order : Ascending MayStand (f .first ∷ f .rest) = ascending-right (beforeLast (isPlain m) es) (subst (Ascending MayStand) (sym (ap (λ l. beforeLast (isPlain m) es ++ l) (sym (f .is)) ∙ around-last (isPlain m) es h)) a) in
-      ap₂ _++_ (l .before) (ap undoneAfter (l .from ∙ ap itemsOf (f .is)) ∙ behind-struck (f .first) (f .rest) not-waiting order ∙ ap (λ k. itemsOf (map undone (tailOf k))) (sym (f .is)))
+      let not-waiting : isWaiting (f .first) ≡ false = not-true (isWaiting (f .first)) (and-left (not (isWaiting (f .first))) (equal
+      (f .first .message) m) (f .passes)) in
+      let order : Ascending MayStand (f .first ∷ f .rest) = ascending-right (beforeLast (isPlain m) es) (subst (Ascending MayStand) (sym (ap
+      (λ l. beforeLast (isPlain m) es ++ l) (sym (f .is)) ∙ around-last (isPlain m) es h)) a) in
+      ap₂ _++_ (l .before) (ap undoneAfter (l .from ∙ ap itemsOf (f .is)) ∙ behind-struck (f .first) (f .rest) not-waiting order ∙ ap (λ k.
+      itemsOf (map undone (tailOf k))) (sym (f .is)))
       ∙ sym (items-append (beforeLast (isPlain m) es) (map undone (tailOf (fromLast (isPlain m) es))))
 
 -- an event done
@@ -286,7 +270,11 @@ did-here : (x : Item) (xs : List Item) → x .done ≡ false → didOne (x ∷ x
 unfolding didOne
 did-here x xs h = rw h
 
-pub next-here : (s : State) (e : Entry) (es : List Entry) → isPending e ≡ true → processedNext s (e ∷ es) ≡ record { message = e .message; mark = Processed; before = s } ∷ es
+pub next-here : (s : State) (e : Entry) (es : List Entry) → isPending e ≡ true → processedNext s (e ∷ es) ≡ record {
+  message = e .message;
+  mark = Processed;
+  before = s;
+} ∷ es
 unfolding processedNext
 next-here s e es h = rw h
 
@@ -327,14 +315,16 @@ unfolding withoutFirst itemsOf
 items-committed [] = refl
 items-committed (e ∷ es) = by-mark (marked e) (items-committed es)
   where
-    by-mark : Marked e → withoutFirst isDone (itemsOf es) ≡ itemsOf (withoutFirst isProcessed es) → withoutFirst isDone (itemsOf (e ∷ es)) ≡ itemsOf (withoutFirst isProcessed (e ∷ es))
+    by-mark : Marked e → withoutFirst isDone (itemsOf es) ≡ itemsOf (withoutFirst isProcessed es) → withoutFirst isDone (itemsOf (e ∷ es)) ≡
+        itemsOf (withoutFirst isProcessed (e ∷ es))
     by-mark (pending p q r) k =
         ap (withoutFirst isDone) (items-plain e es r) ∙ without-later isDone (itemOf e) (itemsOf es) q ∙ ap (λ l. itemOf e ∷ l) k
         ∙ sym (items-plain e (withoutFirst isProcessed es) r) ∙ ap itemsOf (sym (without-later isProcessed e es q))
     by-mark (processed p q r) k =
         ap (withoutFirst isDone) (items-plain e es r) ∙ without-here isDone (itemOf e) (itemsOf es) q ∙ ap itemsOf (sym (without-here isProcessed e es q))
     by-mark (waiting p q r) k =
-        ap (withoutFirst isDone) (items-waiting e es r) ∙ k ∙ sym (items-waiting e (withoutFirst isProcessed es) r) ∙ ap itemsOf (sym (without-later isProcessed e es q))
+        ap (withoutFirst isDone) (items-waiting e es r) ∙ k ∙ sym (items-waiting e (withoutFirst isProcessed es) r) ∙ ap itemsOf (sym
+        (without-later isProcessed e es q))
 
 -- what is not done is pending
 left-here : (x : Item) (xs : List Item) → x .done ≡ false → notDoneOf (x ∷ xs) ≡ x .message ∷ notDoneOf xs
@@ -374,6 +364,7 @@ unfolding withoutFirst
 items-met m [] = refl
 items-met m (e ∷ es) = by-case (isCancelOf m e) refl (items-met m es)
   where
-    by-case : (t : Bool) → isCancelOf m e ≡ t → itemsOf (withoutFirst (isCancelOf m) es) ≡ itemsOf es → itemsOf (withoutFirst (isCancelOf m) (e ∷ es)) ≡ itemsOf (e ∷ es)
+    by-case : (t : Bool) → isCancelOf m e ≡ t → itemsOf (withoutFirst (isCancelOf m) es) ≡ itemsOf es → itemsOf (withoutFirst (isCancelOf m)
+        (e ∷ es)) ≡ itemsOf (e ∷ es)
     by-case true q k = ap itemsOf (without-here (isCancelOf m) e es q) ∙ sym (items-waiting e es (and-left (isWaiting e) (equal (e .message) m) q))
     by-case false q k = ap itemsOf (without-later (isCancelOf m) e es q) ∙ items-more e (withoutFirst (isCancelOf m) es) es k

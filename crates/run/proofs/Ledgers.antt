@@ -5,7 +5,9 @@ use Prim.Native.Nat.{ℕ, _≤_}
 use native.Mathlib.Omega.{arith}
 use mathlib.Core.Bool.{Bool, true, false, cond, not, _&&_, _||_, true≢false, false≢true}
 use mathlib.Core.List.{List, [], _∷_, _++_, map, List·Memᴰ·not-nil, List·Memᴰ·cases-cons, List·Memᴰ·append-cases}
-use Rattle.routing.specs.Arcs.{_∈_, Ascending}
+use Rattle.lists.specs.Lists.{_∈_, Ascending, any, withoutFirst, beforeLast, fromLast, tailOf, All, Insert, here, there, count}
+use Rattle.lists.proofs.SearchLaws.{cut-first, around-last}
+use Rattle.lists.proofs.ListLaws.{insert-between, matches-same, matches-equal, matches-other, count-nil, count-cons, count-insert, all-count, all-each}
 use Rattle.model.specs.declared.Message.{Message}
 use Rattle.model.specs.declared.State.{State}
 use Rattle.memory.specs.Records.{Gateway}
@@ -13,24 +15,25 @@ use Rattle.memory.specs.Validity.{isProcessed, isWaiting, equal}
 use Rattle.memory.specs.declared.Entry.{Entry}
 use Rattle.memory.specs.declared.Mark.the-variants.{Processed}
 use Rattle.memory.proofs.EventLaws.{equal-same, same-equal}
-use Rattle.memory.proofs.Validated.{MayStand, and-left}
+use Rattle.memory.proofs.Validated.{MayStand}
+use Rattle.lists.proofs.BoolLaws.{and-left}
 use borrow.Author.Tests.{not-true}
 use Rattle.gateway.specs.Undoing.{undone, pendingEntry}
 use Rattle.gateway.specs.Working.{pendingOf, processedNext}
-use Rattle.gateway.specs.Taking.{any, withoutFirst, beforeLast, fromLast, tailOf, upTo, behind, isCancelOf, isPlain, waitingEntry, takePlain, takeCancel}
-use Rattle.gateway.proofs.Searches.{cut-again, around-last}
-use Rattle.timewarp.specs.Lists.{All, nil, cons, Insert, here, there, count}
+use Rattle.lists.specs.Lists.{beforeFirst, fromFirst}
+use Rattle.gateway.specs.Taking.{isLater, isCancelOf, isPlain, waitingEntry, takePlain, takeCancel}
 use Rattle.timewarp.specs.Models.{Model}
-use Rattle.timewarp.proofs.ListLaws.{insert-between, matches-same, matches-equal, matches-other, count-nil, count-cons, count-insert, all-count}
 use Rattle.timewarp.proofs.OrderLaws.{message-eq}
-use Rattle.run.specs.SingleQueue.{SetUp}
+use Rattle.run.specs.SingleQueue.{SetUpInput}
 use Rattle.run.specs.Ledger as Ledger
-use Rattle.run.specs.Ledger.{Item, notDone, entered, isItem, undoneAfter, struckOut, didOne, committedOne, notDoneOf}
+use Rattle.run.specs.Ledger.{Item, notDone, afterPlain, isItem, undoneAfter, afterCancel, didOne, committedOne, notDoneOf}
 use Rattle.run.proofs.ForecastModel.{forecastModel}
 use Rattle.run.proofs.SingleQueues.{Alike}
 use Rattle.run.proofs.QueueViews.{waitingOf, waiting-append, undone-waiting, Marked, marked, pending, processed, waiting}
 use Rattle.run.proofs.QueueChanges.{Found, last-found, cancel-met}
-use Rattle.run.proofs.LedgerItems.{itemsOf, items-plain, items-waiting, items-append, items-undone, items-cut, items-any, or-left, or-right, items-struck, next-here, next-later, items-done, without-here, without-later, isDone, items-committed, items-pending, items-met}
+use Rattle.run.proofs.LedgerItems.{itemsOf, items-plain, items-waiting, items-append, items-undone, items-cut, items-any, or-left}
+use Rattle.run.proofs.LedgerItems.{or-right, items-struck, next-here, next-later, items-done, without-here, without-later, isDone}
+use Rattle.run.proofs.LedgerItems.{items-committed, items-pending, items-met}
 
 -- the waiting cancels of a queue with an entry in front
 waiting-plain : (e : Entry) (es : List Entry) → isWaiting e ≡ false → waitingOf (e ∷ es) ≡ waitingOf es
@@ -53,7 +56,12 @@ waiting-next s [] = refl
 waiting-next s (e ∷ es) = by-mark (marked e) (waiting-next s es)
   where
     by-mark : Marked e → waitingOf (processedNext s es) ≡ waitingOf es → waitingOf (processedNext s (e ∷ es)) ≡ waitingOf (e ∷ es)
-    by-mark (pending p q r) k = ap waitingOf (next-here s e es p) ∙ waiting-plain (record { message = e .message; mark = Processed; before = s }) es refl ∙ sym (waiting-plain e es r)
+    by-mark (pending p q r) k = ap waitingOf (next-here s e es p) ∙ waiting-plain (record {
+      message = e .message;
+      mark = Processed;
+      before =
+          s;
+    }) es refl ∙ sym (waiting-plain e es r)
     by-mark (processed p q r) k = ap waitingOf (next-later s e es p) ∙ waiting-more e (processedNext s es) es k
     by-mark (waiting p q r) k = ap waitingOf (next-later s e es p) ∙ waiting-more e (processedNext s es) es k
 
@@ -67,12 +75,7 @@ waiting-committed (e ∷ es) = by-mark (marked e) (waiting-committed es)
     by-mark (processed p q r) k = ap waitingOf (without-here isProcessed e es q) ∙ sym (waiting-plain e es r)
     by-mark (waiting p q r) k = ap waitingOf (without-later isProcessed e es q) ∙ waiting-more e (withoutFirst isProcessed es) es k
 
--- an element has what all have
-pub all-each : {A : Type 0} {p : A → Type 0} {l : List A} → All p l → (x : A) → x ∈ l → p x
-all-each nil x m = absurd (List·Memᴰ·not-nil m)
-all-each {p = p} (cons {a = y} h a) x m = ⊎-elim (λ (e : x ≡ y). subst p (sym e) h) (λ n. all-each a x n) (List·Memᴰ·cases-cons m)
-
-module _ (n last : ℕ) (setups : ℕ → SetUp) where
+module _ (n last : ℕ) (setups : ℕ → SetUpInput) where
   abbrev model : Model
   model = forecastModel n last setups
 
@@ -93,7 +96,8 @@ module _ (n last : ℕ) (setups : ℕ → SetUp) where
   equals-taken m [] h = absurd (false≢true h)
   equals-taken m (x ∷ l) h = by-case (equal m x) refl (equals-taken m l) h
     where
-      by-case : (t : Bool) → equal m x ≡ t → (any (equal m) l ≡ true → Insert m (withoutFirst (equal m) l) l) → (t || any (equal m) l) ≡ true → Insert m (cond t l (x ∷ withoutFirst (equal m) l)) (x ∷ l)
+      by-case : (t : Bool) → equal m x ≡ t → (any (equal m) l ≡ true → Insert m (withoutFirst (equal m) l) l) → (t || any (equal m) l) ≡
+          true → Insert m (cond t l (x ∷ withoutFirst (equal m) l)) (x ∷ l)
       by-case true q ih k = subst (λ (y : Message). Insert m l (y ∷ l)) (equal-same m x q) here
       by-case false q ih k = there (ih k)
 
@@ -119,7 +123,8 @@ module _ (n last : ℕ) (setups : ℕ → SetUp) where
           omega (
             arith,
             count-cons (message-eq model) m (e .message) (waitingOf es),
-            matches-other (message-eq model) (λ (d : m ≡ e .message). true≢false (sym (same-equal (e .message) m (sym d)) ∙ or-left (equal (e .message) m) (any (isCancelOf m) es) k)),
+            matches-other (message-eq model) (λ (d : m ≡ e .message). true≢false (sym (same-equal (e .message) m (sym d)) ∙ or-left (equal
+                (e .message) m) (any (isCancelOf m) es) k)),
             ih (or-right (equal (e .message) m) (any (isCancelOf m) es) k),
           )
       by-case false ih k = ih k
@@ -130,7 +135,8 @@ module _ (n last : ℕ) (setups : ℕ → SetUp) where
     pub cancels : Alike model (l .cancels) (waitingOf es)
 
   -- nothing that waits by the ledger lacks what all pending and waiting messages have
-  pub waiting-have : {p : Message → Type 0} (es : List Entry) (l : Ledger.Ledger) → Follows es l → All p (pendingOf es) → All p (waitingOf es) → (x : Message) → x ∈ Ledger.waiting l → p x
+  pub waiting-have : {p : Message → Type 0} (es : List Entry) (l : Ledger.Ledger) → Follows es l → All p (pendingOf es) → All p (waitingOf
+      es) → (x : Message) → x ∈ Ledger.waiting l → p x
   unfolding Ledger.waiting
   waiting-have es l f a b x m =
       ⊎-elim
@@ -139,7 +145,11 @@ module _ (n last : ℕ) (setups : ℕ → SetUp) where
       (List·Memᴰ·append-cases (notDoneOf (l .items)) m)
 
   -- an event is done, or committed
-  pub did-follows : (s : State) (es : List Entry) (l : Ledger.Ledger) → Follows es l → Follows (processedNext s es) (record { items = didOne (l .items); cancels = l .cancels })
+  pub did-follows : (s : State) (es : List Entry) (l : Ledger.Ledger) → Follows es l → Follows (processedNext s es) (record {
+    items = didOne
+        (l .items);
+    cancels = l .cancels;
+  })
   did-follows s es l f =
       record {
         items = ap didOne (f .items) ∙ items-done s es;
@@ -170,28 +180,33 @@ module _ (n last : ℕ) (setups : ℕ → SetUp) where
         }
 
     pub entry-follows : Ascending MayStand es
-        → Follows (upTo m es ++ (pendingEntry m ∷ map undone (behind m es)))
-        (record { items = Ledger.upTo m (l .items) ++ (record { message = m; done = false } ∷ map notDone (Ledger.behind m (l .items))); cancels = l .cancels })
+        → Follows (beforeFirst (isLater m) es ++ (pendingEntry m ∷ map undone (fromFirst (isLater m) es)))
+        (record {
+          items = beforeFirst (Ledger.isLaterItem m) (l .items) ++ (record { message = m; done = false } ∷ map notDone (fromFirst
+              (Ledger.isLaterItem m) (l .items)));
+          cancels = l .cancels;
+        })
     entry-follows a =
         record {
           items =
-              ap (λ k. Ledger.upTo m k ++ (new ∷ map notDone (Ledger.behind m k))) (f .items)
+              ap (λ k. beforeFirst (Ledger.isLaterItem m) k ++ (new ∷ map notDone (fromFirst (Ledger.isLaterItem m) k))) (f .items)
               ∙ ap₂ (λ k d. k ++ (new ∷ map notDone d)) (items-cut m a .0) (items-cut m a .1)
-              ∙ ap (λ k. itemsOf (upTo m es) ++ (new ∷ k)) (sym (items-undone (behind m es)))
-              ∙ ap (λ k. itemsOf (upTo m es) ++ k) (sym (items-plain (pendingEntry m) (map undone (behind m es)) refl))
-              ∙ sym (items-append (upTo m es) (pendingEntry m ∷ map undone (behind m es)));
+              ∙ ap (λ k. itemsOf (beforeFirst (isLater m) es) ++ (new ∷ k)) (sym (items-undone (fromFirst (isLater m) es)))
+              ∙ ap (λ k. itemsOf (beforeFirst (isLater m) es) ++ k) (sym (items-plain (pendingEntry m) (map undone (fromFirst (isLater m) es)) refl))
+              ∙ sym (items-append (beforeFirst (isLater m) es) (pendingEntry m ∷ map undone (fromFirst (isLater m) es)));
           cancels = λ x. f .cancels x ∙ ap (times x) (sym still);
         }
       where
         new : Item
         new = record { message = m; done = false }
 
-        still : waitingOf (upTo m es ++ (pendingEntry m ∷ map undone (behind m es))) ≡ waitingOf es
+        still : waitingOf (beforeFirst (isLater m) es ++ (pendingEntry m ∷ map undone (fromFirst (isLater m) es))) ≡ waitingOf es
         still =
-            waiting-append (upTo m es) (pendingEntry m ∷ map undone (behind m es))
-            ∙ ap (λ k. waitingOf (upTo m es) ++ k) (waiting-plain (pendingEntry m) (map undone (behind m es)) refl ∙ undone-waiting (behind m es))
-            ∙ sym (waiting-append (upTo m es) (behind m es))
-            ∙ ap waitingOf (cut-again m es)
+            waiting-append (beforeFirst (isLater m) es) (pendingEntry m ∷ map undone (fromFirst (isLater m) es))
+            ∙ ap (λ k. waitingOf (beforeFirst (isLater m) es) ++ k) (waiting-plain (pendingEntry m) (map undone (fromFirst (isLater m) es))
+            refl ∙ undone-waiting (fromFirst (isLater m) es))
+            ∙ sym (waiting-append (beforeFirst (isLater m) es) (fromFirst (isLater m) es))
+            ∙ ap waitingOf (cut-first (isLater m) es)
 
     -- both see an equal cancel, or neither does
     same-found : any (equal m) (l .cancels) ≡ any (isCancelOf m) es
@@ -200,9 +215,22 @@ module _ (n last : ℕ) (setups : ℕ → SetUp) where
         by-case : (t : Bool) → any (equal m) (l .cancels) ≡ t → (u : Bool) → any (isCancelOf m) es ≡ u → t ≡ u
         by-case true p true q = refl
         by-case true p false q =
-            absurd (omega (arith, count-insert (message-eq model) m (equals-taken m (l .cancels) p), matches-same (message-eq model) m, cancels-none m es q, f .cancels m))
+            absurd (omega (
+              arith,
+              count-insert (message-eq model) m (equals-taken m (l .cancels) p),
+              matches-same (message-eq model) m,
+              cancels-none m es q,
+              f .cancels m,
+            ))
         by-case false p true q =
-            absurd (omega (arith, count-insert (message-eq model) m (cancel-met m es q .met), matches-same (message-eq model) m, equals-none m (l .cancels) p, f .cancels m))
+            absurd (omega (
+              arith,
+              count-insert (message-eq model) m (cancel-met m es q .met),
+              matches-same (message-eq model) m,
+              equals-none
+                  m (l .cancels) p,
+              f .cancels m,
+            ))
         by-case false p false q = refl
 
     struck-follows : Ascending MayStand es → any (isPlain m) es ≡ true
@@ -220,7 +248,8 @@ module _ (n last : ℕ) (setups : ℕ → SetUp) where
         tail-waiting : waitingOf (tailOf (fromLast (isPlain m) es)) ≡ waitingOf (fromLast (isPlain m) es)
         tail-waiting =
             ap (λ k. waitingOf (tailOf k)) (struck .is)
-            ∙ sym (waiting-plain (struck .first) (struck .rest) (not-true (isWaiting (struck .first)) (and-left (not (isWaiting (struck .first))) (equal (struck .first .message) m) (struck .passes))))
+            ∙ sym (waiting-plain (struck .first) (struck .rest) (not-true (isWaiting (struck .first)) (and-left (not (isWaiting
+            (struck .first))) (equal (struck .first .message) m) (struck .passes))))
             ∙ ap waitingOf (sym (struck .is))
 
         still : waitingOf (beforeLast (isPlain m) es ++ map undone (tailOf (fromLast (isPlain m) es))) ≡ waitingOf es
@@ -230,41 +259,42 @@ module _ (n last : ℕ) (setups : ℕ → SetUp) where
             ∙ sym (waiting-append (beforeLast (isPlain m) es) (fromLast (isPlain m) es))
             ∙ ap waitingOf (around-last (isPlain m) es p)
 
-    kept-follows : Follows (upTo m es ++ (waitingEntry m ∷ behind m es)) (record { items = l .items; cancels = m ∷ l .cancels })
+    kept-follows : Follows (beforeFirst (isLater m) es ++ (waitingEntry m ∷ fromFirst (isLater m) es)) (record { items = l .items; cancels = m ∷ l .cancels })
     kept-follows =
         record {
           items =
               f .items
               ∙ sym
-              (items-append (upTo m es) (waitingEntry m ∷ behind m es)
-              ∙ ap (λ k. itemsOf (upTo m es) ++ k) (items-waiting (waitingEntry m) (behind m es) refl)
-              ∙ sym (items-append (upTo m es) (behind m es))
-              ∙ ap itemsOf (cut-again m es));
+              (items-append (beforeFirst (isLater m) es) (waitingEntry m ∷ fromFirst (isLater m) es)
+              ∙ ap (λ k. itemsOf (beforeFirst (isLater m) es) ++ k) (items-waiting (waitingEntry m) (fromFirst (isLater m) es) refl)
+              ∙ sym (items-append (beforeFirst (isLater m) es) (fromFirst (isLater m) es))
+              ∙ ap itemsOf (cut-first (isLater m) es));
           cancels = λ x. omega (
             arith,
             count-cons (message-eq model) x m (l .cancels),
-            ap (times x) (waiting-append (upTo m es) (waitingEntry m ∷ behind m es) ∙ ap (λ k. waitingOf (upTo m es) ++ k) (waiting-here (waitingEntry m) (behind m es) refl)),
-            count-insert (message-eq model) x (insert-between m (waitingOf (upTo m es)) (waitingOf (behind m es))),
-            ap (times x) (sym (waiting-append (upTo m es) (behind m es)) ∙ ap waitingOf (cut-again m es)),
+            ap (times x) (waiting-append (beforeFirst (isLater m) es) (waitingEntry m ∷ fromFirst (isLater m) es) ∙ ap (λ k. waitingOf
+                (beforeFirst (isLater m) es) ++ k) (waiting-here (waitingEntry m) (fromFirst (isLater m) es) refl)),
+            count-insert (message-eq model) x (insert-between m (waitingOf (beforeFirst (isLater m) es)) (waitingOf (fromFirst (isLater m) es))),
+            ap (times x) (sym (waiting-append (beforeFirst (isLater m) es) (fromFirst (isLater m) es)) ∙ ap waitingOf (cut-first (isLater m) es)),
             f .cancels x,
           );
         }
 
   module _ (m : Message) (g : Gateway) (l : Ledger.Ledger) (a : Ascending MayStand (g .queue)) (f : Follows (g .queue) l) where
     -- the ledger follows the taking of a plain message
-    pub entered-follows : Follows (takePlain m g .gateway .queue) (entered m l)
-    unfolding takePlain entered
+    pub entered-follows : Follows (takePlain m g .gateway .queue) (afterPlain m l)
+    unfolding takePlain afterPlain
     entered-follows = by-case (any (isCancelOf m) (g .queue)) refl
       where
-        by-case : (t : Bool) → any (isCancelOf m) (g .queue) ≡ t → Follows (takePlain m g .gateway .queue) (entered m l)
+        by-case : (t : Bool) → any (isCancelOf m) (g .queue) ≡ t → Follows (takePlain m g .gateway .queue) (afterPlain m l)
         by-case true p = let q = same-found m (g .queue) l f ∙ p in rw (p, q) (met-follows m (g .queue) l f q p)
         by-case false p = let q = same-found m (g .queue) l f ∙ p in rw (p, q) (entry-follows m (g .queue) l f a)
 
     -- and of a cancel
-    pub struckOut-follows : Follows (takeCancel m g .gateway .queue) (struckOut m l)
-    unfolding takeCancel struckOut
+    pub struckOut-follows : Follows (takeCancel m g .gateway .queue) (afterCancel m l)
+    unfolding takeCancel afterCancel
     struckOut-follows = by-case (any (isPlain m) (g .queue)) refl
       where
-        by-case : (t : Bool) → any (isPlain m) (g .queue) ≡ t → Follows (takeCancel m g .gateway .queue) (struckOut m l)
+        by-case : (t : Bool) → any (isPlain m) (g .queue) ≡ t → Follows (takeCancel m g .gateway .queue) (afterCancel m l)
         by-case true p = let q = ap (any (isItem m)) (f .items) ∙ items-any m (g .queue) ∙ p in rw (p, q) (struck-follows m (g .queue) l f a p)
         by-case false p = let q = ap (any (isItem m)) (f .items) ∙ items-any m (g .queue) ∙ p in rw (p, q) (kept-follows m (g .queue) l f)

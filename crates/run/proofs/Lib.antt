@@ -1,4 +1,6 @@
 -- Demand 3: the run is an instance of the abstract theory.
+pub mod Standing
+pub mod LeastHours
 pub mod EventOrders
 pub mod ForecastModel
 pub mod LocalChains
@@ -28,12 +30,10 @@ pub mod ClaimParts
 pub mod OpeningWorlds
 pub mod FigureGraph
 pub mod ArrivalBits
-pub mod Standing
 pub mod RoundCounters
 pub mod RoundChains
 pub mod RoundCalls
 pub mod RoundWorlds
-pub mod LeastHours
 pub mod AcceptedCalls
 pub mod HeldGateways
 pub mod RoundForms
@@ -56,6 +56,6 @@ pub mod TakingsKept
 pub mod RefusedCalls
 pub mod FramesInTurn
 pub mod KeptRelation
-pub mod Theorem
 pub mod Further
 pub mod Example
+pub mod Theorem

@@ -3,16 +3,17 @@ use mathlib.Core.Path.{_≡_, refl, sym, _∙_, ap, subst}
 use mathlib.Core.Logic.{_≢_}
 use Prim.Native.Nat.{ℕ, _≤_}
 use mathlib.Core.List.{List, [], _∷_, _++_, append-assoc, append-nil}
+use Rattle.lists.proofs.FamilyLaws.{change-at, change-off}
 use Rattle.timewarp.specs.Models.{Model}
 use Rattle.timewarp.specs.Gateways.{Gateway, Network, after}
 use Rattle.timewarp.specs.EventSteps.{EventStep}
 use Rattle.timewarp.specs.RoundSteps.{Rounds, lower}
 use Rattle.timewarp.specs.Worlds.{Setting, World, event, Steps, none as noSteps, then as oneMore, lowerAll}
-use Rattle.timewarp.proofs.FamilyLaws.{change-at, change-off}
 use Rattle.timewarp.proofs.CallChains.{steps-join}
 
 -- Event steps of gateway i one after another, with all that it sends in them.
-pub data Chain (M : Model) (i time : ℕ) (g : Gateway (M .Message)) (n : Network (M .Message)) : List (M .Message) → Gateway (M .Message) → Network (M .Message) → Type 1 where
+pub data Chain (M : Model) (i time : ℕ) (g : Gateway (M .Message)) (n : Network (M .Message)) : List (M .Message) → Gateway (M .Message) →
+    Network (M .Message) → Type 1 where
   none : Chain M i time g n [] g n
   then : {s t u : List (M .Message)} {g′ g″ : Gateway (M .Message)} {n′ n″ : Network (M .Message)} →
       Chain M i time g n s g′ n′ → EventStep M i time g′ n′ t g″ n″ → u ≡ s ++ t → Chain M i time g n u g″ n″

@@ -7,7 +7,13 @@ use mathlib.Core.List.{List, [], _∷_, _++_, map}
 use lib.Dec.{ltb, eqb}
 use lib.ListN.{length}
 use borrow.Author.Tests.{eq-eqb, lt-ltb}
-use Rattle.routing.specs.Arcs.{_∈_, Ascending, none}
+use Rattle.lists.specs.Lists.{_∈_, Ascending, none, any, All, nil, cons, count}
+use Rattle.lists.specs.Families.{together}
+use Rattle.lists.proofs.FamilyLaws.{together-all}
+use Rattle.lists.proofs.SearchLaws.{cut-first, before-fails}
+use Rattle.lists.proofs.ListLaws.{all-append, all-left, all-right, all-map, insert-between, count-nil, count-cons, count-append}
+use Rattle.lists.proofs.ListLaws.{count-insert, count-all, all-count, all-each}
+use Rattle.lists.proofs.Ascents.{insert-ascending}
 use Rattle.model.specs.Messages.{originOf}
 use Rattle.model.specs.declared.Message.{Message}
 use Rattle.frame.specs.Reasons.{reading}
@@ -16,31 +22,29 @@ use Rattle.memory.specs.Validity.{isPending, isProcessed, isWaiting, equal, lat
 use Rattle.memory.specs.declared.Entry.{Entry}
 use Rattle.memory.specs.declared.Settings.{Settings}
 use Rattle.memory.proofs.EventLaws.{later-flip}
-use Rattle.memory.proofs.Validated.{MayStand, ValidEntry, and-both}
+use Rattle.memory.proofs.Validated.{MayStand, ValidEntry}
+use Rattle.lists.proofs.BoolLaws.{and-both}
 use Rattle.gateway.specs.Undoing.{undone, pendingEntry}
 use Rattle.gateway.specs.Working.{pendingOf}
-use Rattle.gateway.specs.Taking.{any, upTo, behind}
+use Rattle.lists.specs.Lists.{beforeFirst, fromFirst}
+use Rattle.gateway.specs.Taking.{isLater}
 use Rattle.gateway.specs.SettingUp.{cutFrames, queued}
-use Rattle.gateway.proofs.Lists.{insert-ascending}
-use Rattle.gateway.proofs.Searches.{pending-member, cut-again, up-to-not-later, behind-later}
-use Rattle.timewarp.specs.Lists.{All, nil, cons, count}
+use Rattle.gateway.proofs.Searches.{pending-member, behind-later}
 use Rattle.timewarp.specs.Models.{Model, stateAfter}
 use Rattle.timewarp.specs.Gateways.{gatewayOf}
 use Rattle.timewarp.specs.SingleQueue as Theory
-use Rattle.timewarp.proofs.ListLaws.{all-append, all-left, all-right, all-map, insert-between, count-nil, count-cons, count-append, count-insert, count-all, all-count}
 use Rattle.timewarp.proofs.OrderLaws.{message-eq}
-use Rattle.run.specs.Lines.{together}
-use Rattle.run.specs.SingleQueue.{SetUp, openingMessages, openingQueue}
+use Rattle.run.specs.SingleQueue.{SetUpInput, openingMessages, openingQueue}
 use Rattle.run.specs.Ledger as Ledger
-use Rattle.run.specs.Ledger.{entered}
+use Rattle.run.specs.Ledger.{afterPlain}
 use Rattle.run.specs.World.{openingLedger}
 use Rattle.run.proofs.ForecastModel.{forecastModel, openingAt, openingHere, passing, passing-same}
 use Rattle.run.proofs.QueueViews.{waitingOf, viewOf, pending-append, Marked, marked, pending, processed, waiting}
 use Rattle.run.proofs.QueueChanges.{each-all, none-done, saved-none}
 use Rattle.run.proofs.SavedStates.{Saved, stateAt}
-use Rattle.run.proofs.SingleQueues.{Alike, Agree, recordOf}
+use Rattle.run.proofs.SingleQueues.{Alike, Agree, historyRecord}
 use Rattle.run.proofs.LedgerItems.{itemsOf}
-use Rattle.run.proofs.Ledgers.{Follows, entry-follows, all-each}
+use Rattle.run.proofs.Ledgers.{Follows, entry-follows}
 
 -- every entry is pending
 abbrev pub AllPending : List Entry → Type 0
@@ -70,36 +74,40 @@ none-processed a = all-map (λ e h. pending-facts e h .0) a
 
 -- an opening message enters the queue
 module _ (m : Message) (es : List Entry) (a : Ascending MayStand es) (p : AllPending es) where
-  parts : AllPending (upTo m es ++ behind m es)
-  parts = subst AllPending (sym (cut-again m es)) p
+  parts : AllPending (beforeFirst (isLater m) es ++ fromFirst (isLater m) es)
+  parts = subst AllPending (sym (cut-first (isLater m) es)) p
 
   may-stand : (e f : Entry) → isPending e ≡ true → isPending f ≡ true → later (e .message) (f .message) ≡ false → MayStand e f
   may-stand e f h k o = record { order = o; marks = λ d. pending-facts f k .0; apart = λ d. pending-facts e h .1 ∙ sym (pending-facts f k .1) }
 
-  pub enters-order : Ascending MayStand (upTo m es ++ (pendingEntry m ∷ behind m es))
+  pub enters-order : Ascending MayStand (beforeFirst (isLater m) es ++ (pendingEntry m ∷ fromFirst (isLater m) es))
   enters-order =
-      insert-ascending (upTo m es) (pendingEntry m) (subst (Ascending MayStand) (sym (cut-again m es)) a)
-      (λ u d. may-stand u (pendingEntry m) (all-each (all-left (upTo m es) (behind m es) parts) u d) refl (up-to-not-later m es u d))
-      (λ v d. may-stand (pendingEntry m) v refl (all-each (all-right (upTo m es) (behind m es) parts) v d) (later-flip (v .message) m (behind-later m a v d)))
+      insert-ascending (beforeFirst (isLater m) es) (pendingEntry m) (subst (Ascending MayStand) (sym (cut-first (isLater m) es)) a)
+      (λ u d. may-stand u (pendingEntry m) (all-each (all-left (beforeFirst (isLater m) es) (fromFirst (isLater m) es) parts) u d) refl
+      (before-fails (isLater m) es u d))
+      (λ v d. may-stand (pendingEntry m) v refl (all-each (all-right (beforeFirst (isLater m) es) (fromFirst (isLater m) es) parts) v d)
+      (later-flip (v .message) m (behind-later m a v d)))
 
-  pub enters-pending : AllPending (upTo m es ++ (pendingEntry m ∷ behind m es))
-  enters-pending = all-append (all-left (upTo m es) (behind m es) parts) (cons refl (all-right (upTo m es) (behind m es) parts))
+  pub enters-pending : AllPending (beforeFirst (isLater m) es ++ (pendingEntry m ∷ fromFirst (isLater m) es))
+  enters-pending = all-append (all-left (beforeFirst (isLater m) es) (fromFirst (isLater m) es) parts) (cons refl (all-right (beforeFirst
+      (isLater m) es) (fromFirst (isLater m) es) parts))
 
-module _ (n last : ℕ) (setups : ℕ → SetUp) where
+module _ (n last : ℕ) (setups : ℕ → SetUpInput) where
   abbrev model : Model
   model = forecastModel n last setups
 
   abbrev times : Message → List Message → ℕ
   times x l = count (message-eq model) x l
 
-  enters-counts : (m : Message) (es : List Entry) (x : Message) → times x (pendingOf (upTo m es ++ (pendingEntry m ∷ behind m es))) ≡ times x (m ∷ pendingOf es)
+  enters-counts : (m : Message) (es : List Entry) (x : Message) → times x (pendingOf (beforeFirst (isLater m) es ++ (pendingEntry m ∷
+      fromFirst (isLater m) es))) ≡ times x (m ∷ pendingOf es)
   unfolding pendingOf
   enters-counts m es x =
       omega (
         arith,
-        ap (times x) (pending-append (upTo m es) (pendingEntry m ∷ behind m es)),
-        count-insert (message-eq model) x (insert-between m (pendingOf (upTo m es)) (pendingOf (behind m es))),
-        ap (times x) (sym (pending-append (upTo m es) (behind m es)) ∙ ap pendingOf (cut-again m es)),
+        ap (times x) (pending-append (beforeFirst (isLater m) es) (pendingEntry m ∷ fromFirst (isLater m) es)),
+        count-insert (message-eq model) x (insert-between m (pendingOf (beforeFirst (isLater m) es)) (pendingOf (fromFirst (isLater m) es))),
+        ap (times x) (sym (pending-append (beforeFirst (isLater m) es) (fromFirst (isLater m) es)) ∙ ap pendingOf (cut-first (isLater m) es)),
         count-cons (message-eq model) x m (pendingOf es),
       )
 
@@ -110,34 +118,42 @@ module _ (n last : ℕ) (setups : ℕ → SetUp) where
     pub no-cancels : l .cancels ≡ []
     pub follows : Follows n last setups es l
 
-  one-entered : (m : Message) (es : List Entry) (l : Ledger.Ledger) → Entered es l → Entered (upTo m es ++ (pendingEntry m ∷ behind m es)) (entered m l)
-  unfolding entered any
+  one-entered : (m : Message) (es : List Entry) (l : Ledger.Ledger) → Entered es l → Entered (beforeFirst (isLater m) es ++ (pendingEntry m
+      ∷ fromFirst (isLater m) es)) (afterPlain m l)
+  unfolding afterPlain any
   one-entered m es l e =
       let f = entry-follows n last setups m es l (e .follows) (e .order) in
-      let next : Ledger.Ledger = record { items = Ledger.upTo m (l .items) ++ (record { message = m; done = false } ∷ map Ledger.notDone (Ledger.behind m (l .items))); cancels = l .cancels } in
-      let rest = all-right (upTo m es) (behind m es) (subst AllPending (sym (cut-again m es)) (e .all-pending)) in
+      let next : Ledger.Ledger = record {
+        items = beforeFirst (Ledger.isLaterItem m) (l .items) ++ (record { message = m; done = false } ∷
+            map Ledger.notDone (fromFirst (Ledger.isLaterItem m) (l .items)));
+        cancels = l .cancels;
+      } in
+      let rest = all-right (beforeFirst (isLater m) es) (fromFirst (isLater m) es) (subst AllPending (sym (cut-first (isLater m) es)) (e .all-pending)) in
       record {
         order = enters-order m es (e .order) (e .all-pending);
         all-pending = enters-pending m es (e .order) (e .all-pending);
         no-cancels = rw (e .no-cancels);
         follows =
             rw (ap (any (equal m)) (e .no-cancels))
-            (subst (λ k. Follows n last setups (upTo m es ++ (pendingEntry m ∷ k)) next) (undone-same rest) f);
+            (subst (λ k. Follows n last setups (beforeFirst (isLater m) es ++ (pendingEntry m ∷ k)) next) (undone-same rest) f);
       }
 
-  pub all-entered : (fs : List (List ℕ)) (es : List Entry) (l : Ledger.Ledger) → Entered es l → Entered (queued es fs) (openingLedger (map (λ f. reading f .frame .message) fs) l)
+  pub all-entered : (fs : List (List ℕ)) (es : List Entry) (l : Ledger.Ledger) → Entered es l → Entered (queued es fs) (openingLedger (map
+      (λ f. reading f .frame .message) fs) l)
   unfolding queued openingLedger
   all-entered [] es l e = e
-  all-entered (f ∷ fs) es l e = let m = reading f .frame .message in all-entered fs (upTo m es ++ (pendingEntry m ∷ behind m es)) (entered m l) (one-entered m es l e)
+  all-entered (f ∷ fs) es l e = let m = reading f .frame .message in all-entered fs (beforeFirst (isLater m) es ++ (pendingEntry m ∷
+      fromFirst (isLater m) es)) (afterPlain m l) (one-entered m es l e)
 
-  pub queued-counts : (fs : List (List ℕ)) (es : List Entry) (x : Message) → times x (pendingOf (queued es fs)) ≡ times x (map (λ f. reading f .frame .message) fs) + times x (pendingOf es)
+  pub queued-counts : (fs : List (List ℕ)) (es : List Entry) (x : Message) → times x (pendingOf (queued es fs)) ≡ times x (map (λ f. reading
+      f .frame .message) fs) + times x (pendingOf es)
   unfolding queued
   queued-counts [] es x = omega (arith, count-nil (message-eq model) x)
   queued-counts (f ∷ fs) es x =
       let m = reading f .frame .message in
       omega (
         arith,
-        queued-counts fs (upTo m es ++ (pendingEntry m ∷ behind m es)) x,
+        queued-counts fs (beforeFirst (isLater m) es ++ (pendingEntry m ∷ fromFirst (isLater m) es)) x,
         enters-counts m es x,
         count-cons (message-eq model) x m (pendingOf es),
         count-cons (message-eq model) x m (map (λ g. reading g .frame .message) fs),
@@ -191,7 +207,8 @@ module _ (n last : ℕ) (setups : ℕ → SetUp) where
     opening-saved = saved-none n last setups i (none-processed (opening-entered i .all-pending)) []
 
   -- opening messages that a valid queue holds are lawful
-  pub lawful-opening : (i : ℕ) (s : Settings) → ((e : Entry) → e ∈ openingEntries i → ValidEntry s e) → s .own ≡ i → s .n ≡ n → s .last < nothingDue → All (Lawful i) (openingMessages (setups i .list))
+  pub lawful-opening : (i : ℕ) (s : Settings) → ((e : Entry) → e ∈ openingEntries i → ValidEntry s e) → s .own ≡ i → s .n ≡ n → s .last <
+      nothingDue → All (Lawful i) (openingMessages (setups i .list))
   unfolding openingEntries openingAt
   lawful-opening i s h own number hours =
       count-all (message-eq model) (openingMessages (setups i .list)) (λ x k. all-count (message-eq model) x held (omega (arith, k, opening-alike i x)))
@@ -202,38 +219,45 @@ module _ (n last : ℕ) (setups : ℕ → SetUp) where
           (λ x d.
           let r = pending-member (openingEntries i) x d in
           let v = h (r .0) (r .1) in
-          subst (Lawful i) (sym (r .2)) (record { to = v .to ∙ own; due = omega (arith, v .message .hour, hours); origin = omega (arith, v .message .origin, number) }))
+          subst (Lawful i) (sym (r .2)) (record {
+            to = v .to ∙ own;
+            due = omega (arith, v .message .hour, hours);
+            origin = omega (
+              arith,
+              v .message .origin,
+              number,
+            );
+          }))
 
   -- all opening lists together
-  together-alike : (k : ℕ) (f g : ℕ → List Message) → ((i : ℕ) → i ≤ k → Alike model (f i) (g i)) → Alike model (together (suc k) f) (Theory.together k g)
-  unfolding together Theory.together
-  together-alike zero f g h x = h zero (omega arith) x
+  together-alike : (k : ℕ) (f g : ℕ → List Message) → ((i : ℕ) → i < k → Alike model (f i) (g i)) → Alike model (together k f) (together k g)
+  unfolding together
+  together-alike zero f g h x = refl
   together-alike (suc k) f g h x =
       omega (
         arith,
         together-alike k f g (λ i d. h i (omega arith)) x,
-        h (suc k) (omega arith) x,
-        count-append (message-eq model) x (together (suc k) f) (f (suc k)),
-        count-append (message-eq model) x (Theory.together k g) (g (suc k)),
+        h k (omega arith) x,
+        count-append (message-eq model) x (together k f) (f k),
+        count-append (message-eq model) x (together k g) (g k),
       )
 
-  together-all : {p : Message → Type 0} (k : ℕ) (f : ℕ → List Message) → ((i : ℕ) → i < k → All p (f i)) → All p (together k f)
-  unfolding together
-  together-all zero f h = nil
-  together-all (suc k) f h = all-append (together-all k f (λ i d. h i (omega arith))) (h k (omega arith))
-
   -- the two single queues begin alike
-  pub opening-agrees : 1 ≤ n → ((i : ℕ) → i < n → All (Lawful i) (openingMessages (setups i .list))) → Agree n last setups (openingQueue n setups) (Theory.openingQueue model)
-  unfolding openingQueue Theory.openingQueue stateAfter recordOf
+  pub opening-agrees : 1 ≤ n → ((i : ℕ) → i < n → All (Lawful i) (openingMessages (setups i .list))) → Agree n last setups (openingQueue n
+      setups) (Theory.openingQueue model)
+  unfolding openingQueue Theory.openingQueue stateAfter historyRecord
   opening-agrees some lawful =
       record {
         lists =
-            subst (λ (k : ℕ). Alike model (together k (λ i. openingMessages (setups i .list))) (Theory.together (n - 1) (model .opening))) number
-            (together-alike (n - 1) (λ i. openingMessages (setups i .list)) (model .opening)
+            subst (λ (k : ℕ). Alike model (together n (λ i. openingMessages (setups i .list))) (together k (model .opening))) (sym number)
+            (together-alike n (λ i. openingMessages (setups i .list)) (model .opening)
             (λ i d x. opening-alike i x ∙ ap (times x) (sym (all-here i (lawful i (omega arith))))));
         states = λ i. refl;
         records = λ i. refl;
-        inside = together-all n (λ i. openingMessages (setups i .list)) (λ i d. all-map (λ m y. record { to = omega (arith, y .to, d); origin = y .origin }) (lawful i d));
+        inside = together-all n (λ i. openingMessages (setups i .list)) (λ i d. all-map (λ m y. record {
+          to = omega (arith, y .to, d);
+          origin = y .origin;
+        }) (lawful i d));
       }
     where
       number : suc (n - 1) ≡ n

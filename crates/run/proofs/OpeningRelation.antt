@@ -3,15 +3,15 @@ use mathlib.Core.Path.{_≡_, refl, sym, ap, subst}
 use Prim.Native.Nat.{ℕ, _≤_, _<_}
 use native.Mathlib.Omega.{arith}
 use mathlib.Core.List.{List, []}
+use Rattle.lists.specs.Lists.{nil}
 use Rattle.memory.specs.Records.{Gateway}
 use Rattle.memory.proofs.Validated.{valid-facts}
 use Rattle.gateway.specs.SettingUp.{opened}
 use Rattle.gateway.specs.Claims.{SoundBytes}
 use Rattle.gateway.proofs.SoundAfter.{never-unsound}
-use Rattle.timewarp.specs.Lists.{nil}
 use Rattle.timewarp.specs.Models.{stateAfter}
 use Rattle.timewarp.specs.Worlds as Worlds
-use Rattle.run.specs.SingleQueue.{SetUp}
+use Rattle.run.specs.SingleQueue.{SetUpInput}
 use Rattle.run.specs.World.{openingWorld}
 use Rattle.run.specs.Demand3.{Forecast}
 use Rattle.run.proofs.FigureGraph.{figureGraph}
@@ -24,7 +24,7 @@ use Rattle.run.proofs.OpeningQueues.{openingEntries, opening-saved}
 use Rattle.run.proofs.OpeningWorlds.{first, kept, lawful, memory-holds, opening-beside}
 use Rattle.run.proofs.BothWorlds.{Both, forecastSetting, model, gatewaysIn}
 
-module _ (n last : ℕ) (setups : ℕ → SetUp) (lent : ℕ → List ℕ) (forecast : Forecast n last setups lent) where
+module _ (n last : ℕ) (setups : ℕ → SetUpInput) (lent : ℕ → List ℕ) (forecast : Forecast n last setups lent) where
   abbrev some : 1 ≤ n
   some = forecast .some
 
@@ -41,7 +41,8 @@ module _ (n last : ℕ) (setups : ℕ → SetUp) (lent : ℕ → List ℕ) (fore
           count = forecast .gateways i h;
           until = forecast .oneLast i h;
           supplier = refl;
-          valid = valid-facts (first n last setups lent forecast (figureGraph n some) refl i h) (kept n last setups lent forecast (figureGraph n some) refl i h .proper .valid);
+          valid = valid-facts (first n last setups lent forecast (figureGraph n some) refl i h) (kept n last setups lent forecast
+              (figureGraph n some) refl i h .proper .valid);
           saved = opening-saved n last setups i (lawful n last setups lent forecast (figureGraph n some) refl i h);
         }
 
@@ -51,9 +52,11 @@ module _ (n last : ℕ) (setups : ℕ → SetUp) (lent : ℕ → List ℕ) (fore
 
     opening-bytes : SoundBytes (openingWorld setups lent .memories i)
     unfolding openingWorld
-    opening-bytes = never-unsound .bySetUp (setups i .opening) (setups i .list) (lent i) (forecast .bytes i h .1) (forecast .bytes i h .0) (forecast .accepted i h) .still
+    opening-bytes = never-unsound .bySetUp (setups i .opening) (setups i .list) (lent i) (forecast .bytes i h .1) (forecast .bytes i h .0)
+        (forecast .accepted i h) .still
 
-  opening-rounds : Alike n some (model n some last setups) refl (gatewaysIn n some last setups (openingWorld setups lent)) [] noRounds (Worlds.openingWorld (forecastSetting n some last setups) .rounds)
+  opening-rounds : Alike n some (model n some last setups) refl (gatewaysIn n some last setups (openingWorld setups lent)) [] noRounds
+      (Worlds.openingWorld (forecastSetting n some last setups) .rounds)
   unfolding opened Worlds.openingWorld
   opening-rounds =
       alike-opening n some (model n some last setups) refl (gatewaysIn n some last setups (openingWorld setups lent))

@@ -7,6 +7,7 @@ use mathlib.Core.List.{List, []}
 use lib.Dec.{eqb}
 use lib.ListN.{length}
 use borrow.Author.Tests.{eqb-true, eqb-false}
+use Rattle.lists.specs.Lists.{All}
 use Rattle.frame.specs.Limits.{nothingDue}
 use Rattle.memory.specs.Records.{Gateway}
 use Rattle.memory.specs.Codec.{decode, encode}
@@ -19,18 +20,17 @@ use Rattle.gateway.specs.Calls.{setUp, agreedTime}
 use Rattle.gateway.specs.declared.Opening.{Opening}
 use Rattle.gateway.proofs.Maintaining.{Kept}
 use Rattle.gateway.proofs.Openings.{opened-keeps, opening-long}
-use Rattle.timewarp.specs.Lists.{All}
 use Rattle.timewarp.specs.Gateways.{openingData}
 use Rattle.timewarp.specs.Arcs.{Graph}
 use Rattle.timewarp.specs.RoundSteps as RoundSteps
 use Rattle.timewarp.specs.SingleQueue as Theory
 use Rattle.timewarp.specs.Worlds as Worlds
-use Rattle.run.specs.SingleQueue.{SetUp, openingMessages, openingQueue, steps, turnsFor, wholeRecord}
+use Rattle.run.specs.SingleQueue.{SetUpInput, openingMessages, openingQueue, steps, turnsFor, wholeRecord}
 use Rattle.run.specs.World.{openingWorld}
 use Rattle.run.specs.Demand3.{Forecast}
 use Rattle.run.proofs.ForecastModel.{forecastModel}
 use Rattle.run.proofs.QueueViews.{viewOf}
-use Rattle.run.proofs.SingleQueues.{recordOf, Settled, steps-end, whole-record}
+use Rattle.run.proofs.SingleQueues.{historyRecord, Settled, steps-end, whole-record}
 use Rattle.run.proofs.Ledgers.{Follows}
 use Rattle.run.proofs.EventsUnderWay.{seenIn}
 use Rattle.run.proofs.EventWorlds.{settingOf}
@@ -55,7 +55,7 @@ made o list memory h = by-case (eqb (setUpRefusal o (length memory) list) 0) ref
     by-case true p = record { not-refused = eqb-true (setUpRefusal o (length memory) list) 0 p; leaves = rw p }
     by-case false p = absurd (eqb-false (setUpRefusal o (length memory) list) 0 p (rw p at h))
 
-module _ (n last : ℕ) (setups : ℕ → SetUp) (lent : ℕ → List ℕ) (forecast : Forecast n last setups lent) (G : Graph) (same : G .last ≡ n - 1) where
+module _ (n last : ℕ) (setups : ℕ → SetUpInput) (lent : ℕ → List ℕ) (forecast : Forecast n last setups lent) (G : Graph) (same : G .last ≡ n - 1) where
   module _ (i : ℕ) (h : i < n) where
     abbrev o : Opening
     o = setups i .opening
@@ -89,7 +89,7 @@ module _ (n last : ℕ) (setups : ℕ → SetUp) (lent : ℕ → List ℕ) (fore
 
   -- at first
   unfoldable pub opening-beside : Beside n last setups G same (openingWorld setups lent) (Worlds.openingWorld (settingOf n last setups G same))
-  unfolding openingWorld Worlds.openingWorld openingData RoundSteps.opening seenIn recordOf opened openingEntries
+  unfolding openingWorld Worlds.openingWorld openingData RoundSteps.opening seenIn historyRecord opened openingEntries
   opening-beside =
       record {
         reached = Worlds.none;
@@ -102,7 +102,8 @@ module _ (n last : ℕ) (setups : ℕ → SetUp) (lent : ℕ → List ℕ) (fore
         times = λ i h. sym (agreed-read (openingWorld setups lent .memories i) (memory-sound i h) ∙ ap (λ (g : Gateway). g .agreed) (memory-holds i h));
         gateway-times = λ i h. sym (agreed-read (openingWorld setups lent .memories i) (memory-sound i h));
         records = λ i h. refl;
-        ledgers = λ i h. subst (λ (g : Gateway). Follows n last setups (g .queue) (openingWorld setups lent .ledgers i)) (sym (memory-holds i h)) (opening-entered n last setups i .follows);
+        ledgers = λ i h. subst (λ (g : Gateway). Follows n last setups (g .queue) (openingWorld setups lent .ledgers i)) (sym (memory-holds
+            i h)) (opening-entered n last setups i .follows);
       }
 
   -- the settings of a gateway that was set up
@@ -123,11 +124,12 @@ module _ (n last : ℕ) (setups : ℕ → SetUp) (lent : ℕ → List ℕ) (fore
       omega (arith, valid-facts (first 0 h) (kept 0 h .proper .valid) .settings .last, forecast .oneLast 0 h)
 
   -- the whole record of the single queue is that of the theory's single queue
-  pub single-queue : (i : ℕ) → wholeRecord n last setups i ≡ recordOf n last setups i (Theory.singleHistory (forecastModel n last setups) i)
+  pub single-queue : (i : ℕ) → wholeRecord n last setups i ≡ historyRecord n last setups i (Theory.singleHistory (forecastModel n last setups) i)
   single-queue i = whole-record n last setups hours-end settled (opening-agrees n last setups (forecast .some) lawful) i
 
   -- and that single queue ends
   pub queue-ends : steps setups (turnsFor last (openingQueue n setups .list)) (openingQueue n setups) .list ≡ []
   queue-ends =
-      steps-end n last setups hours-end settled (turnsFor last (openingQueue n setups .list)) (openingQueue n setups) (Theory.openingQueue (forecastModel n last setups))
+      steps-end n last setups hours-end settled (turnsFor last (openingQueue n setups .list)) (openingQueue n setups) (Theory.openingQueue
+      (forecastModel n last setups))
       (opening-agrees n last setups (forecast .some) lawful) (omega arith)

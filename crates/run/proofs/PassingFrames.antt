@@ -8,7 +8,7 @@ use Rattle.model.specs.Messages.{kindNumber}
 use Rattle.frame.specs.Reasons.{reading, formNumber, readAs}
 use Rattle.frame.specs.Limits.{numbersBelow, hourAllowed}
 use Rattle.frame.specs.Writing.{written, wellFormed}
-use Rattle.frame.specs.Claims.{Ranged}
+use Rattle.frame.specs.Claims.{RangedFrame}
 use Rattle.frame.specs.declared.Frame.{Frame}
 use Rattle.frame.specs.declared.Reading.{Reading}
 use Rattle.frame.specs.declared.Form.the-variants.{Good}
@@ -26,7 +26,7 @@ pub same-passing : {n n′ last last′ : ℕ} → n ≡ n′ → last ≡ last�
 same-passing {n′ = n′} {last = last} p q {bytes} k = subst (λ (x : ℕ). Passing n′ x bytes) q (subst (λ (x : ℕ). Passing x last bytes) p k)
 
 -- a frame that is written
-pub passing-frame : (n last : ℕ) (f : Frame) → Ranged f → wellFormed f ≡ true → eqb (kindNumber (f .message .kind)) 3 ≡ false
+pub passing-frame : (n last : ℕ) (f : Frame) → RangedFrame f → wellFormed f ≡ true → eqb (kindNumber (f .message .kind)) 3 ≡ false
     → numbersBelow n (f .message) ≡ true → hourAllowed last (f .message) ≡ true → Passing n last (written f)
 passing-frame n last f r e k a h =
     let is : reading (written f) ≡ readAs Good f = one-to-one .writtenRead f r e in

@@ -4,7 +4,7 @@ use Prim.Native.Nat.{ℕ}
 use native.Mathlib.Omega.{arith}
 use mathlib.Core.Bool.{Bool, true, false, cond, not, _&&_, _||_, true≢false, false≢true}
 use mathlib.Core.List.{List, [], _∷_, map, List·Memᴰ·head as member-first, List·Memᴰ·tail as member-rest}
-use Rattle.routing.specs.Arcs.{_∈_, Ascending, none, more}
+use Rattle.lists.specs.Lists.{_∈_, Ascending, none, more, any, withoutFirst, fromLast, All, nil, cons, Insert, here, there}
 use Rattle.model.specs.Doing.{after}
 use Rattle.model.specs.declared.Message.{Message}
 use Rattle.model.specs.declared.State.{State}
@@ -13,14 +13,14 @@ use Rattle.memory.specs.declared.Entry.{Entry}
 use Rattle.memory.specs.declared.Sent.{Sent}
 use Rattle.memory.specs.declared.Mark.the-variants.{Processed}
 use Rattle.memory.proofs.EventLaws.{equal-same}
-use Rattle.memory.proofs.Validated.{MayStand, and-left, and-right}
+use Rattle.memory.proofs.Validated.{MayStand}
+use Rattle.lists.proofs.BoolLaws.{and-left, and-right}
 use Rattle.gateway.specs.Undoing.{processedOf}
 use Rattle.gateway.specs.Working.{pendingOf, processedNext}
-use Rattle.gateway.specs.Taking.{any, withoutFirst, fromLast, isCancelOf, isSent}
-use Rattle.timewarp.specs.Lists.{All, nil, cons, Insert, here, there}
+use Rattle.gateway.specs.Taking.{isCancelOf, isSent}
 use Rattle.timewarp.specs.Models.{stateAfter}
 use Rattle.timewarp.specs.Gateways.{plain, cancel}
-use Rattle.run.specs.SingleQueue.{SetUp}
+use Rattle.run.specs.SingleQueue.{SetUpInput}
 use Rattle.run.proofs.QueueViews.{eventIf, eventFor, doneWith, doneAfter, waitingOf, Marked, marked, pending, processed, waiting}
 use Rattle.run.proofs.SavedStates.{Saved, at-end, entry, saved-more, saved-state, stateAt}
 
@@ -71,7 +71,8 @@ cancel-met m (e ∷ es) k = by-case (isCancelOf m e) refl (cancel-met m es) k
           same-done = λ h. r .same-done (doneWith e h);
         }
       where
-        by-waiting : (t : Bool) → Insert m (cond t (e .message ∷ waitingOf (withoutFirst (isCancelOf m) es)) (waitingOf (withoutFirst (isCancelOf m) es))) (cond t (e .message ∷ waitingOf es) (waitingOf es))
+        by-waiting : (t : Bool) → Insert m (cond t (e .message ∷ waitingOf (withoutFirst (isCancelOf m) es)) (waitingOf (withoutFirst
+            (isCancelOf m) es))) (cond t (e .message ∷ waitingOf es) (waitingOf es))
         by-waiting true = there (r .met)
         by-waiting false = r .met
 
@@ -94,7 +95,8 @@ cancel-met m (e ∷ es) k = by-case (isCancelOf m e) refl (cancel-met m es) k
               same-done = λ d. rw g;
             }
 
-    by-case : (t : Bool) → isCancelOf m e ≡ t → (any (isCancelOf m) es ≡ true → CancelMet m es (withoutFirst (isCancelOf m) es)) → (t || any (isCancelOf m) es) ≡ true
+    by-case : (t : Bool) → isCancelOf m e ≡ t → (any (isCancelOf m) es ≡ true → CancelMet m es (withoutFirst (isCancelOf m) es)) → (t || any
+        (isCancelOf m) es) ≡ true
         → CancelMet m (e ∷ es) (cond t es (e ∷ withoutFirst (isCancelOf m) es))
     by-case true q ih k = taken q
     by-case false q ih k = passed (ih k)
@@ -121,7 +123,8 @@ oldest-taken (x ∷ es) e newer k = by-mark (marked x) (oldest-taken es e newer)
           same-waiting = ap (λ l. cond (isWaiting x) (x .message ∷ l) l) (r .same-waiting);
         }
 
-    by-mark : Marked x → (processedOf es ≡ e ∷ newer → OldestTaken e es (withoutFirst isProcessed es)) → OldestTaken e (x ∷ es) (cond (isProcessed x) es (x ∷ withoutFirst isProcessed es))
+    by-mark : Marked x → (processedOf es ≡ e ∷ newer → OldestTaken e es (withoutFirst isProcessed es)) → OldestTaken e (x ∷ es) (cond
+        (isProcessed x) es (x ∷ withoutFirst isProcessed es))
     by-mark (pending f g h) ih = rw g (passed g (ih (rw g at k)))
     by-mark (processed f g h) ih =
         let first : x ≡ e = cc (rw g at k) in
@@ -145,7 +148,8 @@ pub record NextDone (m : Message) (ms : List Message) (es fs : List Entry) : Typ
   pub left-pending : pendingOf fs ≡ ms
   pub same-waiting : waitingOf fs ≡ waitingOf es
 
-pub next-done : {es : List Entry} → Ascending MayStand es → (s : State) (m : Message) (ms : List Message) → pendingOf es ≡ m ∷ ms → NextDone m ms es (processedNext s es)
+pub next-done : {es : List Entry} → Ascending MayStand es → (s : State) (m : Message) (ms : List Message) → pendingOf es ≡ m ∷ ms → NextDone
+    m ms es (processedNext s es)
 unfolding pendingOf processedNext doneAfter waitingOf
 next-done none s m ms k = absurd (let z : _≡_ {A = ℕ} 0 1 = cc in omega arith)
 next-done (more {x = e} {xs = es} f a) s m ms k = by-mark (marked e) (next-done a s)
@@ -165,13 +169,24 @@ next-done (more {x = e} {xs = es} f a) s m ms k = by-mark (marked e) (next-done 
     by-mark (processed p q r) ih = rw p (passed q (ih m ms (rw p at k)))
       where
         passed : isProcessed e ≡ true → NextDone m ms es (processedNext s es) → NextDone m ms (e ∷ es) (e ∷ processedNext s es)
-        passed q d = record { is-done = λ h. d .is-done (doneWith e h); left-pending = rw p (d .left-pending); same-waiting = ap (λ l. cond (isWaiting e) (e .message ∷ l) l) (d .same-waiting) }
+        passed q d = record {
+          is-done = λ h. d .is-done (doneWith e h);
+          left-pending = rw p (d .left-pending);
+          same-waiting = ap (λ l. cond
+              (isWaiting e) (e .message ∷ l) l) (d .same-waiting);
+        }
     by-mark (waiting p q r) ih =
         let d = ih m ms (rw p at k) in
-        rw p (record { is-done = λ h. d .is-done (doneWith e h); left-pending = rw p (d .left-pending); same-waiting = ap (λ l. cond (isWaiting e) (e .message ∷ l) l) (d .same-waiting) })
+        rw p (record {
+          is-done = λ h. d .is-done (doneWith e h);
+          left-pending = rw p (d .left-pending);
+          same-waiting = ap (λ l. cond
+              (isWaiting e) (e .message ∷ l) l) (d .same-waiting);
+        })
 
 -- an acknowledged event is taken out of what is outstanding
-pub sent-taken : (c : Bool) (m : Message) (xs : List Sent) → any (isSent c m) xs ≡ true → Insert (eventIf c m) (map eventFor (withoutFirst (isSent c m) xs)) (map eventFor xs)
+pub sent-taken : (c : Bool) (m : Message) (xs : List Sent) → any (isSent c m) xs ≡ true → Insert (eventIf c m) (map eventFor (withoutFirst
+    (isSent c m) xs)) (map eventFor xs)
 unfolding any withoutFirst
 sent-taken c m [] k = absurd (false≢true k)
 sent-taken c m (x ∷ xs) k = by-case (isSent c m x) refl (sent-taken c m xs) k
@@ -182,20 +197,22 @@ sent-taken c m (x ∷ xs) k = by-case (isSent c m x) refl (sent-taken c m xs) k
     same-event false true y h = absurd (false≢true h)
     same-event false false y h = ap plain (equal-same y m h)
 
-    by-case : (t : Bool) → isSent c m x ≡ t → (any (isSent c m) xs ≡ true → Insert (eventIf c m) (map eventFor (withoutFirst (isSent c m) xs)) (map eventFor xs)) → (t || any (isSent c m) xs) ≡ true
+    by-case : (t : Bool) → isSent c m x ≡ t → (any (isSent c m) xs ≡ true → Insert (eventIf c m) (map eventFor (withoutFirst (isSent c m)
+        xs)) (map eventFor xs)) → (t || any (isSent c m) xs) ≡ true
         → Insert (eventIf c m) (map eventFor (cond t xs (x ∷ withoutFirst (isSent c m) xs))) (eventFor x ∷ map eventFor xs)
     by-case true q ih h = rw (same-event c (x .cancel) (x .message) q) here
     by-case false q ih h = there (ih h)
 
 -- what the saved states become
-module _ (n last : ℕ) (setups : ℕ → SetUp) (i : ℕ) where
+module _ (n last : ℕ) (setups : ℕ → SetUpInput) (i : ℕ) where
   pub saved-without : (f : Entry → Bool) → ((e : Entry) → f e ≡ true → isProcessed e ≡ false) → {h : List Message} {es : List Entry} {s : State}
       → Saved n last setups i h es s → Saved n last setups i h (withoutFirst f es) s
   unfolding withoutFirst
   saved-without f not-processed (at-end e) = at-end e
   saved-without f not-processed {h} {s = s} (entry {e = e} {es = es} b v) = by-case (f e) refl (saved-without f not-processed v)
     where
-      by-case : (t : Bool) → f e ≡ t → Saved n last setups i (doneWith e h) (withoutFirst f es) s → Saved n last setups i h (cond t es (e ∷ withoutFirst f es)) s
+      by-case : (t : Bool) → f e ≡ t → Saved n last setups i (doneWith e h) (withoutFirst f es) s → Saved n last setups i h (cond t es (e ∷
+          withoutFirst f es)) s
       by-case true q ih = rw (not-processed e q) at v
       by-case false q ih = entry b ih
 
@@ -203,7 +220,8 @@ module _ (n last : ℕ) (setups : ℕ → SetUp) (i : ℕ) where
     pub before : e .before ≡ stateAt n last setups i h
     pub still : Saved n last setups i (e .message ∷ h) (withoutFirst isProcessed es) s
 
-  pub saved-committed : {h : List Message} {es : List Entry} {s : State} → Saved n last setups i h es s → (e : Entry) (newer : List Entry) → processedOf es ≡ e ∷ newer → Committed h e es s
+  pub saved-committed : {h : List Message} {es : List Entry} {s : State} → Saved n last setups i h es s → (e : Entry) (newer : List Entry) →
+      processedOf es ≡ e ∷ newer → Committed h e es s
   unfolding withoutFirst processedOf
   saved-committed (at-end p) e newer k = absurd (let z : _≡_ {A = ℕ} 0 1 = cc in omega arith)
   saved-committed {h} {s = s} (entry {e = x} {es = es} b v) e newer k = by-case (isProcessed x) refl (λ d. saved-committed v e newer d)
@@ -220,14 +238,17 @@ module _ (n last : ℕ) (setups : ℕ → SetUp) (i : ℕ) where
   saved-none nil h = at-end refl
   saved-none (cons p a) h = saved-more n last setups i p (saved-none a h)
 
-  pub saved-next : {es : List Entry} → Ascending MayStand es → {h : List Message} {s : State} → Saved n last setups i h es s → (m : Message) (ms : List Message) → pendingOf es ≡ m ∷ ms
+  pub saved-next : {es : List Entry} → Ascending MayStand es → {h : List Message} {s : State} → Saved n last setups i h es s → (m : Message)
+      (ms : List Message) → pendingOf es ≡ m ∷ ms
       → Saved n last setups i h (processedNext s es) (after s (m .kind))
   unfolding pendingOf processedNext stateAfter
   saved-next none v m ms k = absurd (let z : _≡_ {A = ℕ} 0 1 = cc in omega arith)
   saved-next (more {x = e} {xs = es} f a) {h} {s} (entry b v) m ms k = by-mark (marked e) (saved-next a v)
     where
-      by-mark : Marked e → ((m : Message) (ms : List Message) → pendingOf es ≡ m ∷ ms → Saved n last setups i (doneWith e h) (processedNext s es) (after s (m .kind)))
-          → Saved n last setups i h (cond (isPending e) (record { message = e .message; mark = Processed; before = s } ∷ es) (e ∷ processedNext s es)) (after s (m .kind))
+      by-mark : Marked e → ((m : Message) (ms : List Message) → pendingOf es ≡ m ∷ ms → Saved n last setups i (doneWith e h) (processedNext
+          s es) (after s (m .kind)))
+          → Saved n last setups i h (cond (isPending e) (record { message = e .message; mark = Processed; before = s } ∷ es) (e ∷
+          processedNext s es)) (after s (m .kind))
       by-mark (pending p q r) ih =
           let first : e .message ≡ m = cc (rw p at k) in
           let others = each-all es (λ y d. f y d .marks p) in

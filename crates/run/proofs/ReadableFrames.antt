@@ -6,15 +6,16 @@ use mathlib.Core.Bool.{Bool, true, false, cond, _||_, false≢true}
 use mathlib.Core.List.{List, [], _∷_, map-append, List·Memᴰ·head as member-first, List·Memᴰ·tail as member-rest}
 use lib.Dec.{leb}
 use borrow.Author.Tests.{leb-true, le-leb, lt-ltb, ne-eqb}
+use Rattle.lists.specs.Lists.{_∈_, All, nil, cons}
+use Rattle.lists.proofs.ListLaws.{all-append}
 use Rattle.buffer.specs.Slice.{Bytes}
-use Rattle.routing.specs.Arcs.{_∈_}
 use Rattle.model.specs.Doing.{sent}
 use Rattle.model.specs.Messages.{kindNumber, originOf}
 use Rattle.model.specs.declared.Message.{Message}
 use Rattle.model.specs.declared.State.{State}
 use Rattle.frame.specs.Kinds.{hasLamp, senseNumber}
 use Rattle.frame.specs.Writing.{allBetween, lampFits, gatewaysAgree, hourFits, senseAllowed, wellFormed, written}
-use Rattle.frame.specs.Claims.{Ranged}
+use Rattle.frame.specs.Claims.{RangedFrame}
 use Rattle.frame.specs.declared.Frame.{Frame}
 use Rattle.frame.specs.declared.Reading.{Reading}
 use Rattle.frame.proofs.Output.{whole-size}
@@ -25,13 +26,12 @@ use Rattle.memory.specs.Ranges.{RangedMessage}
 use Rattle.memory.specs.Validity.{frameIf, senseIf, isWaiting}
 use Rattle.memory.specs.declared.Settings.{Settings}
 use Rattle.memory.specs.declared.Entry.{Entry}
-use Rattle.memory.proofs.Validated.{ValidSettings, Storable, and-left, and-right}
+use Rattle.memory.proofs.Validated.{ValidSettings, Storable}
+use Rattle.lists.proofs.BoolLaws.{and-left, and-right}
 use Rattle.gateway.specs.Effects.{framesFor}
 use Rattle.gateway.specs.Undoing.{sentBack}
 use Rattle.gateway.specs.Taking.{acknowledgment}
 use Rattle.gateway.proofs.Replies.{Good, GoodSent, sent-good}
-use Rattle.timewarp.specs.Lists.{All, nil, cons}
-use Rattle.timewarp.proofs.ListLaws.{all-append}
 use Rattle.run.proofs.QueueChanges.{each-all}
 use Rattle.run.proofs.FramesCut.{Whole}
 use Rattle.run.proofs.RoundsUnderWay.{Readable}
@@ -65,7 +65,7 @@ pub record Fitting (m : Message) : Type 0 where
   pub ranged : RangedMessage m
 
 -- they fit the fields of a frame
-frame-ranged : (f : Frame) → wellFormed f ≡ true → Fitting (f .message) → Ranged f
+frame-ranged : (f : Frame) → wellFormed f ≡ true → Fitting (f .message) → RangedFrame f
 frame-ranged f e r =
     record {
       hour = r .hour;
@@ -107,7 +107,8 @@ module _ (s : Settings) (v : ValidSettings s) where
       }
 
   -- a frame of a stored message, in any sense
-  pub event-frame : {cancel : Bool} (f : Frame) → wellFormed f ≡ true → Storable s cancel (f .message) → RangedMessage (f .message) → kindNumber (f .message .kind) ≤ 2 → EventFrame (s .n) (s .last) f
+  pub event-frame : {cancel : Bool} (f : Frame) → wellFormed f ≡ true → Storable s cancel (f .message) → RangedMessage (f .message) →
+      kindNumber (f .message .kind) ≤ 2 → EventFrame (s .n) (s .last) f
   event-frame f e t r k =
       let ranged = frame-ranged f e (stored-fits (f .message) t r) in
       record {
@@ -117,16 +118,23 @@ module _ (s : Settings) (v : ValidSettings s) where
         hour = t .hour;
         passing =
             passing-frame (s .n) (s .last) f ranged e (ne-eqb (kindNumber (f .message .kind)) 3 (λ z. omega arith))
-            (rw (lt-ltb (f .message .from) (s .n) (t .from), lt-ltb (f .message .to) (s .n) (t .to), lt-ltb (originOf (f .message .kind)) (s .n) (t .origin)) refl)
+            (rw (
+              lt-ltb (f .message .from) (s .n) (t .from),
+              lt-ltb (f .message .to) (s .n) (t .to),
+              lt-ltb (originOf (f .message .kind))
+                  (s .n) (t .origin),
+            ) refl)
             (rw (le-leb (f .message .hour) (s .last) (t .hour)) refl);
       }
 
   -- what an event sends, or the cancels of it
-  pub sent-frames : {waits : Bool} (m : Message) → Good s waits m → (cancel : Bool) (before : State) → All (EventFrame (s .n) (s .last)) (framesFor cancel (sent (siteOf s) before m))
+  pub sent-frames : {waits : Bool} (m : Message) → Good s waits m → (cancel : Bool) (before : State) → All (EventFrame (s .n) (s .last))
+      (framesFor cancel (sent (siteOf s) before m))
   sent-frames m good cancel before =
       frames-of (sent (siteOf s) before m) (each-all (sent (siteOf s) before m) (λ x k. sent-good s v m good cancel before x k))
     where
-      frames-of : (ms : List Message) → All (λ x. GoodSent s (record { message = x; cancel = cancel })) ms → All (EventFrame (s .n) (s .last)) (framesFor cancel ms)
+      frames-of : (ms : List Message) → All (λ x. GoodSent s (record { message = x; cancel = cancel })) ms → All (EventFrame (s .n)
+          (s .last)) (framesFor cancel ms)
       frames-of [] nil = nil
       frames-of (x ∷ ms) (cons h a) =
           cons (event-frame (frameIf cancel x) (h .valid .message .form) (h .valid .message) (h .ranged) (h .valid .kind)) (frames-of ms a)
@@ -143,7 +151,8 @@ sensed-kind m s h e =
     by-case false p k = absurd (false≢true k)
 
 -- a well-formed frame of a message with a lamp is so in any sense
-pub any-sense : (m : Message) (s t : Sense) → kindNumber (m .kind) ≤ 2 → wellFormed (record { message = m; sense = s }) ≡ true → wellFormed (record { message = m; sense = t }) ≡ true
+pub any-sense : (m : Message) (s t : Sense) → kindNumber (m .kind) ≤ 2 → wellFormed (record { message = m; sense = s }) ≡ true → wellFormed
+    (record { message = m; sense = t }) ≡ true
 unfolding wellFormed
 any-sense m s t h e =
     let hours : hourFits (kindNumber (m .kind)) (m .hour) ≡ true = search (and-left, and-right) depth 9 in
@@ -158,7 +167,8 @@ module _ (s : Settings) (v : ValidSettings s) where
       event-frame s v (acknowledgment b m) (any-sense m (senseIf b) (acknowledgment b m .sense) h (good .storable .form)) (good .storable) (good .ranged) h
 
   -- the cancels of what some events had sent
-  pub back-frames : (es : List Entry) → ((e : Entry) → e ∈ es → Good s (isWaiting e) (e .message)) → All (EventFrame (s .n) (s .last)) (framesFor true (sentBack (siteOf s) es))
+  pub back-frames : (es : List Entry) → ((e : Entry) → e ∈ es → Good s (isWaiting e) (e .message)) → All (EventFrame (s .n) (s .last))
+      (framesFor true (sentBack (siteOf s) es))
   unfolding sentBack
   back-frames [] h = nil
   back-frames (e ∷ es) h =

@@ -6,6 +6,7 @@ use mathlib.Core.Bool.{Bool, true, false, cond}
 use mathlib.Core.List.{List, [], _∷_, append-nil}
 use lib.Dec.{eqb}
 use lib.ListN.{length}
+use Rattle.lists.specs.Families.{change}
 use Rattle.model.specs.declared.Message.{Message}
 use Rattle.memory.specs.Records.{Gateway}
 use Rattle.memory.specs.Codec.{decode, encode}
@@ -15,7 +16,6 @@ use Rattle.gateway.specs.Working.{Progress, stopped, onceMore, workedBy, worked
 use Rattle.gateway.specs.Claims.{SoundBytes}
 use Rattle.gateway.specs.Calls.{setUp, taken, started, committed, workedOff}
 use Rattle.gateway.specs.declared.Opening.{Opening}
-use Rattle.run.specs.Lines.{change}
 use Rattle.run.specs.World.{World, works, takes, starts, commits, setsUp, afterWorking, afterCall}
 use Rattle.run.specs.Ledger.{didSome}
 use Rattle.run.proofs.BesideCalls.{change-self}
@@ -30,22 +30,26 @@ set-up-refused o list memory h = by-case (eqb (setUpRefusal o (length memory) li
     by-case true p = absurd (h (rw p))
     by-case false p = rw p
 
-pub refused-set-up : (n : ℕ) (w : World) (i : ℕ) (o : Opening) (list : List ℕ) → (setUp o list (w .memories i) .answer .number ≡ 0 → ⊥) → afterCall n w (setsUp i o list) ≡ w
+pub refused-set-up : (n : ℕ) (w : World) (i : ℕ) (o : Opening) (list : List ℕ) → (setUp o list (w .memories i) .answer .number ≡ 0 → ⊥) →
+    afterCall n w (setsUp i o list) ≡ w
 unfolding afterCall
 refused-set-up n w i o list h =
     ap (λ (f : ℕ → List ℕ). record { memories = f; underWay = w .underWay; records = w .records; ledgers = w .ledgers; rounds = w .rounds })
     (ap (λ (m : List ℕ). change i m (w .memories)) (set-up-refused o list (w .memories i) h) ∙ change-self i (w .memories))
 
 -- a refused frame, start call or commit
-pub refused-frame : (n : ℕ) (w : World) (i : ℕ) (frame output : List ℕ) → eqb (taken (w .memories i) frame output .answer .number) 0 ≡ false → afterCall n w (takes i frame output) ≡ w
+pub refused-frame : (n : ℕ) (w : World) (i : ℕ) (frame output : List ℕ) → eqb (taken (w .memories i) frame output .answer .number) 0 ≡ false
+    → afterCall n w (takes i frame output) ≡ w
 unfolding afterCall
 refused-frame n w i frame output h = rw h
 
-pub refused-start : (n : ℕ) (w : World) (i : ℕ) (output : List ℕ) → eqb (started (w .memories i) output .answer .number) 0 ≡ false → afterCall n w (starts i output) ≡ w
+pub refused-start : (n : ℕ) (w : World) (i : ℕ) (output : List ℕ) → eqb (started (w .memories i) output .answer .number) 0 ≡ false →
+    afterCall n w (starts i output) ≡ w
 unfolding afterCall
 refused-start n w i output h = rw h
 
-pub refused-commit : (n : ℕ) (w : World) (i : ℕ) (output : List ℕ) → eqb (committed (w .memories i) output .answer .number) 0 ≡ false → afterCall n w (commits i output) ≡ w
+pub refused-commit : (n : ℕ) (w : World) (i : ℕ) (output : List ℕ) → eqb (committed (w .memories i) output .answer .number) 0 ≡ false →
+    afterCall n w (commits i output) ≡ w
 unfolding afterCall
 refused-commit n w i output h = rw h
 
@@ -71,7 +75,8 @@ no-event (suc b) room g h = next (pendingOf (g .queue)) h
     next [] k = record { gateway = refl; output = refl }
     next (m ∷ ms) k = once m (fits room (done m g)) k
 
-pub idle-work : (n : ℕ) (w : World) (i b : ℕ) (output : List ℕ) → SoundBytes (w .memories i) → workedOff b (w .memories i) output .answer .count ≡ 0 → afterCall n w (works i b output) ≡ w
+pub idle-work : (n : ℕ) (w : World) (i b : ℕ) (output : List ℕ) → SoundBytes (w .memories i) → workedOff b (w .memories i)
+    output .answer .count ≡ 0 → afterCall n w (works i b output) ≡ w
 unfolding afterCall afterWorking workedOff cutFrames didSome
 idle-work n w i b output s h =
     rw (s .is-sound, none, ap length (e .output))

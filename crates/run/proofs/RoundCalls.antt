@@ -8,14 +8,17 @@ use native.Mathlib.Omega.{arith}
 use native.Mathlib.Decide.{ℕ-discrete}
 use lib.Dec.{eqb, eqb→eq}
 use lib.ListN.{length, length-map}
-use Rattle.routing.specs.Arcs.{from, to}
+use Rattle.lists.specs.Lists.{All, Insert}
+use Rattle.lists.proofs.ListLaws.{count-nil}
+use Rattle.lists.proofs.FamilyLaws.{Same, same, other, same?, Changed, at, off, change?, change-at}
+use Rattle.routing.specs.Arcs.{from, to, children}
 use Rattle.model.specs.declared.Kind.the-variants.{Start, Lvt, Update}
 use Rattle.memory.specs.Records.{Gateway}
 use Rattle.memory.specs.declared.Round.{Round}
 use Rattle.memory.specs.declared.Phase.the-variants.{Idle, Counting, Stopped}
 use Rattle.gateway.specs.Effects.{Effect, withRound, withAgreed}
-use Rattle.gateway.specs.Rounds.{leastOutstanding, leastQueued, frames, children, finished, begun, oneStart, oneLvt, valueIn, valueAt, bitOf, allBits, isIdle, idle}
-use Rattle.timewarp.specs.Lists.{All, Insert}
+use Rattle.gateway.specs.Rounds.{leastOutstanding, leastQueued, framesInRound, finished, begun, oneStart, oneLvt, valueIn, valueAt, bitOf}
+use Rattle.gateway.specs.Rounds.{allBits, isIdle, idle}
 use Rattle.timewarp.specs.Arcs
 use Rattle.timewarp.specs.Models.{Model}
 use Rattle.timewarp.specs.RoundSteps
@@ -23,17 +26,15 @@ use Rattle.timewarp.specs.RoundSteps.{RoundFrame, start, lvt, update}
 use Rattle.timewarp.specs.Worlds.{World}
 use Rattle.timewarp.specs.Worlds
 use Rattle.timewarp.proofs.Joined.{Good}
-use Rattle.timewarp.proofs.ListLaws.{count-nil}
-use Rattle.timewarp.proofs.FamilyLaws.{Same, same, other, same?, Changed, at, off, change?, change-at}
 use Rattle.timewarp.proofs.RoundCarried.{all-from, all-to}
 use Rattle.timewarp.proofs.RoundInvariants.{in-turn}
 use Rattle.run.specs.World
 use Rattle.run.proofs.FigureGraph.{figureGraph, arcLaws, tells-is, hears-is}
 use Rattle.run.proofs.ArrivalBits.{howMany, AllIn, all-in, not-all, all-in?}
 use Rattle.run.proofs.Standing.{startIn, lvtIn, startBits, lvtBits, StandingAt, is-idle, is-finished, is-counting, is-stopped, roundOf}
-use Rattle.run.proofs.RoundCounters.{Counted, oneMore, same-counted, same-change}
+use Rattle.run.proofs.RoundCounters.{Counted, oneMore, same-counted}
 use Rattle.run.proofs.RoundChains
-use Rattle.run.proofs.RoundsUnderWay.{roundsOf, starts-are, lvts-are, updates-are, same-children}
+use Rattle.run.proofs.RoundsUnderWay.{roundsOf, starts-are, lvts-are, updates-are}
 
 -- what the test of two numbers says
 equal-test : (x y : ℕ) → x ≡ y → eqb x y ≡ true
@@ -55,22 +56,22 @@ abbrev silent : Round → Gateway → Effect
 silent rd g = record { gateway = withRound rd g; frames = [] }
 
 -- one more Start, with all in and not
-all-heard : (heard : List ℕ) (arrived : ℕ) (g : Gateway) → eqb arrived (allBits heard) ≡ true → oneStart heard arrived g ≡ begun g
+all-heard : (heard : List ℕ) (arrived : ℕ) (g : Gateway) → eqb arrived (allBits heard) ≡ true → oneStart (allBits heard) arrived g ≡ begun g
 unfolding oneStart
 all-heard heard arrived g e = rw e refl
 
 not-all-heard : (heard : List ℕ) (arrived : ℕ) (g : Gateway) → eqb arrived (allBits heard) ≡ false
-    → oneStart heard arrived g ≡ silent (roundOf Idle arrived (g .round .note)) g
+    → oneStart (allBits heard) arrived g ≡ silent (roundOf Idle arrived (g .round .note)) g
 unfolding oneStart
 not-all-heard heard arrived g e = rw e refl
 
 -- one more Lvt, with all in and not
-all-back : (told : List ℕ) (arrived v : ℕ) (g : Gateway) → eqb arrived (allBits told) ≡ true → oneLvt told arrived v g ≡ finished v g
+all-right : (told : List ℕ) (arrived v : ℕ) (g : Gateway) → eqb arrived (allBits told) ≡ true → oneLvt (allBits told) arrived v g ≡ finished v g
 unfolding oneLvt
-all-back told arrived v g e = rw e refl
+all-right told arrived v g e = rw e refl
 
 not-all-back : (told : List ℕ) (arrived v : ℕ) (g : Gateway) → eqb arrived (allBits told) ≡ false
-    → oneLvt told arrived v g ≡ silent (roundOf Stopped arrived v) g
+    → oneLvt (allBits told) arrived v g ≡ silent (roundOf Stopped arrived v) g
 unfolding oneLvt
 not-all-back told arrived v g e = rw e refl
 
@@ -100,11 +101,10 @@ module _ (n : ℕ) (some : 1 ≤ n) (M : Model) (equal : n - 1 ≡ M .last) wher
       pub frames : after .frames ≡ underWay ++ roundsOf t (e .frames)
 
     module _ {g : Gateway} (a : Called g) where
-      children-are : children (g .settings) ≡ Arcs.children (n - 1) i
+      children-are : children (g .settings .n) (g .settings .own) ≡ children (suc (n - 1)) i
       children-are =
-          same-children (g .settings) (omega (arith, a .gateways))
-          ∙ ap (λ (m : ℕ). Arcs.children (m - 1) (g .settings .own)) (a .gateways)
-          ∙ ap (λ (o : ℕ). Arcs.children (n - 1) o) (a .own)
+          let whole : g .settings .n ≡ suc (n - 1) = omega (arith, a .gateways) in
+          ap (λ (m : ℕ). children m (g .settings .own)) whole ∙ ap (λ (o : ℕ). children (suc (n - 1)) o) (a .own)
 
       to-is : to (g .settings .n) (g .settings .own) ≡ G .to i
       to-is =
@@ -119,19 +119,22 @@ module _ (n : ℕ) (some : 1 ≤ n) (M : Model) (equal : n - 1 ≡ M .last) wher
           ∙ sym (hears-is n some i (omega arith))
 
       -- the frames that it writes
-      updates-written : (t v : ℕ) → roundsOf t (frames Update v (g .settings .own) (children (g .settings))) ≡ map (λ j. update i j t v) (Arcs.children (n - 1) i)
+      updates-written : (t v : ℕ) → roundsOf t (framesInRound Update v (g .settings .own) (children (g .settings .n) (g .settings .own))) ≡
+          map (λ j. update i j t v) (children (suc (n - 1)) i)
       updates-written t v =
-          updates-are t v (g .settings .own) (children (g .settings))
-          ∙ ap (λ (o : ℕ). map (λ j. update o j t v) (children (g .settings))) (a .own)
+          updates-are t v (g .settings .own) (children (g .settings .n) (g .settings .own))
+          ∙ ap (λ (o : ℕ). map (λ j. update o j t v) (children (g .settings .n) (g .settings .own))) (a .own)
           ∙ ap (map (λ j. update i j t v)) children-are
 
-      starts-written : (t v : ℕ) → roundsOf t (frames Start v (g .settings .own) (to (g .settings .n) (g .settings .own))) ≡ map (λ j. start i j t) (G .to i)
+      starts-written : (t v : ℕ) → roundsOf t (framesInRound Start v (g .settings .own) (to (g .settings .n) (g .settings .own))) ≡ map (λ
+          j. start i j t) (G .to i)
       starts-written t v =
           starts-are t v (g .settings .own) (to (g .settings .n) (g .settings .own))
           ∙ ap (λ (o : ℕ). map (λ j. start o j t) (to (g .settings .n) (g .settings .own))) (a .own)
           ∙ ap (map (λ j. start i j t)) to-is
 
-      lvts-written : (t v : ℕ) → roundsOf t (frames Lvt v (g .settings .own) (from (g .settings .n) (g .settings .own))) ≡ map (λ j. lvt i j t v) (G .from i)
+      lvts-written : (t v : ℕ) → roundsOf t (framesInRound Lvt v (g .settings .own) (from (g .settings .n) (g .settings .own))) ≡ map (λ j.
+          lvt i j t v) (G .from i)
       lvts-written t v =
           lvts-are t v (g .settings .own) (from (g .settings .n) (g .settings .own))
           ∙ ap (λ (o : ℕ). map (λ j. lvt o j t v) (from (g .settings .n) (g .settings .own))) (a .own)
@@ -139,11 +142,15 @@ module _ (n : ℕ) (some : 1 ≤ n) (M : Model) (equal : n - 1 ≡ M .last) wher
 
     -- what `finished` comes to at 0 and elsewhere
     abbrev closing : ℕ → Gateway → Effect
-    closing v g = record { gateway = withAgreed v (withRound idle g); frames = frames Update v (g .settings .own) (children (g .settings)) }
+    closing v g = record {
+      gateway = withAgreed v (withRound idle g);
+      frames = framesInRound Update v (g .settings .own) (children
+          (g .settings .n) (g .settings .own));
+    }
 
     abbrev sending : ℕ → Gateway → Effect
     sending v g =
-        record { gateway = withRound idle g; frames = frames Lvt v (g .settings .own) (from (g .settings .n) (g .settings .own)) }
+        record { gateway = withRound idle g; frames = framesInRound Lvt v (g .settings .own) (from (g .settings .n) (g .settings .own)) }
 
     at-zero : {g : Gateway} → Called g → i ≡ 0 → eqb (g .settings .own) 0 ≡ true
     at-zero a z = ap (λ (o : ℕ). eqb o 0) (a .own ∙ z)
@@ -175,15 +182,16 @@ module _ (n : ℕ) (some : 1 ≤ n) (M : Model) (equal : n - 1 ≡ M .last) wher
             after = RoundSteps.close G r;
             now =
                 rw (length-map, children-are a)
-                (subst (λ (x : ℕ). Now (roundOf Idle 0 0) x (World.closes (World.tookMore (c .opened) (length (Arcs.children (n - 1) i)) c)) (RoundSteps.close G r)) value
+                (subst (λ (x : ℕ). Now (roundOf Idle 0 0) x (World.closes (World.tookMore (c .opened) (length (children (suc (n - 1)) i))
+                c)) (RoundSteps.close G r)) value
                 (RoundChains.close-now n some M equal w k rs times i inside h s all 0 z));
             frames = ap (λ l. r .frames ++ l) (zero-updates ∙ sym (updates-written a (r .tag) v));
           })
         where
-          zero-updates : map (λ j. update 0 j (r .tag) (r .mark 0)) (Arcs.children (n - 1) 0) ≡ map (λ j. update i j (r .tag) v) (Arcs.children (n - 1) i)
+          zero-updates : map (λ j. update 0 j (r .tag) (r .mark 0)) (children (suc (n - 1)) 0) ≡ map (λ j. update i j (r .tag) v) (children (suc (n - 1)) i)
           zero-updates =
-              ap (λ (x : ℕ). map (λ j. update x j (r .tag) (r .mark x)) (Arcs.children (n - 1) x)) (sym z)
-              ∙ ap (λ (x : ℕ). map (λ j. update i j (r .tag) x) (Arcs.children (n - 1) i)) value
+              ap (λ (x : ℕ). map (λ j. update x j (r .tag) (r .mark x)) (children (suc (n - 1)) x)) (sym z)
+              ∙ ap (λ (x : ℕ). map (λ j. update i j (r .tag) x) (children (suc (n - 1)) i)) value
 
       -- elsewhere the Lvts go out
       sending-done : 0 < i → Done (finished v g) (World.tookMore (c .opened) (length (finished v g .frames)) c) (r .frames) (r .tag)
@@ -208,8 +216,8 @@ module _ (n : ℕ) (some : 1 ≤ n) (M : Model) (equal : n - 1 ≡ M .last) wher
     nothing-more t m c z u = go (change? t (c .took t + m) (c .took) u)
       where
         go : Changed t (c .took t + m) (c .took) u → World.tookMore t m c .took u ≡ c .took u
-        go (at p e) = omega (arith, same-change t (c .took t + m) (c .took) u, ap (c .took) p)
-        go (off p e) = omega (arith, same-change t (c .took t + m) (c .took) u)
+        go (at p e) = omega (arith, ap (c .took) p)
+        go (off p e) = omega (arith)
 
     took-none : {rd : Round} {time : ℕ} (t m : ℕ) (c : World.Rounds) {r : RoundSteps.Rounds} → m ≡ 0 → Now rd time (World.tookMore t m c) r → Now rd time c r
     took-none t m c {r} z h =
@@ -225,7 +233,7 @@ module _ (n : ℕ) (some : 1 ≤ n) (M : Model) (equal : n - 1 ≡ M .last) wher
         let note = leastOutstanding (g .outstanding) in
         record {
           gateway = withRound (roundOf Counting 0 note) g;
-          frames = frames Start 0 (g .settings .own) (to (g .settings .n) (g .settings .own));
+          frames = framesInRound Start 0 (g .settings .own) (to (g .settings .n) (g .settings .own));
         }
 
     begun-counting : {g : Gateway} → Called g → i ≢ n - 1 → begun g ≡ counting g
@@ -301,7 +309,8 @@ module _ (n : ℕ) (some : 1 ≤ n) (M : Model) (equal : n - 1 ≡ M .last) wher
           go (same l e) =
               let b = took-none (c .opened) (length (G .to i)) c (ap length (tells-none l)) first in
               subst (λ x. Done x (World.tookMore (c .opened) (length (x .frames)) c) (r .frames) (r .tag)) (sym (begun-last a l))
-              (subst (λ f. Done (finished (valueAt note g) g) (World.tookMore (c .opened) (length (finished (valueAt note g) g .frames)) c) f (r .tag)) (halted-frames l b)
+              (subst (λ f. Done (finished (valueAt note g) g) (World.tookMore (c .opened) (length (finished (valueAt note g) g .frames)) c)
+              f (r .tag)) (halted-frames l b)
               (sending-done a (halted-now l b) (halted-status l b) (halted-all l b) (valueAt note g) (halted-mark l b) p))
           go (other l e) =
               subst (λ x. Done x (World.tookMore (c .opened) (length (x .frames)) c) (r .frames) (r .tag)) (sym (begun-counting a l))
@@ -326,12 +335,14 @@ module _ (n : ℕ) (some : 1 ≤ n) (M : Model) (equal : n - 1 ≡ M .last) wher
           first = RoundChains.open-now n some M equal w k rs times i inside h idles all note (a .outstanding) z
 
           go : Same i (n - 1) → Same n 1
-              → Done (begun g) (let took = World.tookMore (d .opened) (length (begun g .frames)) d in cond (eqb n 1) (World.closes took) took) (r .frames) (r .tag)
+              → Done (begun g) (let took = World.tookMore (d .opened) (length (begun g .frames)) d in cond (eqb n 1) (World.closes took)
+              took) (r .frames) (r .tag)
           go (same l e) (same m f) =
               let b = took-none (d .opened) (length (G .to i)) d (ap length (tells-none l)) first in
               rw f
               (subst (λ x. Done x (World.closes (World.tookMore (d .opened) (length (x .frames)) d)) (r .frames) (r .tag)) (sym (begun-last a l))
-              (subst (λ y. Done (finished (valueAt note g) g) (World.closes (World.tookMore (d .opened) (length (finished (valueAt note g) g .frames)) d)) y (r .tag)) (halted-frames l b)
+              (subst (λ y. Done (finished (valueAt note g) g) (World.closes (World.tookMore (d .opened) (length (finished (valueAt note g)
+              g .frames)) d)) y (r .tag)) (halted-frames l b)
               (closing-done a (halted-now l b) (halted-status l b) (halted-all l b) (valueAt note g) (halted-mark l b) z)))
           go (same l e) (other m f) = absurd (omega arith)
           go (other l e) (same m f) = absurd (omega arith)
@@ -345,7 +356,8 @@ module _ (n : ℕ) (some : 1 ≤ n) (M : Model) (equal : n - 1 ≡ M .last) wher
               }))
 
     -- The start call, which is accepted at gateway 0 in no open round.
-    pub start-done : {g : Gateway} {c : World.Rounds} {r : RoundSteps.Rounds} → Called g → Now (g .round) (g .agreed) c r → i ≡ 0 → isIdle (g .round .phase) ≡ true
+    pub start-done : {g : Gateway} {c : World.Rounds} {r : RoundSteps.Rounds} → Called g → Now (g .round) (g .agreed) c r → i ≡ 0 → isIdle
+        (g .round .phase) ≡ true
         → Done (begun g)
         (let took = World.tookMore (World.opens c .opened) (length (begun g .frames)) (World.opens c) in cond (eqb n 1) (World.closes took) took)
         (r .frames) (r .tag)
@@ -382,7 +394,8 @@ module _ (n : ℕ) (some : 1 ≤ n) (M : Model) (equal : n - 1 ≡ M .last) wher
       unfolding told
       told-now = rw (from-is a) (RoundChains.hear-now n some M equal w k rs times i inside h j t rest x)
 
-      pub start-taken : Done (oneStart heard arrivals g) (World.tookMore (c .opened) (length (oneStart heard arrivals g .frames)) c) rest (r .tag)
+      pub start-taken : Done (oneStart (allBits heard) arrivals g) (World.tookMore (c .opened) (length (oneStart (allBits heard) arrivals
+          g .frames)) c) rest (r .tag)
       unfolding told RoundSteps.hear
       start-taken =
           go (in-turn G _ _ _ r (RoundChains.sound n some M equal w k rs times i inside h) (start j i t) rest x)
@@ -392,7 +405,7 @@ module _ (n : ℕ) (some : 1 ≤ n) (M : Model) (equal : n - 1 ≡ M .last) wher
           all-of b y c = eqb→eq (told .arrived y i) 1 (rw (all-from G i b y c) tt)
 
           standing : r .status i ≡ RoundSteps.idle → j < i → arrivals ≡ startBits G (told .arrived) i → AllIn (startIn G (told .arrived) i) (G .from i)
-              → Done (oneStart heard arrivals g) (World.tookMore (c .opened) (length (oneStart heard arrivals g .frames)) c) rest (r .tag)
+              → Done (oneStart (allBits heard) arrivals g) (World.tookMore (c .opened) (length (oneStart (allBits heard) arrivals g .frames)) c) rest (r .tag)
           standing s l b (all-in y e f) =
               let test : eqb arrivals (allBits heard) ≡ true = equal-test arrivals (allBits heard) (b ∙ e ∙ ap allBits (sym (from-is a))) in
               subst (λ e. Done e (World.tookMore (c .opened) (length (e .frames)) c) rest (r .tag)) (sym (all-heard heard arrivals g test))
@@ -403,7 +416,7 @@ module _ (n : ℕ) (some : 1 ≤ n) (M : Model) (equal : n - 1 ≡ M .last) wher
               (silent-done g (none-took (c .opened) 0 c refl told-now) (r .tag))
 
           go : RoundSteps.InTurn G r (start j i t) → StandingAt G (told .status) (told .mark) (told .arrived) i (roundOf Idle arrivals (g .round .note))
-              → Done (oneStart heard arrivals g) (World.tookMore (c .opened) (length (oneStart heard arrivals g .frames)) c) rest (r .tag)
+              → Done (oneStart (allBits heard) arrivals g) (World.tookMore (c .opened) (length (oneStart (allBits heard) arrivals g .frames)) c) rest (r .tag)
           go (RoundSteps.start-in-turn y s z e) (is-idle d q b) = standing s (G .upward j i y .0) b (all-in? (startIn G (told .arrived) i) (G .from i))
           go (RoundSteps.start-in-turn y s z e) (is-finished d q b) = absurd (omega arith)
           go (RoundSteps.start-in-turn y s z e) (is-counting d q b v) = absurd (omega arith)
@@ -420,7 +433,7 @@ module _ (n : ℕ) (some : 1 ≤ n) (M : Model) (equal : n - 1 ≡ M .last) wher
       come-back = g .round .arrived + bitOf j told-by
 
       abbrev pub lvtEffect : Effect
-      lvtEffect = oneLvt told-by come-back (min value v) g
+      lvtEffect = oneLvt (allBits told-by) come-back (min value v) g
 
       lowered : RoundSteps.Rounds
       lowered = RoundSteps.takeLvt j i v rest r
@@ -441,9 +454,10 @@ module _ (n : ℕ) (some : 1 ≤ n) (M : Model) (equal : n - 1 ≡ M .last) wher
         bits : (come-back ≡ lvtBits G (lowered .arrived) i) × (lowered .mark i ≡ min value v)
         bits = facts (RoundChains.here n some M equal w k rs times i inside b)
 
-        every : All (λ y. lvtIn G (lowered .arrived) i y ≡ true) (G .to i) → lvtBits G (lowered .arrived) i ≡ allBits (G .to i) → lvtEffect ≡ finished (min value v) g
+        every : All (λ y. lvtIn G (lowered .arrived) i y ≡ true) (G .to i) → lvtBits G (lowered .arrived) i ≡ allBits (G .to i) → lvtEffect
+            ≡ finished (min value v) g
         every f e =
-            all-back told-by come-back (min value v) g
+            all-right told-by come-back (min value v) g
             (equal-test come-back (allBits told-by) (bits .0 ∙ e ∙ ap allBits (sym (to-is a))))
 
         some-left : lvtBits G (lowered .arrived) i < allBits (G .to i) → lvtEffect ≡ silent (roundOf Stopped come-back (min value v)) g
@@ -468,8 +482,8 @@ module _ (n : ℕ) (some : 1 ≤ n) (M : Model) (equal : n - 1 ≡ M .last) wher
               (silent-done g (none-took (c .opened) 0 c refl b) (r .tag))
 
       -- at gateway 0, where the last one closes the round
-      pub lvt-at-0 : i ≡ 0 → Done lvtEffect (World.oneLvt n (World.tookMore (c .opened) (length (lvtEffect .frames)) c)) rest (r .tag)
-      unfolding lowered RoundSteps.takeLvt World.oneLvt
+      pub lvt-at-0 : i ≡ 0 → Done lvtEffect (World.acceptsLvt n (World.tookMore (c .opened) (length (lvtEffect .frames)) c)) rest (r .tag)
+      unfolding lowered RoundSteps.takeLvt World.acceptsLvt
       lvt-at-0 z = go (all-in? (lvtIn G (lowered .arrived) i) (G .to i))
         where
           b : Now (roundOf Stopped come-back (min value v)) (g .agreed) (oneMore c) lowered
@@ -484,7 +498,8 @@ module _ (n : ℕ) (some : 1 ≤ n) (M : Model) (equal : n - 1 ≡ M .last) wher
           awaited : length (to n 0) ≡ length (G .to i)
           awaited = ap length (ap (λ (y : ℕ). to n y) (sym z) ∙ sym (tells-is n some i (omega arith)))
 
-          go : AllIn (lvtIn G (lowered .arrived) i) (G .to i) → Done lvtEffect (World.oneLvt n (World.tookMore (c .opened) (length (lvtEffect .frames)) c)) rest (r .tag)
+          go : AllIn (lvtIn G (lowered .arrived) i) (G .to i) → Done lvtEffect (World.acceptsLvt n (World.tookMore (c .opened) (length
+              (lvtEffect .frames)) c)) rest (r .tag)
           go (all-in f e q) =
               rw (equal-test (suc (c .lvts)) (length (to n 0)) (omega (arith, accepted, awaited)))
               (subst (λ e. Done e (World.closes (oneMore (World.tookMore (c .opened) (length (e .frames)) c))) rest (r .tag)) (sym (every b f e))
@@ -500,12 +515,12 @@ module _ (n : ℕ) (some : 1 ≤ n) (M : Model) (equal : n - 1 ≡ M .last) wher
       abbrev pub takenLvt : ℕ → Effect
       takenLvt value =
           let told = to (g .settings .n) (g .settings .own) in
-          oneLvt told (g .round .arrived + bitOf j told) (min value v) g
+          oneLvt (allBits told) (g .round .arrived + bitOf j told) (min value v) g
 
       abbrev pub lvtCounters : ℕ → World.Rounds
       lvtCounters value =
           let took = World.tookMore (c .opened) (length (takenLvt value .frames)) c in
-          cond (eqb i 0) (World.oneLvt n took) took
+          cond (eqb i 0) (World.acceptsLvt n took) took
 
       abbrev LvtDone : ℕ → Type 0
       LvtDone value = Done (takenLvt value) (lvtCounters value) rest (r .tag)
@@ -515,7 +530,7 @@ module _ (n : ℕ) (some : 1 ≤ n) (M : Model) (equal : n - 1 ≡ M .last) wher
           (s : q .status i ≡ RoundSteps.stopped) (y : Insert (lvt j i t v) rest (q .frames)) where
         either : Same i 0
             → Done (lvtEffect a value b s j t v rest y)
-            (let took = World.tookMore (c .opened) (length (lvtEffect a value b s j t v rest y .frames)) c in cond (eqb i 0) (World.oneLvt n took) took)
+            (let took = World.tookMore (c .opened) (length (lvtEffect a value b s j t v rest y .frames)) c in cond (eqb i 0) (World.acceptsLvt n took) took)
             rest (q .tag)
         either (same z e) = rw e (lvt-at-0 a value b s j t v rest y z)
         either (other z e) = rw e (lvt-elsewhere a value b s j t v rest y (omega arith))
@@ -545,10 +560,10 @@ module _ (n : ℕ) (some : 1 ≤ n) (M : Model) (equal : n - 1 ≡ M .last) wher
       takenUpdate =
           record {
             gateway = withAgreed (max (g .agreed) v) g;
-            frames = frames Update v (g .settings .own) (children (g .settings));
+            frames = framesInRound Update v (g .settings .own) (children (g .settings .n) (g .settings .own));
           }
 
-      pub update-taken : Done takenUpdate (World.accepts (suc t) i (World.tookMore (suc t) (length (takenUpdate .frames)) c)) rest t
+      pub update-taken : Done takenUpdate (World.acceptsUpdate (suc t) i (World.tookMore (suc t) (length (takenUpdate .frames)) c)) rest t
       unfolding RoundSteps.takeUpdate
       update-taken =
           record {

@@ -7,17 +7,20 @@ use Prim.Native.Nat.{ℕ, zero, suc, _+_, _-_, _≤_, _<_, min, max}
 use native.Mathlib.Omega.{arith}
 use lib.Dec.{leb·suc-suc, leb·zero}
 use lib.ListN.{length}
+use Rattle.routing.specs.Arcs.{children}
+use Rattle.lists.specs.Lists.{Insert}
+use Rattle.lists.specs.Families.{change, put}
+use Rattle.lists.proofs.ListLaws.{all-taken}
+use Rattle.lists.proofs.FamilyLaws.{Same, same, other, same?, Changed, at, off, change?, change-at, change-off}
 use Rattle.memory.specs.declared.Round.{Round}
 use Rattle.memory.specs.declared.Phase.the-variants.{Idle, Counting, Stopped}
 use Rattle.gateway.specs.Rounds.{bitOf}
-use Rattle.timewarp.specs.Lists.{Insert}
-use Rattle.timewarp.specs.Families.{change, put}
-use Rattle.timewarp.specs.Arcs.{Graph, Arc, times, children}
+use Rattle.timewarp.specs.Arcs.{Graph, Arc, times}
 use Rattle.timewarp.specs.Models.{Model}
-use Rattle.timewarp.specs.RoundSteps.{Rounds, RoundFrame, start, lvt, update, idle, counting, stopped, finished, begin, hear, stop, takeLvt, finish, close, takeUpdate, Stops, begins, hears, stops, takes-lvt, finishes, closes, takes-update, InTurn, start-in-turn, lvt-in-turn}
+use Rattle.timewarp.specs.RoundSteps.{Rounds, RoundFrame, start, lvt, update, idle, counting, stopped, finished, begin, hear, stop, takeLvt}
+use Rattle.timewarp.specs.RoundSteps.{finish, close, takeUpdate, Stops, begins, hears, stops, takes-lvt, finishes, closes, takes-update}
+use Rattle.timewarp.specs.RoundSteps.{InTurn, start-in-turn, lvt-in-turn}
 use Rattle.timewarp.specs.Worlds.{Setting, World, round, Steps, then, leastOutstanding, leastWaiting}
-use Rattle.timewarp.proofs.ListLaws.{all-taken}
-use Rattle.timewarp.proofs.FamilyLaws.{Same, same, other, same?, Changed, at, off, change?, change-at, change-off}
 use Rattle.timewarp.proofs.RoundArcs.{fresh, begun, back, StateOf, ArcStates}
 use Rattle.timewarp.proofs.RoundReach.{all-done}
 use Rattle.timewarp.proofs.RoundCarried.{of-lvt}
@@ -26,8 +29,10 @@ use Rattle.timewarp.proofs.Histories.{OutstandingFrom, WaitingFrom}
 use Rattle.timewarp.proofs.Joined.{Good, good-steps}
 use Rattle.run.specs.World
 use Rattle.run.proofs.FigureGraph.{figureGraph}
-use Rattle.run.proofs.Standing.{Standings, StandingAt, is-finished, roundOf, begin-standings, stop-standings, finish-standings, close-standings, hear-standings, lvt-standings}
-use Rattle.run.proofs.RoundCounters.{Counted, isOpen, oneMore, open-counted, begin-counted, hear-counted, stop-counted, lvt-counted, own-lvt-counted, finish-counted, close-counted, update-counted}
+use Rattle.run.proofs.Standing.{Standings, StandingAt, is-finished, roundOf, begin-standings, stop-standings, finish-standings}
+use Rattle.run.proofs.Standing.{close-standings, hear-standings, lvt-standings}
+use Rattle.run.proofs.RoundCounters.{Counted, isOpen, oneMore, open-counted, begin-counted, hear-counted, stop-counted, lvt-counted}
+use Rattle.run.proofs.RoundCounters.{own-lvt-counted, finish-counted, close-counted, update-counted}
 
 -- a family changed twice at one place
 pub change-again : {A : Type 0} (i : ℕ) (a b : A) (f : ℕ → A) (k : ℕ) → change i b (change i a f) k ≡ change i b f k
@@ -116,7 +121,8 @@ module _ (n : ℕ) (some : 1 ≤ n) (M : Model) (equal : n - 1 ≡ M .last) wher
                 standing =
                     settle (roundOf Idle (rd .arrived + bitOf j (G .from i)) (rd .note))
                     (subst
-                    (λ (q : Round). Standings G status mark (put j i 1 arrived) (change i (roundOf Idle (q .arrived + bitOf j (G .from i)) (q .note)) (change i rd rs)))
+                    (λ (q : Round). Standings G status mark (put j i 1 arrived) (change i (roundOf Idle (q .arrived + bitOf j (G .from i))
+                    (q .note)) (change i rd rs)))
                     (change-at i rd rs i refl)
                     (hear-standings G status mark arrived (change i rd rs) (h .standing) j i inside a s z));
                 agreed = h .agreed;
@@ -198,7 +204,8 @@ module _ (n : ℕ) (some : 1 ≤ n) (M : Model) (equal : n - 1 ≡ M .last) wher
             standing =
                 settle (roundOf Stopped (rd .arrived) (min (rd .note) v))
                 (subst
-                (λ (q : Round). Standings G (change i stopped status) (change i (min (mark i) v) mark) arrived (change i (roundOf Stopped (q .arrived) (min (q .note) v)) (change i rd rs)))
+                (λ (q : Round). Standings G (change i stopped status) (change i (min (mark i) v) mark) arrived (change i (roundOf Stopped
+                (q .arrived) (min (q .note) v)) (change i rd rs)))
                 (change-at i rd rs i refl)
                 (stop-standings G status mark arrived (change i rd rs) (h .standing) i v inside s));
             agreed = h .agreed;
@@ -224,7 +231,8 @@ module _ (n : ℕ) (some : 1 ≤ n) (M : Model) (equal : n - 1 ≡ M .last) wher
                   standing =
                       settle (roundOf Stopped (rd .arrived + bitOf j (G .to i)) (min (rd .note) v))
                       (subst
-                      (λ (q : Round). Standings G status (change i (min (mark i) v) mark) (put i j 2 arrived) (change i (roundOf Stopped (q .arrived + bitOf j (G .to i)) (min (q .note) v)) (change i rd rs)))
+                      (λ (q : Round). Standings G status (change i (min (mark i) v) mark) (put i j 2 arrived) (change i (roundOf Stopped
+                      (q .arrived + bitOf j (G .to i)) (min (q .note) v)) (change i rd rs)))
                       (change-at i rd rs i refl)
                       (lvt-standings G status mark arrived (change i rd rs) (h .standing) j i v inside a s (of-lvt (all-taken x (sound .carried)) .1) z));
                   agreed = h .agreed;
@@ -257,7 +265,7 @@ module _ (n : ℕ) (some : 1 ≤ n) (M : Model) (equal : n - 1 ≡ M .last) wher
 
         -- or, at 0, closes the round
         pub close-now : (note : ℕ) → i ≡ 0
-            → Now (roundOf Idle 0 note) (mark i) (World.closes (World.tookMore (c .opened) (length (children (n - 1) i)) c)) (close G r)
+            → Now (roundOf Idle 0 note) (mark i) (World.closes (World.tookMore (c .opened) (length (children (suc (n - 1)) i)) c)) (close G r)
         unfolding close
         close-now note z =
             record {
@@ -269,7 +277,7 @@ module _ (n : ℕ) (some : 1 ≤ n) (M : Model) (equal : n - 1 ≡ M .last) wher
                   (λ j p l. all-done G status mark arrived frames (sound .arcs) zero-stopped zero-all j l .is-finished p)));
               agreed = λ j l. new-time j l (change? i (mark i) times j);
               counted =
-                  subst (λ (x : ℕ). Counted G (World.closes (World.tookMore (c .opened) (length (children (n - 1) x)) c)) (close G r)) (sym z)
+                  subst (λ (x : ℕ). Counted G (World.closes (World.tookMore (c .opened) (length (children (suc (n - 1)) x)) c)) (close G r)) (sym z)
                   (close-counted G c r (h .counted) (open-by i inside (omega arith)));
               unfinished = λ f. omega arith;
             }
@@ -290,7 +298,7 @@ module _ (n : ℕ) (some : 1 ≤ n) (M : Model) (equal : n - 1 ≡ M .last) wher
 
       -- gateway i takes the Update of round t
       pub update-now : (j t v : ℕ) (rest : List RoundFrame) → Insert (update j i t v) rest frames
-          → Now rd (max time v) (World.accepts (suc t) i (World.tookMore (suc t) (length (children (n - 1) i)) c)) (takeUpdate G i t v rest r)
+          → Now rd (max time v) (World.acceptsUpdate (suc t) i (World.tookMore (suc t) (length (children (suc (n - 1)) i)) c)) (takeUpdate G i t v rest r)
       unfolding takeUpdate
       update-now j t v rest x =
           record {

@@ -7,35 +7,30 @@ use Prim.Native.Nat.{ℕ, suc, _+_, _≤_, _<_}
 use native.Mathlib.Omega.{arith}
 use lib.Dec.{eqb, ltb}
 use lib.ListN.{length}
-use Rattle.timewarp.specs.Families.{change, put}
-use Rattle.timewarp.specs.Arcs.{Graph, Arc, children}
+use Rattle.routing.specs.Arcs.{children}
+use Rattle.lists.specs.Families.{change, put}
+use Rattle.lists.proofs.FamilyLaws.{Changed, at, off, change?, change-at, change-off, Put, put?}
+use Rattle.timewarp.specs.Arcs.{Graph, Arc}
 use Rattle.timewarp.specs.RoundSteps.{idle, counting, stopped, finished, RoundFrame, raise, lower, begin, hear, stop, takeLvt, finish, close, takeUpdate}
 use Rattle.timewarp.specs.RoundSteps
-use Rattle.timewarp.proofs.FamilyLaws.{Changed, at, off, change?, change-at, change-off, Put, put?}
-use Rattle.run.specs.Lines
-use Rattle.run.specs.World.{Rounds, tookMore, opens, closes, accepts}
+use Rattle.run.specs.World.{Rounds, tookMore, opens, closes, acceptsUpdate}
 use Rattle.run.proofs.ArrivalBits.{oneIf, howMany, alike, none-in}
 use Rattle.run.proofs.Standing.{lvtIn, lvts-after-start, lvts-elsewhere, lvts-here}
-
--- the two changes of a family are one
-pub same-change : {A : Type 0} (i : ℕ) (v : A) (f : ℕ → A) (k : ℕ) → Lines.change i v f k ≡ change i v f k
-unfolding Lines.change change
-same-change i v f k = refl
 
 -- whether the round is open: gateway 0 has begun
 abbrev pub isOpen : ℕ → Bool
 isOpen s = ltb 0 s
 
 -- the number of messages that a round took, after more
-pub more-taken : (f : ℕ → ℕ) (g : ℕ → ℕ) (t c : ℕ) → ((k : ℕ) → f (suc k) ≡ g k) → (k : ℕ) → Lines.change (suc t) (f (suc t) + c) f (suc k) ≡ raise t c g k
+pub more-taken : (f : ℕ → ℕ) (g : ℕ → ℕ) (t c : ℕ) → ((k : ℕ) → f (suc k) ≡ g k) → (k : ℕ) → change (suc t) (f (suc t) + c) f (suc k) ≡ raise t c g k
 unfolding raise
 more-taken f g t c e k = go (change? t (g t + c) g k)
   where
-    go : Changed t (g t + c) g k → Lines.change (suc t) (f (suc t) + c) f (suc k) ≡ change t (g t + c) g k
+    go : Changed t (g t + c) g k → change (suc t) (f (suc t) + c) f (suc k) ≡ change t (g t + c) g k
     go (at p d) =
-        omega (arith, same-change (suc t) (f (suc t) + c) f (suc k), change-at (suc t) (f (suc t) + c) f (suc k) (omega arith), e t)
+        omega (arith, change-at (suc t) (f (suc t) + c) f (suc k) (omega arith), e t)
     go (off n d) =
-        omega (arith, same-change (suc t) (f (suc t) + c) f (suc k), change-off (suc t) (f (suc t) + c) f (suc k) (omega arith), e k)
+        omega (arith, change-off (suc t) (f (suc t) + c) f (suc k) (omega arith), e k)
 
 -- gateway 0 has accepted one more Lvt
 abbrev pub oneMore : Rounds → Rounds
@@ -165,15 +160,15 @@ module _ (G : Graph) (c : Rounds) (r : RoundSteps.Rounds) (h : Counted G c r) wh
       }
 
   -- the round is closed
-  pub close-counted : c .open? ≡ true → Counted G (closes (tookMore (c .opened) (length (children (G .last) 0)) c)) (close G r)
+  pub close-counted : c .open? ≡ true → Counted G (closes (tookMore (c .opened) (length (children (suc (G .last)) 0)) c)) (close G r)
   unfolding close
   close-counted o =
       record {
         opened = omega (arith, open-number o);
         is-open = refl;
         lvts = λ e. absurd (false≢true e);
-        took = more-in-open (length (children (G .last) 0)) o;
-        closed = λ t e. is-closed t (change? (c .opened) true (c .closed) t) (sym (same-change (c .opened) true (c .closed) t) ∙ e);
+        took = more-in-open (length (children (suc (G .last)) 0)) o;
+        closed = λ t e. is-closed t (change? (c .opened) true (c .closed) t) e;
         accepted = λ t j e. still t j (h .accepted t j e) (put? tag 0 1 (r .accepted) t j);
       }
     where
@@ -187,32 +182,31 @@ module _ (G : Graph) (c : Rounds) (r : RoundSteps.Rounds) (h : Counted G c r) wh
 
   -- gateway j takes the Update of round t
   pub update-counted : (j t v : ℕ) (rest : List RoundFrame)
-      → Counted G (accepts (suc t) j (tookMore (suc t) (length (children (G .last) j)) c)) (takeUpdate G j t v rest r)
+      → Counted G (acceptsUpdate (suc t) j (tookMore (suc t) (length (children (suc (G .last)) j)) c)) (takeUpdate G j t v rest r)
   unfolding takeUpdate
   update-counted j t v rest =
       record {
         opened = h .opened;
         is-open = h .is-open;
         lvts = h .lvts;
-        took = more-taken (c .took) written t (length (children (G .last) j)) (h .took);
+        took = more-taken (c .took) written t (length (children (suc (G .last)) j)) (h .took);
         closed = h .closed;
         accepted = λ u k e. is-accepted u k (put? t j (suc (r .accepted t j)) (r .accepted) u k) e;
       }
     where
-      was : (u k : ℕ) → (t ≡ u → j ≢ k) → Lines.change (suc t) (Lines.change j true (c .accepted (suc t))) (c .accepted) (suc u) k ≡ c .accepted (suc u) k
-      was u k n = go (change? (suc t) (Lines.change j true (c .accepted (suc t))) (c .accepted) (suc u))
+      was : (u k : ℕ) → (t ≡ u → j ≢ k) → change (suc t) (change j true (c .accepted (suc t))) (c .accepted) (suc u) k ≡ c .accepted (suc u) k
+      was u k n = go (change? (suc t) (change j true (c .accepted (suc t))) (c .accepted) (suc u))
         where
-          go : Changed (suc t) (Lines.change j true (c .accepted (suc t))) (c .accepted) (suc u)
-              → Lines.change (suc t) (Lines.change j true (c .accepted (suc t))) (c .accepted) (suc u) k ≡ c .accepted (suc u) k
+          go : Changed (suc t) (change j true (c .accepted (suc t))) (c .accepted) (suc u)
+              → change (suc t) (change j true (c .accepted (suc t))) (c .accepted) (suc u) k ≡ c .accepted (suc u) k
           go (at p e) =
-              ap (λ f. f k) (same-change (suc t) (Lines.change j true (c .accepted (suc t))) (c .accepted) (suc u) ∙ e)
-              ∙ same-change j true (c .accepted (suc t)) k
+              ap (λ f. f k) e
               ∙ change-off j true (c .accepted (suc t)) k (n (omega arith))
               ∙ ap (λ x. c .accepted x k) p
-          go (off p e) = ap (λ f. f k) (same-change (suc t) (Lines.change j true (c .accepted (suc t))) (c .accepted) (suc u) ∙ e)
+          go (off p e) = ap (λ f. f k) e
 
       is-accepted : (u k : ℕ) → Put t j (suc (r .accepted t j)) (r .accepted) u k
-          → Lines.change (suc t) (Lines.change j true (c .accepted (suc t))) (c .accepted) (suc u) k ≡ true
+          → change (suc t) (change j true (c .accepted (suc t))) (c .accepted) (suc u) k ≡ true
           → 1 ≤ put t j (suc (r .accepted t j)) (r .accepted) u k
       is-accepted u k (at p q e) d = omega arith
       is-accepted u k (off n e) d = omega (arith, h .accepted u k (sym (was u k n) ∙ d))

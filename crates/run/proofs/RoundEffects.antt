@@ -30,16 +30,17 @@ module _ (g : Gateway) where
   begun-only =
       either-only (eqb (g .settings .own + 1) (g .settings .n)) _ _ (finished-only (valueAt (leastOutstanding (g .outstanding)) g)) refl
 
-  pub start-only : (heard : List ℕ) (arrived : ℕ) → OnlyRound g (oneStart heard arrived g .gateway)
+  pub start-only : (heard : List ℕ) (arrived : ℕ) → OnlyRound g (oneStart (allBits heard) arrived g .gateway)
   unfolding oneStart
   start-only heard arrived = either-only (eqb arrived (allBits heard)) _ _ begun-only refl
 
-  pub lvt-only : (told : List ℕ) (arrived value : ℕ) → OnlyRound g (oneLvt told arrived value g .gateway)
+  pub lvt-only : (told : List ℕ) (arrived value : ℕ) → OnlyRound g (oneLvt (allBits told) arrived value g .gateway)
   unfolding oneLvt
   lvt-only told arrived value = either-only (eqb arrived (allBits told)) _ _ (finished-only value) refl
 
 module _ (g : Gateway) (v : Valid g) where
-  either-due : (b : Bool) (x y : Effect) → NoteDue (g .settings .last) (x .gateway .round) → NoteDue (g .settings .last) (y .gateway .round) → NoteDue (g .settings .last) (cond b x y .gateway .round)
+  either-due : (b : Bool) (x y : Effect) → NoteDue (g .settings .last) (x .gateway .round) → NoteDue (g .settings .last) (y .gateway .round)
+      → NoteDue (g .settings .last) (cond b x y .gateway .round)
   either-due true x y h l = h
   either-due false x y h l = l
 
@@ -51,10 +52,11 @@ module _ (g : Gateway) (v : Valid g) where
   unfolding begun
   begun-due = either-due (eqb (g .settings .own + 1) (g .settings .n)) _ _ (finished-due (valueAt (leastOutstanding (g .outstanding)) g)) (least-due g v)
 
-  pub start-due : (heard : List ℕ) (arrived : ℕ) → NoteDue (g .settings .last) (oneStart heard arrived g .gateway .round)
+  pub start-due : (heard : List ℕ) (arrived : ℕ) → NoteDue (g .settings .last) (oneStart (allBits heard) arrived g .gateway .round)
   unfolding oneStart
   start-due heard arrived = either-due (eqb arrived (allBits heard)) _ _ begun-due tt
 
-  pub lvt-due : (told : List ℕ) (arrived value : ℕ) → DueHour (g .settings .last) value → NoteDue (g .settings .last) (oneLvt told arrived value g .gateway .round)
+  pub lvt-due : (told : List ℕ) (arrived value : ℕ) → DueHour (g .settings .last) value → NoteDue (g .settings .last) (oneLvt (allBits told)
+      arrived value g .gateway .round)
   unfolding oneLvt
   lvt-due told arrived value d = either-due (eqb arrived (allBits told)) _ _ (finished-due value) d

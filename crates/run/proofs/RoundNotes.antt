@@ -2,24 +2,24 @@
 use mathlib.Core.Path.{_≡_, refl, sym, _∙_, ap}
 use mathlib.Core.List.{List, [], _∷_}
 use Prim.Native.Nat.{ℕ, _-_, _≤_}
+use Rattle.lists.specs.Families.{change}
+use Rattle.lists.proofs.FamilyLaws.{change-at}
 use Rattle.model.specs.EventOrder.{key}
 use Rattle.model.specs.declared.Message.{Message}
 use Rattle.memory.specs.Records.{Gateway}
 use Rattle.gateway.specs.Effects.{withRound, noted}
-use Rattle.timewarp.specs.Families.{change}
 use Rattle.timewarp.specs.Models.{hour, first}
 use Rattle.timewarp.specs.RoundSteps
 use Rattle.timewarp.specs.RoundSteps.{RoundFrame}
 use Rattle.timewarp.specs.Worlds.{lowerAll}
-use Rattle.timewarp.proofs.FamilyLaws.{change-at}
-use Rattle.run.specs.SingleQueue.{SetUp}
+use Rattle.run.specs.SingleQueue.{SetUpInput}
 use Rattle.run.specs.World
 use Rattle.run.proofs.ForecastModel.{forecastModel}
 use Rattle.run.proofs.EventCalls.{notedAll}
 use Rattle.run.proofs.RoundChains.{setting, change-again, change-same}
 use Rattle.run.proofs.RoundWorlds.{Alike, alike-again, alike-lowered}
 
-module _ (n : ℕ) (some : 1 ≤ n) (last : ℕ) (setups : ℕ → SetUp) (i : ℕ) (inside : i ≤ n - 1) where
+module _ (n : ℕ) (some : 1 ≤ n) (last : ℕ) (setups : ℕ → SetUpInput) (i : ℕ) (inside : i ≤ n - 1) where
   -- gateway i sends some messages, or their cancels
   pub alike-sent : (ms : List Message) (gs : ℕ → Gateway) {underWay : List RoundFrame} {c : World.Rounds} {r : RoundSteps.Rounds}
       → Alike n some (forecastModel n last setups) refl gs underWay c r
@@ -37,7 +37,8 @@ module _ (n : ℕ) (some : 1 ≤ n) (last : ℕ) (setups : ℕ → SetUp) (i : �
       g : Gateway
       g = withRound (noted (m .hour) (gs i .round)) (gs i)
 
-      same : (j : ℕ) → change i (withRound (notedAll ms (change i g gs i .round)) (change i g gs i)) (change i g gs) j ≡ change i (withRound (notedAll ms (g .round)) g) gs j
+      same : (j : ℕ) → change i (withRound (notedAll ms (change i g gs i .round)) (change i g gs i)) (change i g gs) j ≡ change i (withRound
+          (notedAll ms (g .round)) g) gs j
       same j =
           ap (λ (x : Gateway). change i (withRound (notedAll ms (x .round)) x) (change i g gs) j) (change-at i g gs i refl)
           ∙ change-again i g (withRound (notedAll ms (g .round)) g) gs j

@@ -7,20 +7,20 @@ use Prim.Native.Nat.{ℕ, suc, _+_, _-_, _≤_, min, max}
 use native.Mathlib.Omega.{arith}
 use lib.Dec.{eqb}
 use lib.ListN.{length}
+use Rattle.lists.specs.Lists.{Insert}
+use Rattle.lists.specs.Families.{change}
+use Rattle.lists.proofs.ListLaws.{all-taken, tally-insert}
+use Rattle.lists.proofs.FamilyLaws.{Changed, at, off, change?}
 use Rattle.memory.specs.Records.{Gateway}
 use Rattle.gateway.specs.Effects.{Effect, withAgreed, withRound, noted}
-use Rattle.gateway.specs.Rounds.{begun, oneStart, oneLvt, bitOf, isIdle, valueIn, frames, children}
+use Rattle.gateway.specs.Rounds.{allBits, begun, oneStart, oneLvt, bitOf, isIdle, valueIn, framesInRound}
 use Rattle.model.specs.declared.Kind.the-variants.{Update}
-use Rattle.routing.specs.Arcs.{from, to}
-use Rattle.timewarp.specs.Lists.{Insert}
-use Rattle.timewarp.specs.Families.{change}
+use Rattle.routing.specs.Arcs.{from, to, children}
 use Rattle.timewarp.specs.Models.{Model}
 use Rattle.timewarp.specs.RoundSteps
 use Rattle.timewarp.specs.RoundSteps.{RoundFrame, start, lvt, update}
 use Rattle.timewarp.specs.Worlds
 use Rattle.timewarp.specs.Worlds.{Steps, none}
-use Rattle.timewarp.proofs.FamilyLaws.{Changed, at, off, change?}
-use Rattle.timewarp.proofs.ListLaws.{all-taken, tally-insert}
 use Rattle.timewarp.proofs.RoundFrames.{startOn, both-is}
 use Rattle.timewarp.proofs.RoundArcs.{StateOf}
 use Rattle.timewarp.proofs.RoundArcs
@@ -72,7 +72,8 @@ module _ (n : ℕ) (some : 1 ≤ n) (M : Model) (equal : n - 1 ≡ M .last) wher
     entering a =
         record {
           steps = none;
-          standing = λ j l. subst (StandingAt (figureGraph n some) (w .rounds .status) (w .rounds .mark) (w .rounds .arrived) j) (sym (change-same i (λ m. gs m .round) j)) (a .standing j l);
+          standing = λ j l. subst (StandingAt (figureGraph n some) (w .rounds .status) (w .rounds .mark) (w .rounds .arrived) j) (sym
+              (change-same i (λ m. gs m .round) j)) (a .standing j l);
           agreed = λ j l. change-same i (λ m. gs m .agreed) j ∙ a .agreed j l;
           counted = a .counted;
           unfinished = a .unfinished;
@@ -90,7 +91,8 @@ module _ (n : ℕ) (some : 1 ≤ n) (M : Model) (equal : n - 1 ≡ M .last) wher
           let a = of-start (all-taken y (k .rounds-sound .carried)) .0 in
           open-by j (omega (arith, figureGraph n some .upward j i a)) (begins y (k .rounds-sound .arcs j i a))
         where
-          begins : Insert (start j i t) rest (w .rounds .frames) → StateOf (figureGraph n some) (w .rounds .status) (w .rounds .mark) (w .rounds .arrived) (w .rounds .frames) j i → 1 ≤ w .rounds .status j
+          begins : Insert (start j i t) rest (w .rounds .frames) → StateOf (figureGraph n some) (w .rounds .status) (w .rounds .mark)
+              (w .rounds .arrived) (w .rounds .frames) j i → 1 ≤ w .rounds .status j
           begins y (RoundArcs.fresh p) = omega (arith, tally-insert (startOn j i) y, both-is j i j i refl refl)
           begins y (RoundArcs.begun p) = omega arith
           begins y (RoundArcs.back p) = omega arith
@@ -112,7 +114,8 @@ module _ (n : ℕ) (some : 1 ≤ n) (M : Model) (equal : n - 1 ≡ M .last) wher
           steps = d .now .steps;
           alike =
               record {
-                standing = λ j l. subst (StandingAt (figureGraph n some) (r .status) (r .mark) (r .arrived) j) (change-seen (λ g. g .round) i (e .gateway) gs j) (d .now .standing j l);
+                standing = λ j l. subst (StandingAt (figureGraph n some) (r .status) (r .mark) (r .arrived) j) (change-seen (λ g. g .round)
+                    i (e .gateway) gs j) (d .now .standing j l);
                 agreed = λ j l. sym (change-seen (λ g. g .agreed) i (e .gateway) gs j) ∙ d .now .agreed j l;
                 counted = d .now .counted;
                 unfinished = d .now .unfinished;
@@ -128,31 +131,39 @@ module _ (n : ℕ) (some : 1 ≤ n) (M : Model) (equal : n - 1 ≡ M .last) wher
       pub start-led : i ≡ 0 → isIdle (gs i .round .phase) ≡ true
           → Led w gs i (begun (gs i)) (underWay ++ roundsOf (w .rounds .tag) (begun (gs i) .frames))
           (let took = World.tookMore (World.opens c .opened) (length (begun (gs i) .frames)) (World.opens c) in cond (eqb n 1) (World.closes took) took)
-      start-led z idles = rw (h .frames) (leaving (RoundCalls.start-done n some M equal w k (λ j. gs j .round) (λ j. gs j .agreed) i inside a (entering h) z idles))
+      start-led z idles = rw (h .frames) (leaving (RoundCalls.start-done n some M equal w k (λ j. gs j .round) (λ j. gs j .agreed) i inside
+          a (entering h) z idles))
 
       -- taking a Start
       pub start-taken-led : (j t : ℕ) (rest : List RoundFrame) → Insert (start j i t) rest underWay
           → let heard = from (gs i .settings .n) (gs i .settings .own) in
-          let e = oneStart heard (gs i .round .arrived + bitOf j heard) (gs i) in
+          let e = oneStart (allBits heard) (gs i .round .arrived + bitOf j heard) (gs i) in
           Led w gs i e (rest ++ roundsOf (w .rounds .tag) (e .frames)) (World.tookMore (c .opened) (length (e .frames)) c)
       start-taken-led j t rest x =
-          leaving (RoundCalls.start-taken n some M equal w k (λ m. gs m .round) (λ m. gs m .agreed) i inside a (entering h) j t rest (subst (Insert (start j i t) rest) (h .frames) x))
+          leaving (RoundCalls.start-taken n some M equal w k (λ m. gs m .round) (λ m. gs m .agreed) i inside a (entering h) j t rest (subst
+          (Insert (start j i t) rest) (h .frames) x))
 
       -- taking an Lvt
       pub lvt-taken-led : (j t v : ℕ) (rest : List RoundFrame) → Insert (lvt j i t v) rest underWay
           → let told = to (gs i .settings .n) (gs i .settings .own) in
-          let e = oneLvt told (gs i .round .arrived + bitOf j told) (min (valueIn (gs i .round .phase) (gs i)) v) (gs i) in
+          let e = oneLvt (allBits told) (gs i .round .arrived + bitOf j told) (min (valueIn (gs i .round .phase) (gs i)) v) (gs i) in
           let took = World.tookMore (c .opened) (length (e .frames)) c in
-          Led w gs i e (rest ++ roundsOf (w .rounds .tag) (e .frames)) (cond (eqb i 0) (World.oneLvt n took) took)
+          Led w gs i e (rest ++ roundsOf (w .rounds .tag) (e .frames)) (cond (eqb i 0) (World.acceptsLvt n took) took)
       lvt-taken-led j t v rest x =
-          leaving (RoundCalls.lvt-taken n some M equal w k (λ m. gs m .round) (λ m. gs m .agreed) i inside a (entering h) j t v rest (subst (Insert (lvt j i t v) rest) (h .frames) x))
+          leaving (RoundCalls.lvt-taken n some M equal w k (λ m. gs m .round) (λ m. gs m .agreed) i inside a (entering h) j t v rest (subst
+          (Insert (lvt j i t v) rest) (h .frames) x))
 
       -- taking an Update
       pub update-taken-led : (j t v : ℕ) (rest : List RoundFrame) → Insert (update j i t v) rest underWay
-          → let e : Effect = record { gateway = withAgreed (max (gs i .agreed) v) (gs i); frames = frames Update v (gs i .settings .own) (children (gs i .settings)) } in
-          Led w gs i e (rest ++ roundsOf t (e .frames)) (World.accepts (suc t) i (World.tookMore (suc t) (length (e .frames)) c))
+          → let e : Effect = record {
+            gateway = withAgreed (max (gs i .agreed) v) (gs i);
+            frames = framesInRound Update v (gs
+                i .settings .own) (children (gs i .settings .n) (gs i .settings .own));
+          } in
+          Led w gs i e (rest ++ roundsOf t (e .frames)) (World.acceptsUpdate (suc t) i (World.tookMore (suc t) (length (e .frames)) c))
       update-taken-led j t v rest x =
-          leaving (RoundCalls.update-taken n some M equal w k (λ m. gs m .round) (λ m. gs m .agreed) i inside a (entering h) j t v rest (subst (Insert (update j i t v) rest) (h .frames) x))
+          leaving (RoundCalls.update-taken n some M equal w k (λ m. gs m .round) (λ m. gs m .agreed) i inside a (entering h) j t v rest
+          (subst (Insert (update j i t v) rest) (h .frames) x))
 
   -- only the rounds and the agreed times of the gateways matter
   pub alike-again : {gs : ℕ → Gateway} {underWay : List RoundFrame} {c : World.Rounds} {r : RoundSteps.Rounds} (hs : ℕ → Gateway)
@@ -172,8 +183,11 @@ module _ (n : ℕ) (some : 1 ≤ n) (M : Model) (equal : n - 1 ≡ M .last) wher
   unfolding RoundSteps.lower noted
   alike-lowered {gs} {c = c} {r = r} i t l a =
       record {
-        standing = λ j m. subst (StandingAt (figureGraph n some) (r .status) (RoundSteps.lower i t r .mark) (r .arrived) j) (change-seen (λ g. g .round) i (withRound (noted t (gs i .round)) (gs i)) gs j) (lower-standings (figureGraph n some) (r .status) (r .mark) (r .arrived) (λ j. gs j .round) (a .standing) i t l j m);
-        agreed = λ j m. sym (change-seen (λ g. g .agreed) i (withRound (noted t (gs i .round)) (gs i)) gs j) ∙ change-same i (λ j. gs j .agreed) j ∙ a .agreed j m;
+        standing = λ j m. subst (StandingAt (figureGraph n some) (r .status) (RoundSteps.lower i t r .mark) (r .arrived) j) (change-seen (λ
+            g. g .round) i (withRound (noted t (gs i .round)) (gs i)) gs j) (lower-standings (figureGraph n some) (r .status) (r .mark)
+            (r .arrived) (λ j. gs j .round) (a .standing) i t l j m);
+        agreed = λ j m. sym (change-seen (λ g. g .agreed) i (withRound (noted t (gs i .round)) (gs i)) gs j) ∙ change-same i (λ j. gs
+            j .agreed) j ∙ a .agreed j m;
         counted = lower-counted (figureGraph n some) c r (a .counted) i t;
         unfinished = a .unfinished;
         frames = a .frames;

@@ -7,6 +7,9 @@ use mathlib.Core.List.{List}
 use lib.Dec.{eqb}
 use lib.ListN.{length}
 use borrow.Author.Tests.{eqb-true, lt-leb}
+use Rattle.lists.specs.Lists.{any, All}
+use Rattle.lists.specs.Families.{change}
+use Rattle.lists.proofs.ListLaws.{all-map}
 use Rattle.buffer.specs.Slice.{Bytes}
 use Rattle.model.specs.Messages.{kindNumber}
 use Rattle.model.specs.declared.Message.{Message}
@@ -20,18 +23,13 @@ use Rattle.memory.specs.declared.Settings.{Settings}
 use Rattle.memory.proofs.Validated.{Valid, valid-facts}
 use Rattle.gateway.specs.Effects.{Outcome, withAgreed, withRound}
 use Rattle.gateway.specs.Rounds.{start}
-use Rattle.gateway.specs.Taking.{any}
 use Rattle.gateway.specs.Calls.{started, taken, takeBytes}
 use Rattle.gateway.specs.Claims.{SoundBytes}
 use Rattle.gateway.proofs.Keeps.{start-keeps, bytes-keep}
-use Rattle.timewarp.specs.Lists.{All}
 use Rattle.timewarp.specs.Models.{hour}
-use Rattle.timewarp.specs.Families as Families
 use Rattle.timewarp.specs.Worlds as Worlds
-use Rattle.timewarp.proofs.ListLaws.{all-map}
 use Rattle.timewarp.proofs.CallChains.{steps-join}
-use Rattle.run.specs.Lines.{change}
-use Rattle.run.specs.SingleQueue.{SetUp}
+use Rattle.run.specs.SingleQueue.{SetUpInput}
 use Rattle.run.specs.World.{World, Carried, Rounds, kindIn, framesIn, isFrame, takenBySense, afterStarting, afterTaking}
 use Rattle.run.proofs.QueueViews.{viewOf}
 use Rattle.run.proofs.LeastHours.{least-outstanding, least-queued}
@@ -48,7 +46,8 @@ use Rattle.run.proofs.PassingFrames.{Passing, same-passing}
 use Rattle.run.proofs.BesideCalls.{change-self}
 use Rattle.run.proofs.BothWorlds.{model, forecastSetting, gatewaysIn, Both, Keeps, good-world, proper}
 
-module _ (n : ℕ) (some : 1 ≤ n) (last : ℕ) (setups : ℕ → SetUp) {w : World} {t : Worlds.World (forecastSetting n some last setups)} (b : Both n some last setups w t) (i : ℕ) (h : i < n) where
+module _ (n : ℕ) (some : 1 ≤ n) (last : ℕ) (setups : ℕ → SetUpInput) {w : World} {t : Worlds.World (forecastSetting n some last setups)} (b
+    : Both n some last setups w t) (i : ℕ) (h : i < n) where
   abbrev inside : i ≤ n - 1
   inside = omega arith
 
@@ -86,7 +85,8 @@ module _ (n : ℕ) (some : 1 ≤ n) (last : ℕ) (setups : ℕ → SetUp) {w : W
     sound-at j k false = b .bytes j k
 
     view-at : (j : ℕ) → j < n → (x : Bool) → eqb i j ≡ x
-        → t .events .gateways j ≡ viewOf (b .beside .done j) (decode (cond x memory (w .memories j)) .queue) (decode (cond x memory (w .memories j)) .outstanding)
+        → t .events .gateways j ≡ viewOf (b .beside .done j) (decode (cond x memory (w .memories j)) .queue) (decode (cond x memory
+        (w .memories j)) .outstanding)
     view-at j k true e =
         subst (λ (m : ℕ). t .events .gateways m ≡ viewOf (b .beside .done m) (decode memory .queue) (decode memory .outstanding)) (eqb-true i j e)
         (b .beside .views i h ∙ sym (ap (λ (g : Gateway). viewOf (b .beside .done i) (g .queue) (g .outstanding)) next))
@@ -115,8 +115,8 @@ module _ (n : ℕ) (some : 1 ≤ n) (last : ℕ) (setups : ℕ → SetUp) {w : W
     stands-at j k true e = subst (λ (m : ℕ). Stands n last setups m (b .beside .done m) (decode memory)) (eqb-true i j e) stands-here
     stands-at j k false e = b .stands j k
 
-    same-gateways : (j : ℕ) → Families.change i (goes .effect .gateway) gs j ≡ decode (change i memory (w .memories) j)
-    unfolding Families.change change
+    same-gateways : (j : ℕ) → change i (goes .effect .gateway) gs j ≡ decode (change i memory (w .memories) j)
+    unfolding change
     same-gateways j = by-case (eqb i j)
       where
         by-case : (x : Bool) → cond x (goes .effect .gateway) (gs j) ≡ decode (cond x memory (w .memories j))
@@ -155,7 +155,8 @@ module _ (n : ℕ) (some : 1 ≤ n) (last : ℕ) (setups : ℕ → SetUp) {w : W
                       is-sound = λ j k. sound-at j k (eqb i j) .is-sound;
                       views = λ j k. view-at j k (eqb i j) refl;
                       network = b .beside .network ∙ sym (goes .network);
-                      times = λ j k. sym (alike-after .agreed j (omega arith)) ∙ sym (agreed-read (cond (eqb i j) memory (w .memories j)) (sound-at j k (eqb i j) .is-sound));
+                      times = λ j k. sym (alike-after .agreed j (omega arith)) ∙ sym (agreed-read (cond (eqb i j) memory (w .memories j))
+                          (sound-at j k (eqb i j) .is-sound));
                       gateway-times = λ j k. sym (agreed-read (cond (eqb i j) memory (w .memories j)) (sound-at j k (eqb i j) .is-sound));
                       records = b .beside .records;
                       ledgers = λ j k. ledger-at j k (eqb i j) refl;
@@ -183,7 +184,8 @@ module _ (n : ℕ) (some : 1 ≤ n) (last : ℕ) (setups : ℕ → SetUp) {w : W
       (started-goes n some (model n some last setups) refl t (good-world n some last setups b) w i inside called (b .rounds) valid note-due output z)
 
   -- a frame of a round that is under way
-  module _ (frame output : List ℕ) (bytes : Bytes frame) (z : taken (w .memories i) frame output .answer .number ≡ 0) (found : any (isFrame frame) (w .underWay) ≡ true)
+  module _ (frame output : List ℕ) (bytes : Bytes frame) (z : taken (w .memories i) frame output .answer .number ≡ 0) (found : any (isFrame
+      frame) (w .underWay) ≡ true)
       (plain : reading frame .frame .sense ≡ Plain) (large : 4 ≤ kindIn frame) where
     abbrev m : Message
     m = reading frame .frame .message
@@ -193,16 +195,20 @@ module _ (n : ℕ) (some : 1 ≤ n) (last : ℕ) (setups : ℕ → SetUp) {w : W
 
     abbrev GoesLater : Type 0
     GoesLater =
-        Goes n some (model n some last setups) refl t (good-world n some last setups b) w i inside (takeBytes frame (length output) (gs i)) (later .underWay) (later .rounds)
+        Goes n some (model n some last setups) refl t (good-world n some last setups b) w i inside (takeBytes frame (length output) (gs i))
+        (later .underWay) (later .rounds)
 
     by-kind : (kind : Kind) → m .kind ≡ kind → GoesLater
     by-kind (Failure origin) e = absurd (omega (arith, ap kindNumber e))
     by-kind (Request origin) e = absurd (omega (arith, ap kindNumber e))
     by-kind (Delivery origin) e = absurd (omega (arith, ap kindNumber e))
     by-kind (Restock quantity) e = absurd (omega (arith, ap kindNumber e))
-    by-kind Start e = start-goes n some (model n some last setups) refl t (good-world n some last setups b) w i inside called (b .rounds) valid note-due frame output z found plain e
-    by-kind Lvt e = lvt-goes n some (model n some last setups) refl t (good-world n some last setups b) w i inside called (b .rounds) valid note-due frame output z found plain e
-    by-kind Update e = update-goes n some (model n some last setups) refl t (good-world n some last setups b) w i inside called (b .rounds) valid note-due frame output z found plain e (b .numbered)
+    by-kind Start e = start-goes n some (model n some last setups) refl t (good-world n some last setups b) w i inside called (b .rounds)
+        valid note-due frame output z found plain e
+    by-kind Lvt e = lvt-goes n some (model n some last setups) refl t (good-world n some last setups b) w i inside called (b .rounds) valid
+        note-due frame output z found plain e
+    by-kind Update e = update-goes n some (model n some last setups) refl t (good-world n some last setups b) w i inside called (b .rounds)
+        valid note-due frame output z found plain e (b .numbered)
 
     -- it leaves the ledger
     ledger-left : takenBySense m (reading frame .frame .sense) (w .ledgers i) ≡ w .ledgers i

@@ -7,7 +7,9 @@ use native.Mathlib.Omega.{arith}
 use lib.Dec.{eqb, leb}
 use lib.ListN.{length}
 use borrow.Author.Tests.{le-leb}
-use Rattle.routing.specs.Arcs.{from, to}
+use Rattle.lists.specs.Lists.{any, withoutFirst, All}
+use Rattle.lists.proofs.ListLaws.{all-every}
+use Rattle.routing.specs.Arcs.{from, to, children}
 use Rattle.model.specs.Messages.{kindNumber}
 use Rattle.model.specs.declared.Message.{Message}
 use Rattle.model.specs.declared.Kind.the-variants.{Start, Lvt, Update}
@@ -22,18 +24,15 @@ use Rattle.memory.specs.Codec.{decode}
 use Rattle.memory.specs.declared.Settings.{Settings}
 use Rattle.memory.proofs.Validated.{Valid}
 use Rattle.gateway.specs.Effects.{Effect, Outcome, withAgreed}
-use Rattle.gateway.specs.Rounds.{start, begun, isIdle, oneStart, oneLvt, bitOf, valueIn, frames, children}
-use Rattle.gateway.specs.Taking.{any, withoutFirst}
+use Rattle.gateway.specs.Rounds.{allBits, start, begun, isIdle, oneStart, oneLvt, bitOf, valueIn, framesInRound}
 use Rattle.gateway.specs.Calls.{started, taken, takeBytes}
 use Rattle.gateway.proofs.Accepting.{not-refused}
-use Rattle.timewarp.specs.Lists.{All}
 use Rattle.timewarp.specs.Models.{Model}
 use Rattle.timewarp.specs.Gateways.{Event, networkOf}
 use Rattle.timewarp.specs.RoundSteps
 use Rattle.timewarp.specs.RoundSteps.{RoundFrame}
 use Rattle.timewarp.specs.Worlds
 use Rattle.timewarp.proofs.Joined.{Good}
-use Rattle.timewarp.proofs.ListLaws.{all-every}
 use Rattle.run.specs.World
 use Rattle.run.specs.World.{Carried, kindIn, framesIn, isFrame, tagOf, carry, roundFrames, afterStarting, afterTaking}
 use Rattle.run.proofs.FigureGraph.{figureGraph}
@@ -54,7 +53,8 @@ use Rattle.run.proofs.DueHours.{DueHour, NoteDue, due-min, value-in-due
 use Rattle.run.proofs.PassingFrames.{Passing}
 
 -- frames of a round are put under way: the network is what it was
-carried-network : {x : Settings} {open? : Bool} {fs : List Frame} → Sendable x open? fs → (tag : ℕ) (cs : List Carried) → networkIn (carry tag (map written fs) cs) ≡ networkIn cs
+carried-network : {x : Settings} {open? : Bool} {fs : List Frame} → Sendable x open? fs → (tag : ℕ) (cs : List Carried) → networkIn (carry
+    tag (map written fs) cs) ≡ networkIn cs
 carried-network {fs = fs} s tag cs =
     let unseen : (see : Frame → List (Event Message)) → All (λ f. see f ≡ []) fs → seenIn see (carry tag (map written fs) cs) ≡ seenIn see cs =
     λ see a. seen-carried see tag fs (s .readable) cs ∙ ap (λ l. seenIn see cs ++ l) (none-seen see a) ∙ append-nil (seenIn see cs) in
@@ -80,7 +80,8 @@ module _ (n : ℕ) (some : 1 ≤ n) (M : Model) (equal : n - 1 ≡ M .last) (w :
     pub passing : All Passes (v .underWay) → All Passes cs
     pub note : NoteDue (gs i .settings .last) (effect .gateway .round)
 
-  led-again : {e : Effect} {fs fs′ : List RoundFrame} {c c′ : World.Rounds} → fs ≡ fs′ → c ≡ c′ → Led n some M equal w gs i e fs c → Led n some M equal w gs i e fs′ c′
+  led-again : {e : Effect} {fs fs′ : List RoundFrame} {c c′ : World.Rounds} → fs ≡ fs′ → c ≡ c′ → Led n some M equal w gs i e fs c → Led n
+      some M equal w gs i e fs′ c′
   led-again {e} {fs} {fs′} {c} {c′} p q l = subst (λ x. Led n some M equal w gs i e x c′) p (subst (Led n some M equal w gs i e fs) q l)
 
   module _ (a : Called n some M equal w k gs i inside) (alike : Alike n some M equal gs (roundsIn (v .underWay)) (v .rounds) (w .rounds))
@@ -112,7 +113,8 @@ module _ (n : ℕ) (some : 1 ≤ n) (M : Model) (equal : n - 1 ≡ M .last) (w :
             only = begun-only (gs i);
             led =
                 led-again
-                (sym (ap roundsIn carried ∙ ap (λ (t : ℕ). roundsIn (carry (suc t) (map written (e .frames)) (v .underWay))) shut ∙ rounds-carried (w .rounds .tag) (e .frames) (s .readable) (v .underWay)))
+                (sym (ap roundsIn carried ∙ ap (λ (t : ℕ). roundsIn (carry (suc t) (map written (e .frames)) (v .underWay))) shut ∙
+                rounds-carried (w .rounds .tag) (e .frames) (s .readable) (v .underWay)))
                 (sym (ap (λ xs. counters (roundFrames true xs)) cut ∙ ap counters (frames-counted true (s .readable) (s .counting))))
                 (start-led n some M equal w k gs i inside a alike z idles);
             network = ap networkIn carried ∙ carried-network s (suc (v .rounds .opened)) (v .underWay);
@@ -175,13 +177,14 @@ module _ (n : ℕ) (some : 1 ≤ n) (M : Model) (equal : n - 1 ≡ M .last) (w :
       cut e same s = call-frames (takeBytes frame) (v .memories i) output e h same (s .whole)
 
       -- A Start or an Lvt belongs to the open round.
-      module _ (e : Effect) (same : outcome ≡ outcomeOf e) (only : OnlyRound (gs i) (e .gateway)) (due : NoteDue (gs i .settings .last) (e .gateway .round)) (s : Sendable (gs i .settings) true (e .frames)) (is-open : v .rounds .open? ≡ true)
+      module _ (e : Effect) (same : outcome ≡ outcomeOf e) (only : OnlyRound (gs i) (e .gateway)) (due : NoteDue (gs i .settings .last)
+          (e .gateway .round)) (s : Sendable (gs i .settings) true (e .frames)) (is-open : v .rounds .open? ≡ true)
           (other : eqb (kindIn frame) 6 ≡ false) (none : plainByKind m (m .kind) ≡ []) where
         -- the counters after c frames are written
         abbrev openCounters : ℕ → World.Rounds
         openCounters c =
             let took = World.tookMore (v .rounds .opened) c (v .rounds) in
-            cond (eqb (kindIn frame) 5 && eqb i 0) (World.oneLvt n took) took
+            cond (eqb (kindIn frame) 5 && eqb i 0) (World.acceptsLvt n took) took
 
         after-carried : after .underWay ≡ carry (v .rounds .opened) (map written (e .frames)) rest
         unfolding afterTaking
@@ -194,7 +197,8 @@ module _ (n : ℕ) (some : 1 ≤ n) (M : Model) (equal : n - 1 ≡ M .last) (w :
         opened : v .rounds .opened ≡ suc (w .rounds .tag)
         opened = open-number (figureGraph n some) (v .rounds) (w .rounds) (alike .counted) is-open
 
-        open-goes : Led n some M equal w gs i e (roundsIn rest ++ roundsOf (w .rounds .tag) (e .frames)) (openCounters (length (e .frames))) → Goes outcome (after .underWay) (after .rounds)
+        open-goes : Led n some M equal w gs i e (roundsIn rest ++ roundsOf (w .rounds .tag) (e .frames)) (openCounters (length (e .frames)))
+            → Goes outcome (after .underWay) (after .rounds)
         open-goes led =
             record {
               effect = e;
@@ -202,7 +206,8 @@ module _ (n : ℕ) (some : 1 ≤ n) (M : Model) (equal : n - 1 ≡ M .last) (w :
               only = only;
               led =
                   led-again
-                  (sym (ap roundsIn after-carried ∙ ap (λ (t : ℕ). roundsIn (carry t (map written (e .frames)) rest)) opened ∙ rounds-carried (w .rounds .tag) (e .frames) (s .readable) rest))
+                  (sym (ap roundsIn after-carried ∙ ap (λ (t : ℕ). roundsIn (carry t (map written (e .frames)) rest)) opened ∙
+                  rounds-carried (w .rounds .tag) (e .frames) (s .readable) rest))
                   (sym after-counted)
                   led;
               network = ap networkIn after-carried ∙ carried-network s (v .rounds .opened) rest ∙ rest-network none;
@@ -220,8 +225,9 @@ module _ (n : ℕ) (some : 1 ≤ n) (M : Model) (equal : n - 1 ≡ M .last) (w :
       pub start-goes : m .kind ≡ Start → Goes outcome (after .underWay) (after .rounds)
       start-goes is =
           let heard = from (gs i .settings .n) (gs i .settings .own) in
-          let e = oneStart heard (gs i .round .arrived + bitOf (m .from) heard) (gs i) in
-          let x = round-taken frame (v .underWay) found (RoundSteps.start (m .from) i t) (ap (byKind t m) is ∙ ap (λ (j : ℕ). RoundSteps.start (m .from) j t ∷ []) addressed) in
+          let e = oneStart (allBits heard) (gs i .round .arrived + bitOf (m .from) heard) (gs i) in
+          let x = round-taken frame (v .underWay) found (RoundSteps.start (m .from) i t) (ap (byKind t m) is ∙ ap (λ (j : ℕ).
+          RoundSteps.start (m .from) j t ∷ []) addressed) in
           let kind = ap kindNumber is in
           open-goes e (start-bytes frame (length output) (gs i) plain number is)
           (start-only (gs i) heard (gs i .round .arrived + bitOf (m .from) heard))
@@ -238,8 +244,9 @@ module _ (n : ℕ) (some : 1 ≤ n) (M : Model) (equal : n - 1 ≡ M .last) (w :
           let told = to (gs i .settings .n) (gs i .settings .own) in
           let value = min (valueIn (gs i .round .phase) (gs i)) (m .hour) in
           let due = due-min (value-in-due (gs i) valid (gs i .round .phase) noted) (hour-due (omega (arith, ap kindNumber is))) in
-          let e = oneLvt told (gs i .round .arrived + bitOf (m .from) told) value (gs i) in
-          let x = round-taken frame (v .underWay) found (RoundSteps.lvt (m .from) i t (m .hour)) (ap (byKind t m) is ∙ ap (λ (j : ℕ). RoundSteps.lvt (m .from) j t (m .hour) ∷ []) addressed) in
+          let e = oneLvt (allBits told) (gs i .round .arrived + bitOf (m .from) told) value (gs i) in
+          let x = round-taken frame (v .underWay) found (RoundSteps.lvt (m .from) i t (m .hour)) (ap (byKind t m) is ∙ ap (λ (j : ℕ).
+          RoundSteps.lvt (m .from) j t (m .hour) ∷ []) addressed) in
           let kind = ap kindNumber is in
           open-goes e (lvt-bytes frame (length output) (gs i) plain number is)
           (lvt-only (gs i) told (gs i .round .arrived + bitOf (m .from) told) value)
@@ -256,15 +263,21 @@ module _ (n : ℕ) (some : 1 ≤ n) (M : Model) (equal : n - 1 ≡ M .last) (w :
         unfolding afterTaking
         update-carried = rw (is, cut e same s) refl
 
-        update-counted : after .rounds ≡ World.accepts (tagOf frame (v .underWay)) i (World.tookMore (tagOf frame (v .underWay)) (length (e .frames)) (v .rounds))
+        update-counted : after .rounds ≡ World.acceptsUpdate (tagOf frame (v .underWay)) i (World.tookMore (tagOf frame (v .underWay))
+            (length (e .frames)) (v .rounds))
         unfolding afterTaking
         update-counted = rw (is, cut e same s, frames-counted (v .rounds .open?) (s .readable) (s .counting)) refl
 
       -- taking an Update
       pub update-goes : m .kind ≡ Update → All Numbered (v .underWay) → Goes outcome (after .underWay) (after .rounds)
       update-goes is numbered =
-          let e : Effect = record { gateway = withAgreed (max (gs i .agreed) (m .hour)) (gs i); frames = frames Update (m .hour) (gs i .settings .own) (children (gs i .settings)) } in
-          let x = round-taken frame (v .underWay) found (RoundSteps.update (m .from) i t (m .hour)) (ap (byKind t m) is ∙ ap (λ (j : ℕ). RoundSteps.update (m .from) j t (m .hour) ∷ []) addressed) in
+          let e : Effect = record {
+            gateway = withAgreed (max (gs i .agreed) (m .hour)) (gs i);
+            frames = framesInRound Update (m .hour) (gs
+                i .settings .own) (children (gs i .settings .n) (gs i .settings .own));
+          } in
+          let x = round-taken frame (v .underWay) found (RoundSteps.update (m .from) i t (m .hour)) (ap (byKind t m) is ∙ ap (λ (j : ℕ).
+          RoundSteps.update (m .from) j t (m .hour) ∷ []) addressed) in
           let same = update-bytes frame (length output) (gs i) plain number is in
           let s = relayed-sendable (gs i .settings) (valid .settings) (v .rounds .open?) (m .hour) (hour-due (omega (arith, ap kindNumber is))) in
           let kind = ap kindNumber is in
@@ -276,8 +289,9 @@ module _ (n : ℕ) (some : 1 ≤ n) (M : Model) (equal : n - 1 ≡ M .last) (w :
             only = refl;
             led =
                 led-again
-                (sym (ap roundsIn carried ∙ ap (λ (u : ℕ). roundsIn (carry u (map written (e .frames)) rest)) tag ∙ rounds-carried t (e .frames) (s .readable) rest))
-                (sym (update-counted e same s is ∙ ap (λ (u : ℕ). World.accepts u i (World.tookMore u (length (e .frames)) (v .rounds))) tag))
+                (sym (ap roundsIn carried ∙ ap (λ (u : ℕ). roundsIn (carry u (map written (e .frames)) rest)) tag ∙ rounds-carried t
+                (e .frames) (s .readable) rest))
+                (sym (update-counted e same s is ∙ ap (λ (u : ℕ). World.acceptsUpdate u i (World.tookMore u (length (e .frames)) (v .rounds))) tag))
                 (update-taken-led n some M equal w k gs i inside a alike (m .from) t (m .hour) (roundsIn rest) x);
             network = ap networkIn carried ∙ carried-network s (tagOf frame (v .underWay)) rest ∙ rest-network (ap (plainByKind m) is);
             numbered =

@@ -2,9 +2,10 @@
 use mathlib.Core.Path.{_≡_, refl, sym, _∙_, ap, subst}
 use mathlib.Core.Bool.{Bool, true, false, cond, _||_, false≢true}
 use mathlib.Core.List.{List, [], _∷_, _++_, map, append-assoc}
-use Prim.Native.Nat.{ℕ, suc, _+_, _*_, _-_, _≤_}
+use Prim.Native.Nat.{ℕ, suc, _+_, _-_, _≤_}
 use native.Mathlib.Omega.{arith}
-use lib.Dec.{leb, ltb, leb·suc-suc}
+use Rattle.lists.specs.Lists.{any, withoutFirst, All, nil, cons, Insert, here, there}
+use Rattle.lists.proofs.ListLaws.{all-append, all-image}
 use Rattle.model.specs.declared.Message.{Message}
 use Rattle.model.specs.declared.Kind.{Kind}
 use Rattle.model.specs.declared.Kind.the-variants.{Failure, Request, Delivery, Restock, Start, Lvt, Update}
@@ -12,13 +13,9 @@ use Rattle.frame.specs.Reasons.{reading}
 use Rattle.frame.specs.Writing.{written}
 use Rattle.frame.specs.declared.Frame.{Frame}
 use Rattle.buffer.proofs.Equality.{same-bytes}
-use Rattle.memory.specs.declared.Settings.{Settings}
-use Rattle.gateway.specs.Taking.{any, withoutFirst}
-use Rattle.gateway.specs.Rounds.{frames, children}
-use Rattle.timewarp.specs.Lists.{All, nil, cons, Insert, here, there}
+use Rattle.gateway.specs.Rounds.{framesInRound}
 use Rattle.timewarp.specs.Arcs
 use Rattle.timewarp.specs.RoundSteps.{RoundFrame, start, lvt, update}
-use Rattle.timewarp.proofs.ListLaws.{all-append, all-image}
 use Rattle.run.specs.World.{Carried, isFrame, tagOf, carry, kindIn}
 
 -- a frame of round t as a frame of the theory, if it is one of a round
@@ -71,31 +68,20 @@ rounds-carried t fs a cs =
     rounds-append cs (map (tagged (suc t)) (map written fs)) ∙ ap (λ l. roundsIn cs ++ l) (rounds-written t fs a)
 
 -- Starts, Lvts and Updates to some gateways
-pub starts-are : (t hour i : ℕ) (l : List ℕ) → roundsOf t (frames Start hour i l) ≡ map (λ j. start i j t) l
+pub starts-are : (t hour i : ℕ) (l : List ℕ) → roundsOf t (framesInRound Start hour i l) ≡ map (λ j. start i j t) l
 unfolding roundsOf
 starts-are t hour i [] = refl
 starts-are t hour i (j ∷ l) = ap (λ k. start i j t ∷ k) (starts-are t hour i l)
 
-pub lvts-are : (t hour i : ℕ) (l : List ℕ) → roundsOf t (frames Lvt hour i l) ≡ map (λ j. lvt i j t hour) l
+pub lvts-are : (t hour i : ℕ) (l : List ℕ) → roundsOf t (framesInRound Lvt hour i l) ≡ map (λ j. lvt i j t hour) l
 unfolding roundsOf
 lvts-are t hour i [] = refl
 lvts-are t hour i (j ∷ l) = ap (λ k. lvt i j t hour ∷ k) (lvts-are t hour i l)
 
-pub updates-are : (t hour i : ℕ) (l : List ℕ) → roundsOf t (frames Update hour i l) ≡ map (λ j. update i j t hour) l
+pub updates-are : (t hour i : ℕ) (l : List ℕ) → roundsOf t (framesInRound Update hour i l) ≡ map (λ j. update i j t hour) l
 unfolding roundsOf
 updates-are t hour i [] = refl
 updates-are t hour i (j ∷ l) = ap (λ k. update i j t hour ∷ k) (updates-are t hour i l)
-
--- the gateways that an Update goes on to
-pub same-children : (s : Settings) → 1 ≤ s .n → children s ≡ Arcs.children (s .n - 1) (s .own)
-unfolding children Arcs.children Arcs.ifGateway
-same-children s some =
-    rw (test (2 * s .own + 1), test (2 * s .own + 2)) refl
-  where
-    test : (k : ℕ) → ltb k (s .n) ≡ leb k (s .n - 1)
-    test k =
-        let e : suc (s .n - 1) ≡ s .n = omega arith in
-        subst (λ (m : ℕ). leb (suc k) m ≡ leb k (s .n - 1)) e (leb·suc-suc k (s .n - 1))
 
 -- the oldest equal frame under way, taken out
 pub round-taken : (frame : List ℕ) (cs : List Carried) → any (isFrame frame) cs ≡ true → (f : RoundFrame)
@@ -109,7 +95,8 @@ round-taken frame (c ∷ cs) h f e = go (isFrame frame c) refl (λ k d. round-ta
     others (g ∷ l) x = there (others l x)
 
     go : (b : Bool) → isFrame frame c ≡ b
-        → (any (isFrame frame) cs ≡ true → roundOf (tagOf frame cs - 1) (reading frame .frame) ≡ f ∷ [] → Insert f (roundsIn (withoutFirst (isFrame frame) cs)) (roundsIn cs))
+        → (any (isFrame frame) cs ≡ true → roundOf (tagOf frame cs - 1) (reading frame .frame) ≡ f ∷ [] → Insert f (roundsIn (withoutFirst
+        (isFrame frame) cs)) (roundsIn cs))
         → (b || any (isFrame frame) cs) ≡ true
         → roundOf (cond b (c .tag) (tagOf frame cs) - 1) (reading frame .frame) ≡ f ∷ []
         → Insert f (roundsIn (cond b cs (c ∷ withoutFirst (isFrame frame) cs))) (roundOf (c .tag - 1) (reading (c .frame) .frame) ++ roundsIn cs)
@@ -146,7 +133,8 @@ carried-rest {p} test (cons {a = c} {l = cs} h a) = go (test c) (carried-rest te
     go true rest = a
     go false rest = cons h rest
 
-pub carried-more : {p : Carried → Type 0} (tag : ℕ) {fs : List Frame} → All (λ f. p (tagged tag (written f))) fs → {cs : List Carried} → All p cs → All p (carry tag (map written fs) cs)
+pub carried-more : {p : Carried → Type 0} (tag : ℕ) {fs : List Frame} → All (λ f. p (tagged tag (written f))) fs → {cs : List Carried} → All
+    p cs → All p (carry tag (map written fs) cs)
 carried-more tag {fs} a b = all-append b (all-image (tagged tag) (all-image written a))
 
 -- so the oldest equal frame has one
@@ -155,6 +143,7 @@ unfolding any tagOf
 number-found frame k nil h = absurd (false≢true h)
 number-found frame k (cons {a = c} {l = cs} n a) h = go (isFrame frame c) refl (number-found frame k a) h
   where
-    go : (b : Bool) → isFrame frame c ≡ b → (any (isFrame frame) cs ≡ true → 1 ≤ tagOf frame cs) → (b || any (isFrame frame) cs) ≡ true → 1 ≤ cond b (c .tag) (tagOf frame cs)
+    go : (b : Bool) → isFrame frame c ≡ b → (any (isFrame frame) cs ≡ true → 1 ≤ tagOf frame cs) → (b || any (isFrame frame) cs) ≡ true → 1
+        ≤ cond b (c .tag) (tagOf frame cs)
     go true d rest e = n (subst (λ f. 4 ≤ kindIn f) (same-bytes frame (c .frame) d) k)
     go false d rest e = rest e

@@ -9,11 +9,11 @@ use Rattle.memory.specs.Validity.{isProcessed}
 use Rattle.memory.specs.declared.Entry.{Entry}
 use Rattle.gateway.specs.Undoing.{processedOf, undone, restored}
 use Rattle.timewarp.specs.Models.{stateAfter}
-use Rattle.run.specs.SingleQueue.{SetUp}
+use Rattle.run.specs.SingleQueue.{SetUpInput}
 use Rattle.run.proofs.ForecastModel.{forecastModel}
 use Rattle.run.proofs.QueueViews.{doneWith, doneAfter, Marked, marked, pending, processed, waiting}
 
-module _ (n last : ℕ) (setups : ℕ → SetUp) (i : ℕ) where
+module _ (n last : ℕ) (setups : ℕ → SetUpInput) (i : ℕ) where
   -- gateway i's state after a history
   abbrev pub stateAt : List Message → State
   stateAt h = stateAfter (forecastModel n last setups) i h

@@ -7,6 +7,10 @@ use mathlib.Core.List.{List, [], _∷_, _++_, append-assoc, append-nil}
 use lib.Dec.{eqb}
 use lib.ListN.{length}
 use borrow.Author.Tests.{eqb-true}
+use Rattle.lists.specs.Lists.{All, tally, count, matches}
+use Rattle.lists.specs.Families.{change}
+use Rattle.lists.proofs.ListLaws.{all-insert, all-rest, all-taken, all-append, all-both, tally-insert, tally-append, matches-same}
+use Rattle.lists.proofs.ListLaws.{count-nil, count-cons, count-append, count-insert, all-count}
 use Rattle.model.specs.Doing.{after, sent}
 use Rattle.model.specs.EventOrder.{key, compared}
 use Rattle.model.specs.Messages.{originOf}
@@ -16,15 +20,14 @@ use Rattle.model.specs.declared.Site.{Site}
 use Rattle.model.proofs.Sending.{sending}
 use Rattle.frame.specs.Limits.{nothingDue}
 use Rattle.memory.specs.Validity.{later, isAfter}
-use Rattle.timewarp.specs.Lists.{All, tally, count, matches}
 use Rattle.timewarp.specs.Models.{Model, NotLater, stateAfter, sentBy}
-use Rattle.timewarp.specs.Families as Families
 use Rattle.timewarp.specs.SingleQueue as Theory
-use Rattle.timewarp.proofs.ListLaws.{all-insert, all-rest, all-taken, all-append, all-both, tally-insert, tally-append, matches-same, count-nil, count-cons, count-append, count-insert, all-count}
 use Rattle.timewarp.proofs.OrderLaws.{order-refl, order-antisym, message-eq}
 use Rattle.timewarp.proofs.QueueLaws.{first-taken, first-least, queue-ends}
-use Rattle.run.specs.Lines.{change}
-use Rattle.run.specs.SingleQueue.{SetUp, siteFor, Queue, openingQueue, earliest, others, recordFor, doOne, stepOn, steps, turnsFor, wholeRecord}
+use Rattle.memory.specs.Records.{siteOf}
+use Rattle.gateway.specs.SettingUp.{settingsOf}
+use Rattle.gateway.specs.Committing.{recordFor}
+use Rattle.run.specs.SingleQueue.{SetUpInput, Queue, openingQueue, earliest, others, doOne, stepOn, steps, turnsFor, wholeRecord}
 use Rattle.run.proofs.EventOrders.{keys-agree}
 use Rattle.run.proofs.ForecastModel.{forecastModel, siteAt, sendsAt, sends-all-sent, sends-origins}
 use Rattle.run.proofs.SavedStates.{stateAt}
@@ -66,7 +69,7 @@ module _ (M : Model) where
   pub not-alike : (m : Message) (l : List Message) → Alike [] (m ∷ l) → ⊥
   not-alike m l a = omega (arith, a m, count-nil (message-eq M) m, count-cons (message-eq M) m m l, matches-same (message-eq M) m)
 
-module _ (n last : ℕ) (setups : ℕ → SetUp) where
+module _ (n last : ℕ) (setups : ℕ → SetUpInput) where
   abbrev model : Model
   model = forecastModel n last setups
 
@@ -101,18 +104,18 @@ module _ (n last : ℕ) (setups : ℕ → SetUp) where
       ∙ leaves m (Theory.earliest model x l) (m ∷ Theory.others model x l) (x ∷ l)
 
   -- the bytes of a history, the newest event in front: each event's frame and the state after it
-  unfoldable pub recordOf : ℕ → List Message → List ℕ
-  recordOf i [] = []
-  recordOf i (m ∷ h) = recordOf i h ++ recordFor m (stateAt n last setups i (m ∷ h))
+  unfoldable pub historyRecord : ℕ → List Message → List ℕ
+  historyRecord i [] = []
+  historyRecord i (m ∷ h) = historyRecord i h ++ recordFor m (stateAt n last setups i (m ∷ h))
 
   -- a beginning of a history is a beginning of its record
-  pub record-beginning : (i : ℕ) (later h : List Message) → (rest : List ℕ) × (recordOf i (later ++ h) ≡ recordOf i h ++ rest)
-  unfolding recordOf
-  record-beginning i [] h = ([], sym (append-nil (recordOf i h)))
+  pub record-beginning : (i : ℕ) (later h : List Message) → (rest : List ℕ) × (historyRecord i (later ++ h) ≡ historyRecord i h ++ rest)
+  unfolding historyRecord
+  record-beginning i [] h = ([], sym (append-nil (historyRecord i h)))
   record-beginning i (m ∷ later) h =
       let r = record-beginning i later h in
       let bytes = recordFor m (stateAt n last setups i (m ∷ (later ++ h))) in
-      (r .0 ++ bytes, ap (λ k. k ++ bytes) (r .1) ∙ append-assoc (recordOf i h) (r .0) bytes)
+      (r .0 ++ bytes, ap (λ k. k ++ bytes) (r .1) ∙ append-assoc (historyRecord i h) (r .0) bytes)
 
   -- the settings of the forecast
   pub record Settled (i : ℕ) : Type 0 where
@@ -129,15 +132,15 @@ module _ (n last : ℕ) (setups : ℕ → SetUp) where
   pub record Agree (q : Queue) (t : Theory.Queue Message) : Type 0 where
     pub lists : Alike model (q .list) (t .list)
     pub states : (i : ℕ) → q .states i ≡ stateAt n last setups i (t .done i)
-    pub records : (i : ℕ) → q .records i ≡ recordOf i (t .done i)
+    pub records : (i : ℕ) → q .records i ≡ historyRecord i (t .done i)
     pub inside : All Inside (q .list)
 
   module _ (hours : last < nothingDue) (settled : (i : ℕ) → i < n → Settled i) where
-    site-is : (i : ℕ) → i < n → siteFor (setups i .opening) ≡ siteAt n last setups i
+    site-is : (i : ℕ) → i < n → siteOf (settingsOf (setups i .opening)) ≡ siteAt n last setups i
     site-is i h = let s = settled i h in λ k. record { own = s .own k; supplier = setups i .opening .supplier; last = s .until k }
 
     -- what is sent there is what the model sends
-    sends-same : (m : Message) → Inside m → (s : State) → sent (siteFor (setups (m .to) .opening)) s m ≡ sendsAt n last setups (m .to) s m
+    sends-same : (m : Message) → Inside m → (s : State) → sent (siteOf (settingsOf (setups (m .to) .opening))) s m ≡ sendsAt n last setups (m .to) s m
     sends-same m h s =
         ap (λ (z : Site). sent z s m) (site-is (m .to) (h .to))
         ∙ sym (sends-all-sent n last setups (m .to) (h .to) (settled (m .to) (h .to) .supplied) hours s m (h .origin))
@@ -149,33 +152,38 @@ module _ (n last : ℕ) (setups : ℕ → SetUp) where
         (model .sends-inside (m .to) s m)
         (sends-origins n last setups (m .to) (h .to) (settled (m .to) (h .to) .supplied) hours s m (h .origin))
 
-    module _ (m : Message) (h : Inside m) (rest rest′ : List Message) (alike : Alike model rest rest′) (q : Queue) (t : Theory.Queue Message) (a : Agree q t) (inside : All Inside rest) where
-      sends-eq : sent (siteFor (setups (m .to) .opening)) (q .states (m .to)) m ≡ sendsAt n last setups (m .to) (stateAt n last setups (m .to) (t .done (m .to))) m
+    module _ (m : Message) (h : Inside m) (rest rest′ : List Message) (alike : Alike model rest rest′) (q : Queue) (t : Theory.Queue
+        Message) (a : Agree q t) (inside : All Inside rest) where
+      sends-eq : sent (siteOf (settingsOf (setups (m .to) .opening))) (q .states (m .to)) m ≡ sendsAt n last setups (m .to) (stateAt n last
+          setups (m .to) (t .done (m .to))) m
       sends-eq = sends-same m h (q .states (m .to)) ∙ ap (λ (s : State). sendsAt n last setups (m .to) s m) (a .states (m .to))
 
-      state-after : (i : ℕ) (b : Bool) → eqb (m .to) i ≡ b → cond b (after (q .states (m .to)) (m .kind)) (q .states i) ≡ stateAt n last setups i (cond b (m ∷ t .done (m .to)) (t .done i))
+      state-after : (i : ℕ) (b : Bool) → eqb (m .to) i ≡ b → cond b (after (q .states (m .to)) (m .kind)) (q .states i) ≡ stateAt n last
+          setups i (cond b (m ∷ t .done (m .to)) (t .done i))
       unfolding stateAfter
       state-after i true e =
-          subst (λ (j : ℕ). after (q .states (m .to)) (m .kind) ≡ stateAt n last setups j (m ∷ t .done (m .to))) (eqb-true (m .to) i e) (ap (λ (s : State). after s (m .kind)) (a .states (m .to)))
+          subst (λ (j : ℕ). after (q .states (m .to)) (m .kind) ≡ stateAt n last setups j (m ∷ t .done (m .to))) (eqb-true (m .to) i e) (ap
+          (λ (s : State). after s (m .kind)) (a .states (m .to)))
       state-after i false e = a .states i
 
       record-after : (i : ℕ) (b : Bool) → eqb (m .to) i ≡ b
-          → cond b (q .records (m .to) ++ recordFor m (after (q .states (m .to)) (m .kind))) (q .records i) ≡ recordOf i (cond b (m ∷ t .done (m .to)) (t .done i))
-      unfolding recordOf stateAfter
+          → cond b (q .records (m .to) ++ recordFor m (after (q .states (m .to)) (m .kind))) (q .records i) ≡ historyRecord i (cond b (m ∷
+          t .done (m .to)) (t .done i))
+      unfolding historyRecord stateAfter
       record-after i true e =
           subst
-          (λ (j : ℕ). q .records (m .to) ++ recordFor m (after (q .states (m .to)) (m .kind)) ≡ recordOf j (m ∷ t .done (m .to)))
+          (λ (j : ℕ). q .records (m .to) ++ recordFor m (after (q .states (m .to)) (m .kind)) ≡ historyRecord j (m ∷ t .done (m .to)))
           (eqb-true (m .to) i e)
           (ap₂ _++_ (a .records (m .to)) (ap (λ (s : State). recordFor m (after s (m .kind))) (a .states (m .to))))
       record-after i false e = a .records i
 
       do-agrees : Agree (doOne setups m rest q) (Theory.doNext model m rest′ (t .done))
-      unfolding doOne Theory.doNext sentBy change Families.change
+      unfolding doOne Theory.doNext sentBy change
       do-agrees =
           record {
             lists = λ x. omega (
               arith,
-              count-append (message-eq model) x rest (sent (siteFor (setups (m .to) .opening)) (q .states (m .to)) m),
+              count-append (message-eq model) x rest (sent (siteOf (settingsOf (setups (m .to) .opening))) (q .states (m .to)) m),
               count-append (message-eq model) x (sendsAt n last setups (m .to) (stateAt n last setups (m .to) (t .done (m .to))) m) rest′,
               ap (count (message-eq model) x) sends-eq,
               alike x,
@@ -224,13 +232,14 @@ module _ (n last : ℕ) (setups : ℕ → SetUp) where
     turns-tally [] = refl
     turns-tally (m ∷ l) = ap (λ (k : ℕ). suc (last - m .hour) + k) (turns-tally l)
 
-    sent-weight : (m : Message) (l : List Message) → length l ≤ 1 → ((x : Message) → l ≡ x ∷ [] → (m .hour < x .hour) × (x .hour ≤ last)) → tally weight l ≤ last - m .hour
+    sent-weight : (m : Message) (l : List Message) → length l ≤ 1 → ((x : Message) → l ≡ x ∷ [] → (m .hour < x .hour) × (x .hour ≤ last)) →
+        tally weight l ≤ last - m .hour
     unfolding tally weight
     sent-weight m [] h f = omega arith
     sent-weight m (x ∷ []) h f = omega (arith, f x refl .0, f x refl .1)
     sent-weight m (x ∷ y ∷ l) h f = absurd (omega arith)
 
-    sends-weight : (m : Message) → Inside m → (s : State) → tally weight (sent (siteFor (setups (m .to) .opening)) s m) ≤ last - m .hour
+    sends-weight : (m : Message) → Inside m → (s : State) → tally weight (sent (siteOf (settingsOf (setups (m .to) .opening))) s m) ≤ last - m .hour
     sends-weight m h s =
         rw (site-is (m .to) (h .to))
         (let z = siteAt n last setups (m .to) in
@@ -243,9 +252,9 @@ module _ (n last : ℕ) (setups : ℕ → SetUp) where
         let inside : Inside e = subst Inside (sym (earliest-is x k)) (all-taken (first-taken model x k) c) in
         omega (
           arith,
-          turns-tally (others x k ++ sent (siteFor (setups (e .to) .opening)) (q .states (e .to)) e),
+          turns-tally (others x k ++ sent (siteOf (settingsOf (setups (e .to) .opening))) (q .states (e .to)) e),
           turns-tally (x ∷ k),
-          tally-append weight (others x k) (sent (siteFor (setups (e .to) .opening)) (q .states (e .to)) e),
+          tally-append weight (others x k) (sent (siteOf (settingsOf (setups (e .to) .opening))) (q .states (e .to)) e),
           sends-weight e inside (q .states (e .to)),
           tally-insert weight (first-taken model x k),
           ap weight (earliest-is x k),
@@ -267,7 +276,8 @@ module _ (n last : ℕ) (setups : ℕ → SetUp) where
         by-case : (k : List Message) → turnsFor last k ≤ 0 → k ≡ []
         by-case [] h = refl
         by-case (x ∷ k) h = absurd (omega (arith, turns-cons x k))
-    steps-end (suc turns) q t a h = steps-end turns (stepOn setups q (q .list)) (Theory.next model (t .list) (t .done)) (step-agrees q t a) (by-case (q .list) refl (a .inside) h)
+    steps-end (suc turns) q t a h = steps-end turns (stepOn setups q (q .list)) (Theory.next model (t .list) (t .done)) (step-agrees q t a)
+        (by-case (q .list) refl (a .inside) h)
       where
         by-case : (k : List Message) → q .list ≡ k → All Inside k → turnsFor last k ≤ suc turns → turnsFor last (stepOn setups q k .list) ≤ turns
         by-case [] e c h = omega (arith, none-left q e)
@@ -279,7 +289,8 @@ module _ (n last : ℕ) (setups : ℕ → SetUp) where
     ended-stays zero i t e = refl
     ended-stays (suc turns) i t e = ended-stays turns i (Theory.next model (t .list) (t .done)) (rw e) ∙ rw e
 
-    ended-same : (j k i : ℕ) (t : Theory.Queue Message) → Theory.steps model j t .list ≡ [] → Theory.steps model k t .list ≡ [] → Theory.steps model j t .done i ≡ Theory.steps model k t .done i
+    ended-same : (j k i : ℕ) (t : Theory.Queue Message) → Theory.steps model j t .list ≡ [] → Theory.steps model k t .list ≡ [] →
+        Theory.steps model j t .done i ≡ Theory.steps model k t .done i
     unfolding Theory.steps
     ended-same zero zero i t e f = refl
     ended-same zero (suc k) i t e f = sym (ended-stays (suc k) i t e)
@@ -294,7 +305,8 @@ module _ (n last : ℕ) (setups : ℕ → SetUp) where
         by-case (y ∷ l) b = absurd (not-alike model y l b)
 
     -- the whole record of the single queue on bytes is that of the theory's single queue
-    pub whole-record : Agree (openingQueue n setups) (Theory.openingQueue model) → (i : ℕ) → wholeRecord n last setups i ≡ recordOf i (Theory.singleHistory model i)
+    pub whole-record : Agree (openingQueue n setups) (Theory.openingQueue model) → (i : ℕ) → wholeRecord n last setups i ≡ historyRecord i
+        (Theory.singleHistory model i)
     unfolding wholeRecord Theory.singleHistory
     whole-record a i =
         let q = openingQueue n setups in
@@ -302,4 +314,4 @@ module _ (n last : ℕ) (setups : ℕ → SetUp) where
         let turns = turnsFor last (q .list) in
         let b = steps-agree turns q t a in
         let e = list-ended (steps setups turns q) (Theory.steps model turns t) b (steps-end turns q t a (omega arith)) in
-        b .records i ∙ ap (recordOf i) (ended-same turns (Theory.measure model (t .list)) i t e (queue-ends model))
+        b .records i ∙ ap (historyRecord i) (ended-same turns (Theory.measure model (t .list)) i t e (queue-ends model))

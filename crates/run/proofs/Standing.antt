@@ -5,15 +5,15 @@ use mathlib.Core.Bool.{Bool}
 use Prim.Native.Nat.{ℕ, suc, _+_, _≤_, _<_, min}
 use native.Mathlib.Omega.{arith}
 use lib.Dec.{eqb}
+use Rattle.lists.specs.Families.{change, put}
+use Rattle.lists.proofs.FamilyLaws.{Changed, at, off, change?, change-at, change-off, Put, put?, put-at, put-off}
 use Rattle.memory.specs.declared.Round.{Round}
 use Rattle.memory.specs.declared.Phase.{Phase}
 use Rattle.memory.specs.declared.Phase.the-variants.{Idle, Counting, Stopped}
 use Rattle.gateway.specs.Rounds.{bitOf}
 use Rattle.gateway.specs.Effects.{loweredIn}
-use Rattle.timewarp.specs.Families.{change, put}
 use Rattle.timewarp.specs.Arcs.{Graph, Arc}
 use Rattle.timewarp.specs.RoundSteps.{idle, counting, stopped, finished, noted}
-use Rattle.timewarp.proofs.FamilyLaws.{Changed, at, off, change?, change-at, change-off, Put, put?, put-at, put-off}
 use Rattle.run.proofs.ArrivalBits.{bitsOf, howMany, alike, one-more, none-in}
 
 -- the Starts that have come to i, and the Lvts

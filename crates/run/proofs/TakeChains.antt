@@ -3,17 +3,19 @@ use mathlib.Core.Path.{_≡_, refl, _∙_, ap}
 use Prim.Native.Nat.{ℕ}
 use mathlib.Core.Bool.{Bool, true, false}
 use mathlib.Core.List.{List}
+use Rattle.lists.specs.Lists.{any, fromLast}
 use Rattle.model.specs.declared.Message.{Message}
 use Rattle.memory.specs.Records.{Gateway}
 use Rattle.memory.proofs.Validated.{valid-facts}
 use Rattle.gateway.specs.Undoing.{processedOf}
-use Rattle.gateway.specs.Taking.{any, behind, fromLast, isCancelOf, isPlain, takePlain, takeCancel}
+use Rattle.lists.specs.Lists.{fromFirst}
+use Rattle.gateway.specs.Taking.{isLater, isCancelOf, isPlain, takePlain, takeCancel}
 use Rattle.gateway.proofs.Maintaining.{Kept}
-use Rattle.run.specs.SingleQueue.{SetUp}
+use Rattle.run.specs.SingleQueue.{SetUpInput}
 use Rattle.run.proofs.SavedStates.{Saved}
 use Rattle.run.proofs.EventCalls.{Stands, notedAll, rolled, plainBack, cancelBack}
 
-module _ (n last : ℕ) (setups : ℕ → SetUp) (i : ℕ) (c : List Message) (g : Gateway) (st : Stands n last setups i c g) where
+module _ (n last : ℕ) (setups : ℕ → SetUpInput) (i : ℕ) (c : List Message) (g : Gateway) (st : Stands n last setups i c g) where
   -- a gateway that a call left stands as before
   pub still-stands : (c′ : List Message) (h : Gateway) → Kept (g .settings) h → Saved n last setups i c′ (h .queue) (h .state) → Stands n last setups i c′ h
   still-stands c′ h k v =
@@ -38,7 +40,7 @@ module _ (n last : ℕ) (setups : ℕ → SetUp) (i : ℕ) (c : List Message) (g
       by-case : (t : Bool) → any (isCancelOf m) (g .queue) ≡ t → Noted (plainBack n last setups i c g st m) (takePlain m g .gateway)
       by-case true p = rw p (record { round = refl; agreed = refl })
       by-case false p =
-          let r = rolled n last setups i c g st (processedOf (behind m (g .queue))) in
+          let r = rolled n last setups i c g st (processedOf (fromFirst (isLater m) (g .queue))) in
           rw p (record { round = ap (λ (h : Gateway). h .round) r; agreed = ap (λ (h : Gateway). h .agreed) r })
 
   pub cancel-noted : (m : Message) → Noted (cancelBack n last setups i c g st m) (takeCancel m g .gateway)

@@ -6,23 +6,24 @@ use mathlib.Core.Bool.{Bool, true, false}
 use mathlib.Core.List.{List}
 use lib.Dec.{leb}
 use borrow.Author.Tests.{leb-true, leb-false}
+use Rattle.lists.specs.Lists.{any}
 use Rattle.buffer.specs.Slice.{Bytes}
 use Rattle.frame.specs.Kinds.{senseNumber}
 use Rattle.frame.specs.Reasons.{reading}
 use Rattle.frame.specs.declared.Sense.{Sense}
 use Rattle.frame.specs.declared.Sense.the-variants.{Plain, Cancel, Acknowledgment, CancelAcknowledgment}
-use Rattle.gateway.specs.Taking.{any}
 use Rattle.gateway.specs.Calls.{taken}
 use Rattle.timewarp.specs.Worlds as Worlds
-use Rattle.run.specs.SingleQueue.{SetUp}
+use Rattle.run.specs.SingleQueue.{SetUpInput}
 use Rattle.run.specs.World.{World, kindIn, framesIn, isFrame, afterTaking}
 use Rattle.run.proofs.BothWorlds.{Both, Keeps, forecastSetting}
 use Rattle.run.proofs.EventTakingsOnBytes.{event-taken-kept}
 use Rattle.run.proofs.RoundsKept.{round-takes}
 
-module _ (n : ℕ) (some : 1 ≤ n) (last : ℕ) (setups : ℕ → SetUp) where
+module _ (n : ℕ) (some : 1 ≤ n) (last : ℕ) (setups : ℕ → SetUpInput) where
   -- taking a frame: one of a round, or an event or acknowledgment
-  pub takes-kept : {w : World} {t : Worlds.World (forecastSetting n some last setups)} → Both n some last setups w t → (i : ℕ) → i < n → (frame output : List ℕ) → Bytes frame
+  pub takes-kept : {w : World} {t : Worlds.World (forecastSetting n some last setups)} → Both n some last setups w t → (i : ℕ) → i < n →
+      (frame output : List ℕ) → Bytes frame
       → taken (w .memories i) frame output .answer .number ≡ 0 → any (isFrame frame) (w .underWay) ≡ true
       → let l = taken (w .memories i) frame output in
       Keeps n some last setups t (afterTaking n i frame (l .memory) (framesIn (l .answer .written) (l .output)) w)

@@ -5,7 +5,7 @@ use native.Mathlib.Omega.{arith}
 use mathlib.Core.List.{List, _++_}
 use Rattle.timewarp.specs.Worlds as Worlds
 use Rattle.timewarp.proofs.Theorem.{never-falls}
-use Rattle.run.specs.SingleQueue.{SetUp}
+use Rattle.run.specs.SingleQueue.{SetUpInput}
 use Rattle.run.specs.World.{World, Call, openingWorld, afterCalls, AllAllowed}
 use Rattle.run.specs.Demand3.{Forecast, Claim, Demand3, agreed}
 use Rattle.run.proofs.FigureGraph.{figureGraph}
@@ -16,7 +16,7 @@ use Rattle.run.proofs.BothWorlds.{Both, Keeps, forecastSetting, model, 
 use Rattle.run.proofs.OpeningRelation.{opening-both}
 use Rattle.run.proofs.KeptRelation.{calls-keep, calls-after, allowed-parts}
 
-module _ (n last : ℕ) (setups : ℕ → SetUp) (lent : ℕ → List ℕ) (forecast : Forecast n last setups lent) where
+module _ (n last : ℕ) (setups : ℕ → SetUpInput) (lent : ℕ → List ℕ) (forecast : Forecast n last setups lent) where
   abbrev some : 1 ≤ n
   some = forecast .some
 
@@ -24,11 +24,13 @@ module _ (n last : ℕ) (setups : ℕ → SetUp) (lent : ℕ → List ℕ) (fore
   first = openingWorld setups lent
 
   -- a world of the theory belongs to the world that every allowed list of calls leads to
-  pub reached-both : (calls : List Call) → AllAllowed n first calls → Keeps n some last setups (Worlds.openingWorld (forecastSetting n some last setups)) (afterCalls n first calls)
+  pub reached-both : (calls : List Call) → AllAllowed n first calls → Keeps n some last setups (Worlds.openingWorld (forecastSetting n some
+      last setups)) (afterCalls n first calls)
   reached-both calls h = calls-keep n some last setups calls (opening-both n last setups lent forecast) h
 
   -- no agreed time falls along a list of calls
-  pub time-never-falls : {w w′ : World} {t : Worlds.World (forecastSetting n some last setups)} → Both n some last setups w t → (k : Keeps n some last setups t w′) → (i : ℕ) → i < n → agreed w i ≤ agreed w′ i
+  pub time-never-falls : {w w′ : World} {t : Worlds.World (forecastSetting n some last setups)} → Both n some last setups w t → (k : Keeps n
+      some last setups t w′) → (i : ℕ) → i < n → agreed w i ≤ agreed w′ i
   time-never-falls b k i h =
       omega (
         arith,

@@ -2,6 +2,8 @@
 use mathlib.Core.Path.{_≡_, refl, subst}
 use Prim.Native.Nat.{ℕ, _<_}
 use mathlib.Core.List.{List, [], _∷_, _++_, map, append-assoc, append-nil, map-append}
+use Rattle.lists.specs.Lists.{All, cons, Insert, Inserts}
+use Rattle.lists.proofs.ListLaws.{insert-between, inserts-back}
 use Rattle.model.specs.Doing.{sent}
 use Rattle.model.specs.Messages.{originOf}
 use Rattle.model.specs.declared.Message.{Message}
@@ -9,13 +11,11 @@ use Rattle.model.specs.declared.State.{State}
 use Rattle.memory.specs.declared.Entry.{Entry}
 use Rattle.gateway.specs.Undoing.{processedOf, undone, sentBack}
 use Rattle.gateway.specs.Working.{pendingOf}
-use Rattle.timewarp.specs.Lists.{All, cons, Insert, Inserts}
 use Rattle.timewarp.specs.Models.{Model, NotLater, stateAfter, sentBy}
 use Rattle.timewarp.specs.Gateways.{Event, cancel, message, gatewayOf, networkOf}
 use Rattle.timewarp.specs.EventSteps.{undoes}
-use Rattle.timewarp.proofs.ListLaws.{insert-between, inserts-back}
 use Rattle.timewarp.proofs.CallChains.{insert-append}
-use Rattle.run.specs.SingleQueue.{SetUp}
+use Rattle.run.specs.SingleQueue.{SetUpInput}
 use Rattle.run.proofs.ForecastModel.{forecastModel, siteAt, sendsAt}
 use Rattle.run.proofs.QueueViews.{doneWith, doneAfter, Marked, marked, pending, processed, waiting}
 use Rattle.run.proofs.SavedStates.{Saved, entry}
@@ -25,7 +25,7 @@ use Rattle.run.proofs.LocalChains.{Chain, none, then}
 inserts-more : (o : List (Event Message)) (b t : List Message) → Inserts (map cancel t) (o ++ map cancel b) (o ++ map cancel (b ++ t))
 inserts-more o b t = rw (map-append cancel b t, ← append-assoc o (map cancel b) (map cancel t)) (inserts-back (map cancel t) (o ++ map cancel b))
 
-module _ (n last : ℕ) (setups : ℕ → SetUp) (i : ℕ) where
+module _ (n last : ℕ) (setups : ℕ → SetUpInput) (i : ℕ) where
   abbrev model : Model
   model = forecastModel n last setups
 
@@ -48,7 +48,8 @@ module _ (n last : ℕ) (setups : ℕ → SetUp) (i : ℕ) where
     abbrev backs : List Entry → List Message
     backs rest = sentBack (siteAt n last setups i) (processedOf rest)
 
-    pub undo-chain : {c : List Message} {w : List Message} (rest : List Entry) (d p : List Message) {s : State} (o : List (Event Message)) (v a : List (Event Message)) {others : List (Event Message)} →
+    pub undo-chain : {c : List Message} {w : List Message} (rest : List Entry) (d p : List Message) {s : State} (o : List (Event Message))
+        (v a : List (Event Message)) {others : List (Event Message)} →
         Saved n last setups i (d ++ c) rest s → All Undoable rest → Insert e others v →
         Chain model i time
         (gatewayOf c (doneAfter d rest) (p ++ pendingOf rest) w o)
@@ -75,7 +76,8 @@ module _ (n last : ℕ) (setups : ℕ → SetUp) (i : ℕ) where
             (gatewayOf c (doneAfter (x .message ∷ d) rest) (p ++ pendingOf rest) w o)
             (networkOf v a)
             (backs rest ++ sent (siteAt n last setups i) (x .before) (x .message))
-            (gatewayOf c d (p ++ (x .message ∷ pendingOf (map undone rest))) w (o ++ map cancel (backs rest ++ sent (siteAt n last setups i) (x .before) (x .message))))
+            (gatewayOf c d (p ++ (x .message ∷ pendingOf (map undone rest))) w (o ++ map cancel (backs rest ++ sent (siteAt n last setups i)
+            (x .before) (x .message))))
             (networkOf (v ++ map cancel (backs rest ++ sent (siteAt n last setups i) (x .before) (x .message))) a)
         step e₀ ih =
             subst
@@ -89,11 +91,17 @@ module _ (n last : ℕ) (setups : ℕ → SetUp) (i : ℕ) where
             (sent-back (d ++ c) x (f .origin) e₀)
             (then
             ih
-            (undoes (x .message) e (insert-append (map cancel (backs rest)) under) here (f .later) refl (insert-between (x .message) p (pendingOf (map undone rest))) (inserts-more o (backs rest) _) (inserts-more v (backs rest) _))
+            (undoes (x .message) e (insert-append (map cancel (backs rest)) under) here (f .later) refl (insert-between (x .message) p
+            (pendingOf (map undone rest))) (inserts-more o (backs rest) _) (inserts-more v (backs rest) _))
             refl)
 
-        by-mark : Marked x → Saved n last setups i (doneWith x (d ++ c)) rest s → ((d′ p′ : List Message) → Saved n last setups i (d′ ++ c) rest s → Undone d′ p′ rest) → Undone d p (x ∷ rest)
+        by-mark : Marked x → Saved n last setups i (doneWith x (d ++ c)) rest s → ((d′ p′ : List Message) → Saved n last setups i (d′ ++ c)
+            rest s → Undone d′ p′ rest) → Undone d p (x ∷ rest)
         by-mark (pending h k l) r ih =
-            rw (k, h) (rw (append-assoc p (x .message ∷ []) (pendingOf rest), append-assoc p (x .message ∷ []) (pendingOf (map undone rest))) at (ih d (p ++ (x .message ∷ [])) (rw k at r)))
+            rw (k, h) (rw (
+              append-assoc p (x .message ∷ []) (pendingOf rest),
+              append-assoc p (x .message ∷ []) (pendingOf (map undone
+                  rest)),
+            ) at (ih d (p ++ (x .message ∷ [])) (rw k at r)))
         by-mark (processed h k l) r ih = rw (k, h) (step (b k) (ih (x .message ∷ d) p (rw k at r)))
         by-mark (waiting h k l) r ih = rw (k, h) (ih d p (rw k at r))

@@ -3,19 +3,19 @@ use mathlib.Core.Path.{_≡_}
 use Prim.Native.Nat.{ℕ, _+_, _*_, _-_, _≤_, _<_}
 use mathlib.Core.Bool.{true}
 use mathlib.Core.List.{List, _++_, List·Memᴰ}
+use Rattle.lists.specs.Lists.{Beginning}
 use Rattle.buffer.specs.Slice.{Bytes}
 use Rattle.routing.specs.Arcs.{arcCount}
 use Rattle.model.specs.declared.Message.{Message}
 use Rattle.frame.specs.Limits.{nothingDue}
 use Rattle.frame.specs.Reasons.{reading}
 use Rattle.gateway.specs.Calls.{committed, setUp, agreedTime}
-use Rattle.run.specs.Lines.{Beginning}
-use Rattle.run.specs.SingleQueue.{SetUp, wholeRecord}
+use Rattle.run.specs.SingleQueue.{SetUpInput, wholeRecord}
 use Rattle.run.specs.Ledger.{waiting}
 use Rattle.run.specs.World.{World, Call, Carried, Rounds, kindIn, openingWorld, afterCalls, AllAllowed}
 
 -- N gateways, 1 to 255, each number once, one last hour H, each set up in memory of its own and accepted
-pub record Forecast (n last : ℕ) (setups : ℕ → SetUp) (lent : ℕ → List ℕ) : Type 0 where
+pub record Forecast (n last : ℕ) (setups : ℕ → SetUpInput) (lent : ℕ → List ℕ) : Type 0 where
   pub some : 1 ≤ n
   pub most : n ≤ 255
   pub gateways : (i : ℕ) → i < n → setups i .opening .n ≡ n
@@ -24,7 +24,7 @@ pub record Forecast (n last : ℕ) (setups : ℕ → SetUp) (lent : ℕ → List
   pub bytes : (i : ℕ) → i < n → Bytes (lent i) × Bytes (setups i .list)
   pub accepted : (i : ℕ) → i < n → setUp (setups i .opening) (setups i .list) (lent i) .answer .number ≡ 0
 
--- gateway i's agreed time
+-- gateway i's agreed time (GVT)
 abbrev pub agreed : World → ℕ → ℕ
 agreed w i = agreedTime (w .memories i) .hour
 
@@ -38,7 +38,7 @@ pub record Completed (n : ℕ) (r : Rounds) (t : ℕ) : Type 0 where
   pub allAccepted : (i : ℕ) → 0 < i → i < n → r .accepted t i ≡ true
 
 -- What demand 3 claims of the world w to which a list of calls has led.
-pub record Claim (n last : ℕ) (setups : ℕ → SetUp) (lent : ℕ → List ℕ) (calls : List Call) (w : World) : Type 0 where
+pub record Claim (n last : ℕ) (setups : ℕ → SetUpInput) (lent : ℕ → List ℕ) (calls : List Call) (w : World) : Type 0 where
   -- each committed record is a beginning of the single queue's
   pub beginning : (i : ℕ) → i < n → Beginning (w .records i) (wholeRecord n last setups i)
   -- and whole at the end: where nothing is due any more and nothing is left to commit
@@ -58,6 +58,6 @@ pub record Claim (n last : ℕ) (setups : ℕ → SetUp) (lent : ℕ → List �
 -- The claim for every forecast, every list of calls and every carrier that keeps to the rules.
 abbrev pub Demand3 : Type 0
 Demand3 =
-    (n last : ℕ) (setups : ℕ → SetUp) (lent : ℕ → List ℕ) → Forecast n last setups lent
+    (n last : ℕ) (setups : ℕ → SetUpInput) (lent : ℕ → List ℕ) → Forecast n last setups lent
     → (calls : List Call) → AllAllowed n (openingWorld setups lent) calls
     → Claim n last setups lent calls (afterCalls n (openingWorld setups lent) calls)

@@ -4,12 +4,12 @@ use Prim.Native.Nat.{ℕ}
 use mathlib.Core.List.{List, [], _∷_}
 use lib.ListN.{replicate}
 use Rattle.frame.specs.Limits.{nothingDue}
-use Rattle.run.specs.SingleQueue.{SetUp}
+use Rattle.run.specs.SingleQueue.{SetUpInput}
 use Rattle.run.specs.World.{World, Call, works, starts, commits, openingWorld, afterCalls, AllAllowed}
 use Rattle.run.specs.Demand3.{Forecast, agreed, NothingToCommit}
 
 -- a stock of 2, the last hour 10, and a Restock of 3 at hour 5 as the opening list
-abbrev pub exampleSetUp : ℕ → SetUp
+abbrev pub exampleSetUp : ℕ → SetUpInput
 exampleSetUp i = record {
   opening = record { n = 1; own = 0; supplier = 0; stock = 2; last = 10; q = 1; u = 1 };
   list = 79 ∷ 3 ∷ 0 ∷ 0 ∷ 0 ∷ 0 ∷ 0 ∷ 5 ∷ 0 ∷ 3 ∷ [];

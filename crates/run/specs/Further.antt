@@ -6,7 +6,7 @@ use Rattle.frame.specs.Limits.{nothingDue, addressee}
 use Rattle.frame.specs.Reasons.{reading}
 use Rattle.gateway.specs.Calls.{taken, started, committed, workedOff, setUp}
 use Rattle.gateway.specs.Claims.{SoundBytes}
-use Rattle.run.specs.SingleQueue.{SetUp, openingQueue, steps, turnsFor}
+use Rattle.run.specs.SingleQueue.{SetUpInput, openingQueue, steps, turnsFor}
 use Rattle.run.specs.World.{World, Call, works, takes, starts, commits, setsUp, Carried, openingWorld, afterCall, afterCalls, AllAllowed}
 use Rattle.run.specs.Demand3.{Forecast, agreed, NothingToCommit}
 
@@ -18,7 +18,7 @@ receiver bytes = let f = reading bytes .frame in addressee (f .sense) (f .messag
 -- are in their ranges, it is not below the agreed time, in its turn, and of something outstanding.
 abbrev pub OnlyForRoom : Type 0
 OnlyForRoom =
-    (n last : ℕ) (setups : ℕ → SetUp) (lent : ℕ → List ℕ) → Forecast n last setups lent
+    (n last : ℕ) (setups : ℕ → SetUpInput) (lent : ℕ → List ℕ) → Forecast n last setups lent
     → (calls : List Call) → AllAllowed n (openingWorld setups lent) calls
     → let w = afterCalls n (openingWorld setups lent) calls in
     (c : Carried) → List·Memᴰ c (w .underWay) → (output : List ℕ)
@@ -28,7 +28,7 @@ OnlyForRoom =
 -- Two runs of one forecast have the same record at a gateway where both are whole, whatever the calls and the carrier were.
 abbrev pub SameRecords : Type 0
 SameRecords =
-    (n last : ℕ) (setups : ℕ → SetUp) (lent lent′ : ℕ → List ℕ) → Forecast n last setups lent → Forecast n last setups lent′
+    (n last : ℕ) (setups : ℕ → SetUpInput) (lent lent′ : ℕ → List ℕ) → Forecast n last setups lent → Forecast n last setups lent′
     → (calls calls′ : List Call) → AllAllowed n (openingWorld setups lent) calls → AllAllowed n (openingWorld setups lent′) calls′
     → let w = afterCalls n (openingWorld setups lent) calls in
     let v = afterCalls n (openingWorld setups lent′) calls′ in
@@ -48,7 +48,7 @@ DoesNothing n w (setsUp i opening list) = setUp opening list (w .memories i) .an
 -- Such a call changes nothing.
 abbrev pub NothingChanged : Type 0
 NothingChanged =
-    (n last : ℕ) (setups : ℕ → SetUp) (lent : ℕ → List ℕ) → Forecast n last setups lent
+    (n last : ℕ) (setups : ℕ → SetUpInput) (lent : ℕ → List ℕ) → Forecast n last setups lent
     → (calls : List Call) → AllAllowed n (openingWorld setups lent) calls
     → let w = afterCalls n (openingWorld setups lent) calls in
     (c : Call) → DoesNothing n w c → afterCall n w c ≡ w
@@ -56,7 +56,7 @@ NothingChanged =
 -- In every run every memory stays sound, so that no call answers 10.
 abbrev pub AlwaysSound : Type 0
 AlwaysSound =
-    (n last : ℕ) (setups : ℕ → SetUp) (lent : ℕ → List ℕ) → Forecast n last setups lent
+    (n last : ℕ) (setups : ℕ → SetUpInput) (lent : ℕ → List ℕ) → Forecast n last setups lent
     → (calls : List Call) → AllAllowed n (openingWorld setups lent) calls
     → let w = afterCalls n (openingWorld setups lent) calls in
     (i : ℕ) → i < n → SoundBytes (w .memories i)
@@ -64,6 +64,6 @@ AlwaysSound =
 -- The single queue ends: the steps by which `wholeRecord` is defined leave its list empty.
 abbrev pub SingleQueueEnds : Type 0
 SingleQueueEnds =
-    (n last : ℕ) (setups : ℕ → SetUp) (lent : ℕ → List ℕ) → Forecast n last setups lent
+    (n last : ℕ) (setups : ℕ → SetUpInput) (lent : ℕ → List ℕ) → Forecast n last setups lent
     → let q = openingQueue n setups in
     steps setups (turnsFor last (q .list)) q .list ≡ []

@@ -2,9 +2,9 @@
 use Prim.Native.Nat.{ℕ, zero, suc}
 use mathlib.Core.Bool.{Bool, true, false, cond}
 use mathlib.Core.List.{List, [], _∷_, _++_, map}
+use Rattle.lists.specs.Lists.{any, withoutFirst, beforeLast, fromLast, beforeFirst, fromFirst}
 use Rattle.model.specs.declared.Message.{Message}
 use Rattle.memory.specs.Validity.{equal, later}
-use Rattle.gateway.specs.Taking.{any, withoutFirst, beforeLast, fromLast}
 
 -- a plain message, and whether it is done and not undone since
 pub record Item : Type 0 where
@@ -19,22 +19,17 @@ pub record Ledger : Type 0 where
 abbrev pub notDone : Item → Item
 notDone x = record { message = x .message; done = false }
 
--- the items up to where m enters, after its equals, and those behind, which are later
-unfoldable pub upTo : Message → List Item → List Item
-upTo m [] = []
-upTo m (x ∷ xs) = let rest = x ∷ upTo m xs in cond (later (x .message) m) [] rest
-
-unfoldable pub behind : Message → List Item → List Item
-behind m [] = []
-behind m (x ∷ xs) = let rest = behind m xs in cond (later (x .message) m) (x ∷ xs) rest
+-- an item later in event order than m: m enters before the first such one, and so after its equals
+abbrev pub isLaterItem : Message → Item → Bool
+isLaterItem m x = later (x .message) m
 
 -- a plain message is accepted: it meets an equal cancel, and both vanish; or it waits, and what was done later is undone
-unfoldable pub entered : Message → Ledger → Ledger
-entered m l =
+unfoldable pub afterPlain : Message → Ledger → Ledger
+afterPlain m l =
     cond (any (equal m) (l .cancels))
     (record { items = l .items; cancels = withoutFirst (equal m) (l .cancels) })
     (record {
-      items = upTo m (l .items) ++ (record { message = m; done = false } ∷ map notDone (behind m (l .items)));
+      items = beforeFirst (isLaterItem m) (l .items) ++ (record { message = m; done = false } ∷ map notDone (fromFirst (isLaterItem m) (l .items)));
       cancels = l .cancels;
     })
 
@@ -48,8 +43,8 @@ undoneAfter [] = []
 undoneAfter (x ∷ xs) = cond (x .done) (map notDone xs) xs
 
 -- a cancel is accepted: the last equal message is struck out, and if it was done, what was done after it is undone; or it waits
-unfoldable pub struckOut : Message → Ledger → Ledger
-struckOut m l =
+unfoldable pub afterCancel : Message → Ledger → Ledger
+afterCancel m l =
     cond (any (isItem m) (l .items))
     (record { items = beforeLast (isItem m) (l .items) ++ undoneAfter (fromLast (isItem m) (l .items)); cancels = l .cancels })
     (record { items = l .items; cancels = m ∷ l .cancels })

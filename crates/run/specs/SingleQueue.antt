@@ -3,31 +3,25 @@ use Prim.Native.Nat.{ℕ, zero, suc, _+_, _-_}
 use mathlib.Core.Bool.{cond}
 use mathlib.Core.List.{List, [], _∷_, _++_, map}
 use lib.ListN.{length}
+use Rattle.lists.specs.Families.{change, together}
 use Rattle.model.specs.Doing.{after, sent}
 use Rattle.model.specs.declared.Message.{Message}
 use Rattle.model.specs.declared.State.{State}
-use Rattle.model.specs.declared.Site.{Site}
 use Rattle.frame.specs.Reasons.{reading}
-use Rattle.frame.specs.Writing.{written}
-use Rattle.memory.specs.Codec.{stateBytes}
-use Rattle.memory.specs.Validity.{later, frameIf}
-use Rattle.gateway.specs.SettingUp.{cutFrames}
+use Rattle.memory.specs.Validity.{later}
+use Rattle.memory.specs.Records.{siteOf}
+use Rattle.gateway.specs.Committing.{recordFor}
+use Rattle.gateway.specs.SettingUp.{settingsOf, cutFrames}
 use Rattle.gateway.specs.declared.Opening.{Opening}
-use mathlib.Core.Bool.{false}
-use Rattle.run.specs.Lines.{change, together}
 
 -- What a gateway was set up with: its settings and its opening list.
-pub record SetUp : Type 0 where
+pub record SetUpInput : Type 0 where
   pub opening : Opening
   pub list : List ℕ
 
 -- the messages of an opening list
 unfoldable pub openingMessages : List ℕ → List Message
 openingMessages list = map (λ f. reading f .frame .message) (cutFrames (length list) list)
-
--- where a gateway does its messages
-abbrev pub siteFor : Opening → Site
-siteFor o = record { own = o .own; supplier = o .supplier; last = o .last }
 
 -- Its state: each gateway's stock and counters, one list of messages, and a record for each gateway.
 pub record Queue : Type 0 where
@@ -36,7 +30,7 @@ pub record Queue : Type 0 where
   pub records : ℕ → List ℕ
 
 -- at first: the opening stocks, the counters 0, all opening lists together, empty records
-unfoldable pub openingQueue : ℕ → (ℕ → SetUp) → Queue
+unfoldable pub openingQueue : ℕ → (ℕ → SetUpInput) → Queue
 openingQueue n setups = record {
   states = λ i. record { stock = setups i .opening .stock; failed = 0; fitted = 0; short = 0 };
   list = together n (λ i. openingMessages (setups i .list));
@@ -52,27 +46,23 @@ unfoldable pub others : Message → List Message → List Message
 others m [] = []
 others m (x ∷ l) = let rest = m ∷ others x l in cond (later m (earliest x l)) rest (x ∷ l)
 
--- what commit writes of an event: its frame and the state after it
-unfoldable pub recordFor : Message → State → List ℕ
-recordFor m s = written (frameIf false m) ++ stateBytes s
-
 -- the gateway in its to does m; what is sent, never past H, joins the list; frame and state go to the end of its record
-unfoldable pub doOne : (ℕ → SetUp) → Message → List Message → Queue → Queue
+unfoldable pub doOne : (ℕ → SetUpInput) → Message → List Message → Queue → Queue
 doOne setups m rest q =
     let i = m .to in
     let s = after (q .states i) (m .kind) in
     record {
       states = change i s (q .states);
-      list = rest ++ sent (siteFor (setups i .opening)) (q .states i) m;
+      list = rest ++ sent (siteOf (settingsOf (setups i .opening))) (q .states i) m;
       records = change i (q .records i ++ recordFor m s) (q .records);
     }
 
 -- a step takes the first message in event order out of the list; with the list empty it has ended
-unfoldable pub stepOn : (ℕ → SetUp) → Queue → List Message → Queue
+unfoldable pub stepOn : (ℕ → SetUpInput) → Queue → List Message → Queue
 stepOn setups q [] = q
 stepOn setups q (m ∷ l) = doOne setups (earliest m l) (others m l) q
 
-unfoldable pub steps : (ℕ → SetUp) → ℕ → Queue → Queue
+unfoldable pub steps : (ℕ → SetUpInput) → ℕ → Queue → Queue
 steps setups zero q = q
 steps setups (suc turns) q = steps setups turns (stepOn setups q (q .list))
 
@@ -82,7 +72,7 @@ turnsFor last [] = 0
 turnsFor last (m ∷ l) = suc (last - m .hour) + turnsFor last l
 
 -- gateway i's whole record
-unfoldable pub wholeRecord : ℕ → ℕ → (ℕ → SetUp) → ℕ → List ℕ
+unfoldable pub wholeRecord : ℕ → ℕ → (ℕ → SetUpInput) → ℕ → List ℕ
 wholeRecord n last setups i =
     let q = openingQueue n setups in
     steps setups (turnsFor last (q .list)) q .records i

@@ -5,6 +5,8 @@ use mathlib.Core.Bool.{Bool, true, false, cond, _&&_, _||_}
 use mathlib.Core.List.{List, [], _∷_, _++_, map}
 use lib.Dec.{eqb, leb}
 use lib.ListN.{length, take}
+use Rattle.lists.specs.Lists.{any, withoutFirst}
+use Rattle.lists.specs.Families.{change}
 use Rattle.buffer.specs.Slice.{Bytes, sameBytes}
 use Rattle.routing.specs.Arcs.{to}
 use Rattle.model.specs.Messages.{kindNumber}
@@ -12,13 +14,11 @@ use Rattle.model.specs.declared.Message.{Message}
 use Rattle.frame.specs.Reasons.{reading}
 use Rattle.frame.specs.declared.Sense.{Sense}
 use Rattle.frame.specs.declared.Sense.the-variants.{Plain, Cancel, Acknowledgment, CancelAcknowledgment}
-use Rattle.gateway.specs.Taking.{any, withoutFirst}
 use Rattle.gateway.specs.SettingUp.{cutFrames}
 use Rattle.gateway.specs.Calls.{taken, started, committed, workedOff, setUp}
 use Rattle.gateway.specs.declared.Opening.{Opening}
-use Rattle.run.specs.Lines.{change}
-use Rattle.run.specs.SingleQueue.{SetUp, openingMessages}
-use Rattle.run.specs.Ledger.{Ledger, entered, struckOut, didSome, committedOne}
+use Rattle.run.specs.SingleQueue.{SetUpInput, openingMessages}
+use Rattle.run.specs.Ledger.{Ledger, afterPlain, afterCancel, didSome, committedOne}
 
 -- A call of the list: at a gateway, with any output; work with any B, any bytes as a frame.
 pub data Call : Type 0 where
@@ -71,7 +71,9 @@ roundFrames isOpen (f ∷ fs) = cond (eqb (kindIn f) 6 || (isOpen && (eqb (kindI
 
 -- the round of that tag took these frames
 abbrev pub tookMore : ℕ → ℕ → Rounds → Rounds
-tookMore tag count r = record { opened = r .opened; open? = r .open?; lvts = r .lvts; took = change tag (r .took tag + count) (r .took); closed = r .closed; accepted = r .accepted }
+tookMore tag count r =
+    let took = change tag (r .took tag + count) (r .took) in
+    record { opened = r .opened; open? = r .open?; lvts = r .lvts; took = took; closed = r .closed; accepted = r .accepted }
 
 -- the next round is opened
 abbrev pub opens : Rounds → Rounds
@@ -82,19 +84,21 @@ abbrev pub closes : Rounds → Rounds
 closes r = record { opened = r .opened; open? = false; lvts = r .lvts; took = r .took; closed = change (r .opened) true (r .closed); accepted = r .accepted }
 
 -- gateway 0 accepted an Lvt: with one from each of its to the round is closed
-unfoldable pub oneLvt : ℕ → Rounds → Rounds
-oneLvt n r =
+unfoldable pub acceptsLvt : ℕ → Rounds → Rounds
+acceptsLvt n r =
     let more : Rounds = record { opened = r .opened; open? = r .open?; lvts = suc (r .lvts); took = r .took; closed = r .closed; accepted = r .accepted } in
     cond (eqb (suc (r .lvts)) (length (to n 0))) (closes more) more
 
 -- gateway i accepted the Update of that tag
-abbrev pub accepts : ℕ → ℕ → Rounds → Rounds
-accepts tag i r = record { opened = r .opened; open? = r .open?; lvts = r .lvts; took = r .took; closed = r .closed; accepted = change tag (change i true (r .accepted tag)) (r .accepted) }
+abbrev pub acceptsUpdate : ℕ → ℕ → Rounds → Rounds
+acceptsUpdate tag i r =
+    let accepted = change tag (change i true (r .accepted tag)) (r .accepted) in
+    record { opened = r .opened; open? = r .open?; lvts = r .lvts; took = r .took; closed = r .closed; accepted = accepted }
 
 -- what an accepted frame does to the ledger
 abbrev pub takenBySense : Message → Sense → Ledger → Ledger
-takenBySense m Plain l = cond (leb (kindNumber (m .kind)) 2) (entered m l) l
-takenBySense m Cancel l = struckOut m l
+takenBySense m Plain l = cond (leb (kindNumber (m .kind)) 2) (afterPlain m l) l
+takenBySense m Cancel l = afterCancel m l
 takenBySense m Acknowledgment l = l
 takenBySense m CancelAcknowledgment l = l
 
@@ -121,7 +125,7 @@ afterTaking n i frame memory written w =
       records = w .records;
       ledgers = change i (takenBySense (f .message) (f .sense) (w .ledgers i)) (w .ledgers);
       rounds =
-          cond isUpdate (accepts tag i counted) (cond (eqb (kindIn frame) 5 && eqb i 0) (oneLvt n counted) counted);
+          cond isUpdate (acceptsUpdate tag i counted) (cond (eqb (kindIn frame) 5 && eqb i 0) (acceptsLvt n counted) counted);
     }
 
 -- the world after the start call is accepted; for one gateway it does the whole round
@@ -183,10 +187,10 @@ afterCalls n w (c ∷ cs) = afterCalls n (afterCall n w c) cs
 -- the messages of an opening list, as a ledger
 unfoldable pub openingLedger : List Message → Ledger → Ledger
 openingLedger [] l = l
-openingLedger (m ∷ ms) l = openingLedger ms (entered m l)
+openingLedger (m ∷ ms) l = openingLedger ms (afterPlain m l)
 
 -- N memories just set up, with nothing under way
-unfoldable pub openingWorld : (ℕ → SetUp) → (ℕ → List ℕ) → World
+unfoldable pub openingWorld : (ℕ → SetUpInput) → (ℕ → List ℕ) → World
 openingWorld setups lent = record {
   memories = λ i. setUp (setups i .opening) (setups i .list) (lent i) .memory;
   underWay = [];

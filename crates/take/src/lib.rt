@@ -1,6 +1,100 @@
-// Taking plain messages and cancels, and the call that takes every frame.
-pub mod cancel; // cancel.rt: taking a cancel
-pub mod plain; // plain.rt: taking a plain message
-pub mod room; // room.rt: whether there is room for all that a call would do
-pub mod take; // take.rt: the call, by sense and kind
-pub mod undo; // undo.rt: undoing processed events
+// The call take: a byte string that is no frame, or no frame for this gateway, is refused; the others go by sense and kind.
+pub mod acknowledgment; // acknowledgment.rt: taking an acknowledgment
+
+use crate::acknowledgment::take_acknowledgment;
+use arrivals::take_in_round;
+use frame::Frame;
+use frame::Reading;
+use frame::Sense;
+use gateway::Answer;
+use gateway::refused;
+use limits::check;
+use memory::Header;
+use model::Message;
+use model::kind_number;
+use reader::is_good;
+use reader::read;
+use soundness::checked;
+use take_cancel::take_cancel;
+use take_plain::take_plain;
+ghost use mathlib.Core.Path.{_≡_};
+ghost use Rattle.memory.specs.inside.Fits.{MessageFits};
+ghost use Rattle.gateway.specs.Effects as Effects;
+ghost use Rattle.gateway.specs.Calls.{left, takeByKind, takeFor, takeFrame, takeBytes, taken};
+ghost use Rattle.gateway.specs.inside.Premises.{Known, Leaves};
+ghost use Rattle.gateway.specs.Calls.{usable};
+
+pub fn take(memory: &mut [u8], frame: &[u8], output: &mut [u8]) -> Answer
+    ensures { λ r. ⌜ left r (now (memory .exit)) (now (output .exit)) ≡ taken (now (memory .entry)) (now (frame .entry)) (now (output .entry)) ⌝ }
+{
+    let found = checked(memory);
+    if !found.sound {
+        return refused(10);
+    }
+    take_bytes(memory, frame, output, found.header)
+}
+
+// A byte string that is no frame, or a Restock, which only an opening list may hold, is 1.
+fn take_bytes(memory: &mut [u8], frame: &[u8], output: &mut [u8], header: Header) -> Answer
+    requires { ⌜ Known (now memory) header ⌝ }
+    ensures { λ r. ⌜ Leaves r memory output (takeBytes (now (frame .entry))) ⌝ }
+{
+    let reading = read(frame);
+    if !is_usable(reading) {
+        return refused(1);
+    }
+    take_checked(memory, output, header, reading.frame)
+}
+
+// A frame, but no Restock, which only an opening list may hold.
+fn is_usable(reading: Reading) -> bool
+    ensures { λ r. ⌜ r ≡ usable reading ⌝ }
+{
+    let form = reading.form;
+    let frame = reading.frame;
+    let message = frame.message;
+    let kind = message.kind;
+    if !is_good(form) {
+        return false;
+    }
+    kind_number(kind) != 3
+}
+
+// Numbers and hour are looked at before the rest: 2, then 3.
+fn take_checked(memory: &mut [u8], output: &mut [u8], header: Header, frame: Frame) -> Answer
+    requires { ⌜ Known (now memory) header × MessageFits (frame .message) ⌝ }
+    ensures { λ r. ⌜ Leaves r memory output (takeFor (header .settings) frame) ⌝ }
+{
+    let settings = header.settings;
+    let number = check(frame, settings.n as u16, settings.own, settings.last);
+    if number != 0 {
+        return refused(number);
+    }
+    take_frame(memory, output, header, frame)
+}
+
+fn take_frame(memory: &mut [u8], output: &mut [u8], header: Header, frame: Frame) -> Answer
+    requires { ⌜ Known (now memory) header × MessageFits (frame .message) ⌝ }
+    ensures { λ r. ⌜ Leaves r memory output (λ room g. takeFrame room frame g) ⌝ }
+{
+    let message = frame.message;
+    let sense = frame.sense;
+    match sense {
+        Sense::Plain => take_by_kind(memory, output, header, message),
+        Sense::Cancel => take_cancel(memory, output, header, message),
+        Sense::Acknowledgment => take_acknowledgment(memory, header, false, message),
+        Sense::CancelAcknowledgment => take_acknowledgment(memory, header, true, message),
+    }
+}
+
+// An event, or a message of the round.
+fn take_by_kind(memory: &mut [u8], output: &mut [u8], header: Header, message: Message) -> Answer
+    requires { ⌜ Known (now memory) header × MessageFits message ⌝ }
+    ensures { λ r. ⌜ Leaves r memory output (λ room g. takeByKind room message g (message .kind)) ⌝ }
+{
+    let kind = message.kind;
+    if kind_number(kind) <= 2 {
+        return take_plain(memory, output, header, message);
+    }
+    take_in_round(memory, output, header, message)
+}

@@ -1,20 +1,24 @@
 -- The laws of decimal text: how it grows by a digit, its value, and that a text of digits without a leading zero is the decimal text of its value.
 use mathlib.Core.Path.{_≡_, refl, sym, _∙_, ap, ap₂, subst}
 use mathlib.Core.Logic.{_↔_, _⊎_, inl, inr, ⊎-elim}
-use mathlib.Core.Bool.{Bool, true, false, false≢true}
+use mathlib.Core.Bool.{Bool, true, false}
 use mathlib.Core.List.{List, [], _∷_, _++_, append-assoc, append-nil}
 use Prim.Native.Nat.{ℕ, zero, suc, _+_, _*_, _-_, _/_, _%_, _≤_, _<_}
 use native.Mathlib.Omega.{arith}
 use native.Mathlib.Decide.{decLt, decLe, ℕ-discrete}
 use lib.Dec.{ltb}
-use borrow.Author.Tests.{lt-ltb, le-ltb, eq-eqb, ne-eqb, le-leb, lt-leb}
+use borrow.Author.Tests.{lt-ltb, le-ltb, le-leb, lt-leb}
 use Rattle.text.specs.declared.Spelled.the-variants.{Number, Nothing}
 use Rattle.buffer.specs.Slice.{sameBytes}
 use Rattle.buffer.proofs.Equality.{bytes-same, same-bytes}
 use Rattle.text.specs.Decimal.{digit, digits, decimal, valueFrom, value, spelled, Laws}
 
 -- a digit more, by its test
-digits-turn : (most n : ℕ) {b : Bool} → ltb n 10 ≡ b → digits (suc most) n ≡ elim b as (λ x. List ℕ) [ true ↦ digit n ∷ [] | false ↦ digits most (n / 10) ++ (digit (n % 10) ∷ []) ]
+digits-turn : (most n : ℕ) {b : Bool} → ltb n 10 ≡ b → digits (suc most) n ≡ elim b as (λ x. List ℕ) [
+  | true ↦ digit n ∷ []
+  | false ↦ digits
+      most (n / 10) ++ (digit (n % 10) ∷ [])
+]
 unfolding digits
 digits-turn most n e =
     ap (λ (b : Bool). elim b as (λ x. List ℕ) [ true ↦ digit n ∷ [] | false ↦ digits most (n / 10) ++ (digit (n % 10) ∷ []) ]) e
@@ -164,7 +168,8 @@ module _ (most : ℕ) (text : List ℕ) where
   unfolding spelled
   cases = go (sameBytes (decimal (value text)) text) refl (decLe (value text) most)
     where
-      go : (b : Bool) → sameBytes (decimal (value text)) text ≡ b → Dec (value text ≤ most) → ((decimal (value text) ≡ text) × (value text ≤ most)) ⊎ (spelled most text ≡ Nothing)
+      go : (b : Bool) → sameBytes (decimal (value text)) text ≡ b → Dec (value text ≤ most) → ((decimal (value text) ≡ text) × (value text ≤
+          most)) ⊎ (spelled most text ≡ Nothing)
       go true e (yes h) = inl (same-bytes (decimal (value text)) text e, h)
       go true e (no h) = inr (rw (e, lt-leb (value text) most (omega arith)))
       go false e h = inr (rw e)

@@ -22,7 +22,8 @@ pub length-within : (k n : ℕ) → n < 10 ^ suc k → (1 ≤ length (decimal n)
 length-within zero n h = omega (arith, length-small n h)
 length-within (suc k) n h = go (decLt n 10) (length-within k (n / 10))
   where
-    go : Dec (n < 10) → (n / 10 < 10 ^ suc k → (1 ≤ length (decimal (n / 10))) × (length (decimal (n / 10)) ≤ suc k)) → (1 ≤ length (decimal n)) × (length (decimal n) ≤ suc (suc k))
+    go : Dec (n < 10) → (n / 10 < 10 ^ suc k → (1 ≤ length (decimal (n / 10))) × (length (decimal (n / 10)) ≤ suc k)) → (1 ≤ length (decimal
+        n)) × (length (decimal n) ≤ suc (suc k))
     go (yes l) rest = omega (arith, length-small n l)
     go (no l) rest = omega (arith, length-more n (omega arith), rest (omega (arith, pow-succ' 10 (suc k))))
 

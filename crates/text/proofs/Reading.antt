@@ -8,7 +8,8 @@ use lib.ListN.{length, getD, take, drop, take-append-drop}
 use lib.Seq.{take-suc, take-all}
 use Rattle.text.specs.declared.Spelled.the-variants.{Number, Nothing}
 use Rattle.text.specs.Decimal.{decimal, valueFrom, value, spelled}
-use Rattle.text.proofs.Digits.{Digits, Plain, nought, from, none, decimal-plain, decimal-small, plain-decimal, value-append, value-decimal, valueFrom-grows, digits-append, one-digit, is-spelled, not-spelled}
+use Rattle.text.proofs.Digits.{Digits, Plain, nought, from, none, decimal-plain, decimal-small, plain-decimal, value-append}
+use Rattle.text.proofs.Digits.{value-decimal, valueFrom-grows, digits-append, one-digit, is-spelled, not-spelled}
 
 pub digit-at : {l : List ℕ} → Digits l → (i : ℕ) → i < length l → (48 ≤ getD l i 0) × (getD l i 0 ≤ 57)
 digit-at none i h = absurd (omega arith)
@@ -61,7 +62,14 @@ module _ (most : ℕ) (text : List ℕ) where
       sym
       (not-spelled most text
       (λ n k e.
-      omega (arith, value-decimal n, ap value e, ap value (take-append-drop i text), value-append (take i text) (drop i text), valueFrom-grows (value (take i text)) (drop i text))))
+      omega (
+        arith,
+        value-decimal n,
+        ap value e,
+        ap value (take-append-drop i text),
+        value-append (take i text) (drop i text),
+        valueFrom-grows (value (take i text)) (drop i text),
+      )))
 
   pub past-most : (i : ℕ) {v : ℕ} → i < length text → v ≡ value (take i text) → most < 10 * v + (getD text i 0 - 48) → Nothing ≡ spelled most text
   past-most i h e k = too-large (i + 1) (omega (arith, read-value text i h e))

@@ -4,11 +4,11 @@ use mathlib.Core.Path.{_≡_, refl, ap, _∙_}
 use mathlib.Core.Logic.{_≢_}
 use Prim.Native.Nat.{ℕ, _+_}
 use native.Mathlib.Omega.{arith}
-use Rattle.timewarp.specs.Lists.{All, count}
+use Rattle.lists.specs.Lists.{All, count}
+use Rattle.lists.proofs.ListLaws.{all-image, count-insert, count-inserts, count-none, matches-other}
 use Rattle.timewarp.specs.Models.{Model}
 use Rattle.timewarp.specs.Gateways.{Event, plain, cancel, message, Gateway, Network, history}
 use Rattle.timewarp.specs.EventSteps.{EventStep, does, undoes, takes, takesAcknowledgment, commits}
-use Rattle.timewarp.proofs.ListLaws.{all-image, count-insert, count-inserts, count-none, matches-other}
 use Rattle.timewarp.proofs.OrderLaws.{event-eq}
 use Rattle.timewarp.proofs.Addressing.{sent-from}
 use Rattle.timewarp.proofs.StepLaws.{taking-outstanding}
@@ -39,7 +39,8 @@ module _ (M : Model) where
   settled-here (takesAcknowledgment x ack here out) e = omega (arith, count-insert (event-eq M) e ack, count-insert (event-eq M) e out)
   settled-here (commits m first due) e = refl
 
-  none-elsewhere : (i : ℕ) {s : List (Event Message)} → All (λ y. from (message y) ≡ i) s → (e : Event Message) → from (message e) ≢ i → count (event-eq M) e s ≡ 0
+  none-elsewhere : (i : ℕ) {s : List (Event Message)} → All (λ y. from (message y) ≡ i) s → (e : Event Message) → from (message e) ≢ i →
+      count (event-eq M) e s ≡ 0
   none-elsewhere i a e k = count-none (event-eq M) e a k
 
   -- What another gateway sent stays as unsettled as it was.

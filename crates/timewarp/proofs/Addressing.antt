@@ -3,11 +3,12 @@ use mathlib.Core.List.{List, _∷_, map}
 use mathlib.Core.Path.{_≡_, refl, ap, subst}
 use Prim.Native.Nat.{ℕ, _≤_, _<_}
 use native.Mathlib.Omega.{arith}
-use Rattle.timewarp.specs.Lists.{All, cons}
+use Rattle.lists.specs.Lists.{All, cons}
+use Rattle.lists.proofs.ListLaws.{all-insert, all-inserts, all-image, all-taken, all-rest, all-both, all-tail, all-head}
 use Rattle.timewarp.specs.Models.{Model, hour, sentBy}
 use Rattle.timewarp.specs.Gateways.{Event, plain, cancel, message, Gateway, Network, history}
-use Rattle.timewarp.specs.EventSteps.{EventStep, does, undoes, takes, takesAcknowledgment, commits, Taking, becomesPending, meetsCancel, strikesOut, waits}
-use Rattle.timewarp.proofs.ListLaws.{all-insert, all-inserts, all-image, all-taken, all-rest, all-both, all-tail, all-head}
+use Rattle.timewarp.specs.EventSteps.{EventStep, does, undoes, takes, takesAcknowledgment, commits, Taking, becomesPending}
+use Rattle.timewarp.specs.EventSteps.{meetsCancel, strikesOut, waits}
 use Rattle.timewarp.proofs.StepLaws.{history-undone, history-committed}
 
 module _ (M : Model) where

@@ -1,19 +1,21 @@
 -- The calls are chains of elementary steps.
-use mathlib.Core.Bool.{Bool, true, false, cond}
+use mathlib.Core.Bool.{Bool, true, false, cond, _||_}
 use mathlib.Core.List.{List, [], _∷_, _++_, map}
 use mathlib.Core.Path.{_≡_, refl, sym, ap, subst, _∙_}
 use Prim.Native.Nat.{ℕ, zero, suc, _≤_}
 use native.Mathlib.Omega.{arith}
 use lib.Dec.{ltb, ltb→lt}
-use Rattle.timewarp.specs.Lists.{All, nil, cons, Insert, here, there}
+use Rattle.lists.specs.Lists.{All, nil, cons, Insert, here, there, any, withoutFirst}
+use Rattle.lists.proofs.ListLaws.{insert-last, inserts-back, all-taken, all-map, all-left}
+use Rattle.lists.proofs.FamilyLaws.{change-at}
 use Rattle.timewarp.specs.Models.{Model, hour, NotLater, sentBy}
 use Rattle.timewarp.specs.SingleQueue.{isNotLater, earliest, others}
 use Rattle.timewarp.specs.Gateways.{Event, plain, cancel, message, Gateway, history, after}
 use Rattle.timewarp.specs.EventSteps.{does, undoes, takes, takesAcknowledgment, commits, Taking, becomesPending, meetsCancel, strikesOut, waits}
 use Rattle.timewarp.specs.Worlds.{Setting, World, Step, event, Steps, none, then}
-use Rattle.timewarp.specs.Calls.{has, without, same, sameEvent, enqueue, becomes, doMessage, doEarliest, work, undoMessage, undoLater, undoBackTo, accept, acceptMet, acceptPending, acceptStriking, acceptWaiting, takePlain, takeCancel, takeAcknowledgment, oldest, newerOnes, commitOldest, commit}
-use Rattle.timewarp.proofs.ListLaws.{insert-last, inserts-back, all-taken, all-map, all-left}
-use Rattle.timewarp.proofs.FamilyLaws.{change-at}
+use Rattle.timewarp.proofs.ExampleCalls.{same, sameEvent, enqueue, becomes, doMessage, doEarliest, work, undoMessage, undoLater}
+use Rattle.timewarp.proofs.ExampleCalls.{undoBackTo, accept, acceptMet, acceptPending, acceptStriking, acceptWaiting, takePlain}
+use Rattle.timewarp.proofs.ExampleCalls.{takeCancel, takeAcknowledgment, oldest, newerOnes, commitOldest, commit}
 use Rattle.timewarp.proofs.OrderLaws.{Compared, sooner, later, compared, Sorted, empty, newest, order-refl, order-trans, order-antisym, not-later}
 use Rattle.timewarp.proofs.QueueLaws.{first-taken, first-least}
 use Rattle.timewarp.proofs.Histories.{bounds-events, acknowledgments-settle}
@@ -31,22 +33,22 @@ insert-append k here = here
 insert-append k (there i) = there (insert-append k i)
 
 -- What a test finds can be taken out.
-without-taken : {A : Type 0} (a : A) (test : A → Bool) → ((b : A) → test b ≡ true → a ≡ b) → (l : List A) → has test l ≡ true → Insert a (without test l) l
-unfolding has without
+without-taken : {A : Type 0} (a : A) (test : A → Bool) → ((b : A) → test b ≡ true → a ≡ b) → (l : List A) → any test l ≡ true → Insert a (withoutFirst test l) l
+unfolding any withoutFirst
 without-taken a test is [] h = absurd (let z : _≡_ {A = ℕ} 0 1 = cc in omega arith)
 without-taken a test is (b ∷ l) h = go (test b) refl (without-taken a test is l)
   where
-    go : (x : Bool) → test b ≡ x → (has test l ≡ true → Insert a (without test l) l) → Insert a (cond (test b) l (b ∷ without test l)) (b ∷ l)
+    go : (x : Bool) → test b ≡ x → (any test l ≡ true → Insert a (withoutFirst test l) l) → Insert a (cond (test b) l (b ∷ withoutFirst test l)) (b ∷ l)
     go true e k = rw e (subst (λ y. Insert a l (y ∷ l)) (is b e) here)
     go false e k = rw e (there (k (rw e at h)))
 
 -- What stands in a list is found.
-has-inserted : {A : Type 0} {a : A} (test : A → Bool) → test a ≡ true → {l m : List A} → Insert a l m → has test m ≡ true
-unfolding has
+has-inserted : {A : Type 0} {a : A} (test : A → Bool) → test a ≡ true → {l m : List A} → Insert a l m → any test m ≡ true
+unfolding any
 has-inserted test e here = rw e
 has-inserted test e (there {b = b} {m = m} i) = go (test b) refl (has-inserted test e i)
   where
-    go : (x : Bool) → test b ≡ x → has test m ≡ true → cond (test b) true (has test m) ≡ true
+    go : (x : Bool) → test b ≡ x → any test m ≡ true → (test b || any test m) ≡ true
     go true f k = rw f
     go false f k = rw f k
 
@@ -85,7 +87,7 @@ module _ (S : Setting) where
   sameEvent-refl (cancel m) = same-refl m
 
   -- An event under way is taken out by looking for it.
-  taken-out : (e : Event Message) {rest l : List (Event Message)} → Insert e rest l → Insert e (without (sameEvent S e) l) l
+  taken-out : (e : Event Message) {rest l : List (Event Message)} → Insert e rest l → Insert e (withoutFirst (sameEvent S e) l) l
   taken-out e i = without-taken e (sameEvent S e) (sameEvent-is e) _ (has-inserted (sameEvent S e) (sameEvent-refl e) i)
 
   enqueued : (m : Message) (l : List Message) → Insert m l (enqueue S m l)
@@ -93,7 +95,8 @@ module _ (S : Setting) where
   enqueued m [] = here
   enqueued m (n ∷ l) = go (isNotLater (key n) (key m)) refl (enqueued m l)
     where
-      go : (x : Bool) → isNotLater (key n) (key m) ≡ x → Insert m l (enqueue S m l) → Insert m (n ∷ l) (cond (isNotLater (key n) (key m)) (n ∷ enqueue S m l) (m ∷ (n ∷ l)))
+      go : (x : Bool) → isNotLater (key n) (key m) ≡ x → Insert m l (enqueue S m l) → Insert m (n ∷ l) (cond (isNotLater (key n) (key m)) (n
+          ∷ enqueue S m l) (m ∷ (n ∷ l)))
       go true e k = rw e (there k)
       go false e k = rw e here
 
@@ -208,17 +211,17 @@ module _ (S : Setting) where
       -- Undoing back to an equal message leaves it pending.
       record Back (w v : World S) : Type 0 where
         undone : Undone w v
-        is-pending : has (same S (message e)) (queue v .pending) ≡ true
+        is-pending : any (same S (message e)) (queue v .pending) ≡ true
 
       back-chain :
           (l : List Message) (w : World S) →
           queue w .processed ≡ l →
           Sorted model l →
-          has (same S (message e)) l ≡ true →
+          any (same S (message e)) l ≡ true →
           {rest : List (Event Message)} →
           Insert e rest (w .events .network .events) →
           Back w (undoBackTo S i (message e) l w)
-      unfolding undoBackTo has
+      unfolding undoBackTo any
       back-chain [] w p s h under = absurd (let z : _≡_ {A = ℕ} 0 1 = cc in omega arith)
       back-chain (m ∷ older) w p (newest a s) h under =
           go
@@ -235,7 +238,8 @@ module _ (S : Setting) where
           go :
               (x : Bool) →
               same S (message e) m ≡ x →
-              (has (same S (message e)) older ≡ true → Back (undoMessage S i (queue w) m older w) (undoBackTo S i (message e) older (undoMessage S i (queue w) m older w))) →
+              (any (same S (message e)) older ≡ true → Back (undoMessage S i (queue w) m older w) (undoBackTo S i (message e) older
+              (undoMessage S i (queue w) m older w))) →
               Back
               w
               (cond (same S (message e) m) (undoMessage S i (queue w) m older w) (undoBackTo S i (message e) older (undoMessage S i (queue w) m older w)))
@@ -260,7 +264,8 @@ module _ (S : Setting) where
       accept-step w g under taking = event inside (takes e (taken-out e under) (insert-last _ _) to-here taking)
 
       -- In a good world no agreed time is above what is under way.
-      not-below : (w : World S) → Good S w → {rest : List (Event Message)} → Insert e rest (w .events .network .events) → w .rounds .agreed i ≤ hour model (message e)
+      not-below : (w : World S) → Good S w → {rest : List (Event Message)} → Insert e rest (w .events .network .events) → w .rounds .agreed
+          i ≤ hour model (message e)
       not-below w k under = all-taken under (bounds-events model (k .events-sound) (bounds S k i inside .outstanding-from))
 
       processed-sorted : (w : World S) → Good S w → Sorted model (queue w .processed)
@@ -276,7 +281,7 @@ module _ (S : Setting) where
         Insert (plain m) rest (w .events .network .events) →
         Steps S w (takePlain S i m w)
     unfolding takePlain acceptMet acceptPending message
-    takePlain-chain m w k to-here under = go (has (same S m) (w .events .gateways i .waiting)) refl
+    takePlain-chain m w k to-here under = go (any (same S m) (w .events .gateways i .waiting)) refl
       where
         u : NoneLater (plain m) to-here w (undoLater S i m (w .events .gateways i .processed) w)
         u = later-chain (plain m) to-here (w .events .gateways i .processed) w refl (processed-sorted (plain m) to-here w k) under
@@ -284,7 +289,7 @@ module _ (S : Setting) where
         v : World S
         v = undoLater S i m (w .events .gateways i .processed) w
 
-        go : (x : Bool) → has (same S m) (w .events .gateways i .waiting) ≡ x → Steps S w (takePlain S i m w)
+        go : (x : Bool) → any (same S m) (w .events .gateways i .waiting) ≡ x → Steps S w (takePlain S i m w)
         go true f =
             rw f
             (then none (accept-step (plain m) to-here w _ under (meetsCancel m (without-taken m (same S m) (same-is m) _ f))))
@@ -310,22 +315,23 @@ module _ (S : Setting) where
         Steps S w (takeCancel S i m w)
     unfolding takeCancel acceptStriking acceptWaiting message
     takeCancel-chain m w k to-here under =
-        go (has (same S m) (w .events .gateways i .pending)) refl (has (same S m) (w .events .gateways i .processed)) refl
+        go (any (same S m) (w .events .gateways i .pending)) refl (any (same S m) (w .events .gateways i .processed)) refl
       where
         v : World S
         v = undoBackTo S i m (w .events .gateways i .processed) w
 
-        back : has (same S m) (w .events .gateways i .processed) ≡ true → Back (cancel m) to-here w v
+        back : any (same S m) (w .events .gateways i .processed) ≡ true → Back (cancel m) to-here w v
         back f = back-chain (cancel m) to-here (w .events .gateways i .processed) w refl (processed-sorted (cancel m) to-here w k) f under
 
-        strike : (u : World S) → {rest : List (Event Message)} → Insert (cancel m) rest (u .events .network .events) → has (same S m) (u .events .gateways i .pending) ≡ true → Step S u (acceptStriking S i m (u .events .gateways i) u)
+        strike : (u : World S) → {rest : List (Event Message)} → Insert (cancel m) rest (u .events .network .events) → any (same S m)
+            (u .events .gateways i .pending) ≡ true → Step S u (acceptStriking S i m (u .events .gateways i) u)
         strike u under f = accept-step (cancel m) to-here u _ under (strikesOut m (without-taken m (same S m) (same-is m) _ f))
 
         go :
             (x : Bool) →
-            has (same S m) (w .events .gateways i .pending) ≡ x →
+            any (same S m) (w .events .gateways i .pending) ≡ x →
             (y : Bool) →
-            has (same S m) (w .events .gateways i .processed) ≡ y →
+            any (same S m) (w .events .gateways i .processed) ≡ y →
             Steps S w (takeCancel S i m w)
         go true f y d = rw f (then none (strike w under f))
         go false f true d = rw (f, d) (then (back d .undone .chain) (strike v (back d .undone .under-way) (back d .is-pending)))

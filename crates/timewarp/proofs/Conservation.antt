@@ -4,13 +4,15 @@ use mathlib.Core.Path.{_≡_, sym, ap, _∙_}
 use mathlib.Core.Logic.{_≢_}
 use Prim.Native.Nat.{ℕ, _+_}
 use native.Mathlib.Omega.{arith}
-use Rattle.timewarp.specs.Lists.{Insert}
+use Rattle.lists.specs.Lists.{Insert}
+use Rattle.lists.proofs.ListLaws.{count-append, count-insert, matches-other}
 use Rattle.timewarp.specs.Models.{Model, sentBy}
 use Rattle.timewarp.specs.Gateways.{Event, plain, cancel, message, Gateway, Network, history}
-use Rattle.timewarp.specs.EventSteps.{EventStep, does, undoes, takes, takesAcknowledgment, commits, Taking, becomesPending, meetsCancel, strikesOut, waits}
-use Rattle.timewarp.proofs.ListLaws.{count-append, count-insert, matches-other}
+use Rattle.timewarp.specs.EventSteps.{EventStep, does, undoes, takes, takesAcknowledgment, commits, Taking, becomesPending}
+use Rattle.timewarp.specs.EventSteps.{meetsCancel, strikesOut, waits}
 use Rattle.timewarp.proofs.OrderLaws.{message-eq, event-eq}
-use Rattle.timewarp.proofs.EventCounts.{times, eventCount, plain-injective, cancel-injective, plain-no-cancel, cancel-no-plain, insert-own, inserts-own, insert-other, inserts-other, times-cons, times-insert}
+use Rattle.timewarp.proofs.EventCounts.{times, eventCount, plain-injective, cancel-injective, plain-no-cancel, cancel-no-plain}
+use Rattle.timewarp.proofs.EventCounts.{insert-own, inserts-own, insert-other, inserts-other, times-cons, times-insert}
 use Rattle.timewarp.proofs.StepLaws.{history-undone, history-committed, taking-history}
 
 module _ (M : Model) where

@@ -4,11 +4,12 @@ use mathlib.Core.List.{List, [], _++_, map}
 use mathlib.Core.Path.{_≡_, refl, sym, subst}
 use Prim.Native.Nat.{ℕ, _≤_}
 use native.Mathlib.Omega.{arith}
-use Rattle.timewarp.specs.Lists.{All, nil, Inserts, nothing}
+use Rattle.lists.specs.Lists.{All, nil, Inserts, unchanged}
+use Rattle.lists.proofs.ListLaws.{all-insert, all-taken, all-rest, all-map}
 use Rattle.timewarp.specs.Models.{Model, hour, sentBy}
 use Rattle.timewarp.specs.Gateways.{Event, plain, cancel, message, Gateway, Network, Data, history}
-use Rattle.timewarp.specs.EventSteps.{EventStep, does, undoes, takes, takesAcknowledgment, commits, Taking, becomesPending, meetsCancel, strikesOut, waits}
-use Rattle.timewarp.proofs.ListLaws.{all-insert, all-taken, all-rest, all-map}
+use Rattle.timewarp.specs.EventSteps.{EventStep, does, undoes, takes, takesAcknowledgment, commits, Taking, becomesPending}
+use Rattle.timewarp.specs.EventSteps.{meetsCancel, strikesOut, waits}
 use Rattle.timewarp.proofs.OrderLaws.{hour-order}
 use Rattle.timewarp.proofs.StepLaws.{taking-outstanding}
 use Rattle.timewarp.proofs.Addressing.{sent-later}
@@ -50,7 +51,7 @@ module _ (M : Model) where
   taking-comes t (waits m put) h w =
       record { pending-from = w .pending-from; waiting-from = all-insert put h (w .waiting-from) }
 
-  -- Where nothing is sent.
+  -- Where unchanged is sent.
   quiet :
       (d : Data Message) (i : ℕ) (g : Gateway Message) →
       ((t : ℕ) → OutstandingFrom M (d .gateways i) t → OutstandingFrom M g t) →
@@ -62,7 +63,7 @@ module _ (M : Model) where
         sense = plain;
         carries = λ y. refl;
         out = d .gateways i .outstanding;
-        put-in = nothing;
+        put-in = unchanged;
         then-go = go;
         late = λ t u. nil;
         comes = come;

@@ -4,10 +4,10 @@ use mathlib.Core.Path.{_≡_, refl}
 use mathlib.Core.Logic.{_≢_}
 use Prim.Native.Nat.{ℕ, _+_}
 use native.Mathlib.Omega.{arith}
-use Rattle.timewarp.specs.Lists.{Insert, Inserts, count, matches}
+use Rattle.lists.specs.Lists.{Insert, Inserts, count, matches}
+use Rattle.lists.proofs.ListLaws.{count-cons, count-insert, count-inserts, count-image, count-none, matches-other, matches-image, all-image, all-every}
 use Rattle.timewarp.specs.Models.{Model}
 use Rattle.timewarp.specs.Gateways.{Event, plain, cancel}
-use Rattle.timewarp.proofs.ListLaws.{count-cons, count-insert, count-inserts, count-image, count-none, matches-other, matches-image, all-image, all-every}
 use Rattle.timewarp.proofs.OrderLaws.{message-eq, event-eq}
 
 pub plain-injective : {A : Type 0} (x y : A) → plain x ≡ plain y → x ≡ y

@@ -1,12 +1,15 @@
 -- Examples by computation: a straggler that undoes and cancels, and a cancel that overtakes its message.
 use mathlib.Core.List.{[], _∷_}
 use mathlib.Core.Path.{_≡_, refl}
-use Rattle.timewarp.specs.Families.{change}
+use Rattle.lists.specs.Lists.{any, withoutFirst}
+use Rattle.lists.specs.Families.{change, together}
 use Rattle.timewarp.specs.Models.{stateAfter, sentBy, first, hour}
-use Rattle.timewarp.specs.SingleQueue.{together, isNotLater, earliest, others, openingQueue, doNext, next, steps, measure, singleHistory}
+use Rattle.timewarp.specs.SingleQueue.{isNotLater, earliest, others, openingQueue, doNext, next, steps, measure, singleHistory}
 use Rattle.timewarp.specs.Gateways.{plain, cancel, history, gatewayOf, after, openingData}
 use Rattle.timewarp.specs.Worlds.{World, openingWorld}
-use Rattle.timewarp.specs.Calls.{has, without, same, sameEvent, enqueue, becomes, doMessage, doEarliest, work, undoMessage, undoLater, undoBackTo, accept, acceptMet, acceptPending, acceptStriking, acceptWaiting, takePlain, takeCancel}
+use Rattle.timewarp.proofs.ExampleCalls.{same, sameEvent, enqueue, becomes, doMessage, doEarliest, work, undoMessage, undoLater}
+use Rattle.timewarp.proofs.ExampleCalls.{undoBackTo, accept, acceptMet, acceptPending, acceptStriking, acceptWaiting, takePlain}
+use Rattle.timewarp.proofs.ExampleCalls.{takeCancel}
 use Rattle.timewarp.proofs.ExampleModel.{Parcel, parcel, passedOn, atFirst, relay, relayOfTwo}
 
 -- What the two gateways begin with, and what they send.
@@ -49,7 +52,8 @@ straggler-undoes :
     × (straggler .events .gateways 1 ≡ gatewayOf [] [] (a2 ∷ (q5 ∷ [])) [] (plain r6 ∷ (cancel r6 ∷ [])))
     × (straggler .events .network .events ≡ plain r6 ∷ (cancel r6 ∷ []))
     × (straggler .events .network .acknowledgments ≡ plain a2 ∷ [])
-unfolding early straggler openingWorld openingData work doEarliest doMessage becomes takePlain undoLater undoMessage acceptMet acceptPending accept has without same sameEvent enqueue after change history sentBy stateAfter passedOn atFirst isNotLater earliest others
+unfolding early straggler openingWorld openingData work doEarliest doMessage becomes takePlain undoLater undoMessage acceptMet acceptPending
+    accept any withoutFirst same sameEvent enqueue after change history sentBy stateAfter passedOn atFirst isNotLater earliest others
 straggler-undoes = (refl, refl, refl, refl)
 
 -- The cancel waits, and vanishes with its message.
@@ -58,7 +62,9 @@ cancel-overtakes :
     × (met .events .gateways 0 ≡ gatewayOf [] (p1 ∷ []) [] [] (plain a2 ∷ []))
     × (met .events .network .events ≡ [])
     × (met .events .network .acknowledgments ≡ plain a2 ∷ (cancel r6 ∷ (plain r6 ∷ [])))
-unfolding met overtaken early straggler openingWorld openingData work doEarliest doMessage becomes takePlain takeCancel undoLater undoBackTo undoMessage acceptMet acceptPending acceptStriking acceptWaiting accept has without same sameEvent enqueue after change history sentBy stateAfter passedOn atFirst isNotLater earliest others
+unfolding met overtaken early straggler openingWorld openingData work doEarliest doMessage becomes takePlain takeCancel undoLater undoBackTo
+    undoMessage acceptMet acceptPending acceptStriking acceptWaiting accept any withoutFirst same sameEvent enqueue after change history
+    sentBy stateAfter passedOn atFirst isNotLater earliest others
 cancel-overtakes = (refl, refl, refl, refl)
 
 -- The single queue does a2 before q5, so that s6 is sent and r6 never.

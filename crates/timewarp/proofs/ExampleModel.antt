@@ -6,7 +6,7 @@ use Prim.Native.Nat.{ℕ, zero, suc, _-_, _≤_, _<_}
 use native.Mathlib.Omega.{arith}
 use lib.Dec.{ltb, ltb→lt, lit<}
 use lib.ListN.{length}
-use Rattle.timewarp.specs.Lists.{All, nil, cons}
+use Rattle.lists.specs.Lists.{All, nil, cons}
 use Rattle.timewarp.specs.Models.{Model, first}
 use Rattle.timewarp.specs.Worlds.{Setting}
 use Rattle.timewarp.proofs.SmallGraphs.{two}

@@ -3,12 +3,12 @@ use mathlib.Core.List.{List, _++_, append-assoc}
 use mathlib.Core.Path.{_≡_, sym, ap, _∙_}
 use Prim.Native.Nat.{ℕ, _≤_}
 use native.Mathlib.Omega.{arith}
-use Rattle.timewarp.specs.Lists.{All, Insert}
+use Rattle.lists.specs.Lists.{All, Insert}
+use Rattle.lists.proofs.ListLaws.{all-map, all-count, count-all, count-none, found}
 use Rattle.timewarp.specs.Models.{Model, hour}
 use Rattle.timewarp.specs.Gateways.{Event, plain, cancel, message, Gateway, Data, history}
 use Rattle.timewarp.specs.SingleQueue.{singleHistory}
-use Rattle.timewarp.specs.Claims.{Beginning}
-use Rattle.timewarp.proofs.ListLaws.{all-map, all-count, count-all, count-none, found}
+use Rattle.timewarp.specs.Claims.{EarlierPart}
 use Rattle.timewarp.proofs.OrderLaws.{message-eq, event-eq}
 use Rattle.timewarp.proofs.EventCounts.{eventCount}
 use Rattle.timewarp.proofs.Addressing.{Between}
@@ -41,7 +41,8 @@ module _ (M : Model) where
     unfolding Settled
     outstanding-there e h = omega (arith, s .settled e)
 
-    pub acknowledgments-settle : All (λ e. (rest : List (Event Message)) × Insert e rest (d .gateways (from (message e)) .outstanding)) (d .network .acknowledgments)
+    pub acknowledgments-settle : All (λ e. (rest : List (Event Message)) × Insert e rest (d .gateways (from (message e)) .outstanding))
+        (d .network .acknowledgments)
     unfolding unsettled
     acknowledgments-settle =
         count-all (event-eq M) _ (λ e h. found (event-eq M) e _ (outstanding-there e (omega arith)))
@@ -98,7 +99,7 @@ module _ (M : Model) where
       same-below = unique M accounts (queue-accounts M t) t (omega arith)
 
     -- What is committed is a beginning.
-    pub committed-beginning : (i : ℕ) → i ≤ last → Bounds (agreed i) d → Beginning (d .gateways i .committed) (singleHistory M i)
+    pub committed-beginning : (i : ℕ) → i ≤ last → Bounds (agreed i) d → EarlierPart (d .gateways i .committed) (singleHistory M i)
     unfolding history
     committed-beginning i inside b =
         let mine = below M (agreed i) (history (d .gateways i)) in
@@ -106,7 +107,8 @@ module _ (M : Model) where
         let p = below-beginning M (d .gateways i .processed) (d .gateways i .committed) (s .ordered i .below) (mine .1) in
         let q = below-rest M (its .1) in (
           q .0 ++ p .0,
-          q .1 ∙ ap (λ l. q .0 ++ l) (sym (same-below b i inside (mine .0) (its .0) (mine .1) (its .1)) ∙ p .1) ∙ sym (append-assoc (q .0) (p .0) (d .gateways i .committed)),
+          q .1 ∙ ap (λ l. q .0 ++ l) (sym (same-below b i inside (mine .0) (its .0) (mine .1) (its .1)) ∙ p .1) ∙ sym (append-assoc (q .0)
+              (p .0) (d .gateways i .committed)),
         )
 
     -- Where t is above every hour the histories are the single queue's whole histories.

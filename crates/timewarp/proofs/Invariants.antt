@@ -1,15 +1,15 @@
 -- The invariants of the events together, kept by every step: order, addresses, outstanding, conservation.
 use mathlib.Core.List.{List}
 use mathlib.Core.Path.{_≡_, sym, ap}
-use Prim.Native.Nat.{ℕ, _+_, _≤_}
+use Prim.Native.Nat.{ℕ, _+_, _≤_, suc}
 use native.Mathlib.Omega.{arith}
-use Rattle.timewarp.specs.Lists.{All, nil}
-use Rattle.timewarp.specs.Families.{change, sum}
+use Rattle.lists.specs.Lists.{All, nil}
+use Rattle.lists.specs.Families.{change, sum}
+use Rattle.lists.proofs.ListLaws.{all-every, all-both, count-nil}
+use Rattle.lists.proofs.FamilyLaws.{Changed, at, off, change?, change-each, sum-agree, sum-constant, sum-change}
 use Rattle.timewarp.specs.Models.{Model, hour}
 use Rattle.timewarp.specs.Gateways.{Event, plain, cancel, message, Gateway, Network, Data, history, after, openingData}
 use Rattle.timewarp.specs.EventSteps.{EventStep}
-use Rattle.timewarp.proofs.ListLaws.{all-every, all-both, count-nil}
-use Rattle.timewarp.proofs.FamilyLaws.{Changed, at, off, change?, change-each, sum-agree, sum-constant, sum-change}
 use Rattle.timewarp.proofs.OrderLaws.{empty, message-eq, event-eq}
 use Rattle.timewarp.proofs.EventCounts.{times, eventCount}
 use Rattle.timewarp.proofs.Ordering.{Ordered, ordered-later, ordered-step}
@@ -22,7 +22,7 @@ module _ (M : Model) where
 
   -- What all gateways sent of x.
   unfoldable pub sentOf : Message → (ℕ → Gateway Message) → ℕ
-  sentOf x f = sum last (λ j. times M x (sentIn M j (history (f j))))
+  sentOf x f = sum (suc last) (λ j. times M x (sentIn M j (history (f j))))
 
   unfoldable pub Settled : Data Message → Type 0
   Settled d = (e : Event Message) → eventCount M e (d .gateways (from (message e)) .outstanding) ≡ unsettled M e (d .network)
@@ -65,15 +65,16 @@ module _ (M : Model) where
               count-nil (message-eq M) x,
               count-nil (event-eq M) (plain x),
               count-nil (event-eq M) (cancel x),
-              sum-agree last _ (λ k. 0) (λ k l. count-nil (message-eq M) x),
-              sum-constant last 0,
+              sum-agree (suc last) _ (λ k. 0) (λ k l. count-nil (message-eq M) x),
+              sum-constant (suc last) 0,
             );
       }
     where
       here : (i : ℕ) → All (Here M i) (opening i)
       here i = all-both (λ y a b. record { to-here = a; due = b }) (M .opening-here i) (M .opening-due i)
 
-  module _ (agreed : ℕ → ℕ) (d : Data Message) (i : ℕ) {sent : List Message} {g : Gateway Message} {n : Network Message} (inside : i ≤ last) (step : EventStep M i (agreed i) (d .gateways i) (d .network) sent g n) where
+  module _ (agreed : ℕ → ℕ) (d : Data Message) (i : ℕ) {sent : List Message} {g : Gateway Message} {n : Network Message} (inside : i ≤ last)
+      (step : EventStep M i (agreed i) (d .gateways i) (d .network) sent g n) where
     settled-step : Settled d → Settled (after i g n d)
     unfolding Settled after
     settled-step s e = go (change? i g (d .gateways) (from (message e)))
@@ -95,12 +96,14 @@ module _ (M : Model) where
     unfolding Conserved after sentOf made
     conserved-step s x h = go (change? i g (d .gateways) (to x))
       where
-        total : sum last (λ j. times M x (sentIn M j (history (change i g (d .gateways) j)))) + times M x (sentIn M i (history (d .gateways i))) ≡ sum last (λ j. times M x (sentIn M j (history (d .gateways j)))) + times M x (sentIn M i (history g))
-        total = sum-change last i g (d .gateways) (λ j f. times M x (sentIn M j (history f))) inside
+        total : sum (suc last) (λ j. times M x (sentIn M j (history (change i g (d .gateways) j)))) + times M x (sentIn M i (history
+            (d .gateways i))) ≡ sum (suc last) (λ j. times M x (sentIn M j (history (d .gateways j)))) + times M x (sentIn M i (history g))
+        total = sum-change (suc last) i g (d .gateways) (λ j f. times M x (sentIn M j (history f))) (omega arith)
 
         go :
             Changed i g (d .gateways) (to x) →
-            times M x (opening (to x)) + sum last (λ j. times M x (sentIn M j (history (change i g (d .gateways) j)))) + eventCount M (cancel x) (n .events) + times M x (change i g (d .gateways) (to x) .waiting)
+            times M x (opening (to x)) + sum (suc last) (λ j. times M x (sentIn M j (history (change i g (d .gateways) j)))) + eventCount M
+            (cancel x) (n .events) + times M x (change i g (d .gateways) (to x) .waiting)
             ≡ held M x (change i g (d .gateways) (to x)) + eventCount M (plain x) (n .events)
         go (at p q) =
             omega (

@@ -5,13 +5,14 @@ use mathlib.Core.Logic.{_≢_}
 use Prim.Native.Nat.{ℕ, _≤_}
 use native.Mathlib.Omega.{arith}
 use native.Mathlib.Decide.{ℕ-discrete}
-use Rattle.timewarp.specs.Lists.{All, nil, Inserts, nothing, more}
+use Rattle.lists.specs.Lists.{All, nil, Inserts, unchanged, one-more}
+use Rattle.lists.proofs.ListLaws.{all-map, all-every, all-insert, all-rest, all-before, all-head, all-tail, least-never, least-bounds, bounds-least}
+use Rattle.lists.proofs.FamilyLaws.{change-at, change-off, change-each}
 use Rattle.timewarp.specs.Models.{Model, hour}
 use Rattle.timewarp.specs.Gateways.{Event, message, Gateway, Network, Data, after, openingData}
 use Rattle.timewarp.specs.RoundSteps.{Rounds, opening, lower}
-use Rattle.timewarp.specs.Worlds.{Setting, World, openingWorld, leastOutstanding, leastWaiting, lowerAll, Step, event, round, Steps, none, then, Reachable}
-use Rattle.timewarp.proofs.ListLaws.{all-map, all-every, all-insert, all-rest, all-before, all-head, all-tail, least-never, least-bounds, bounds-least}
-use Rattle.timewarp.proofs.FamilyLaws.{change-at, change-off, change-each}
+use Rattle.timewarp.specs.Worlds.{Setting, World, openingWorld, leastOutstanding, leastWaiting, lowerAll, Step, event, round, Steps}
+use Rattle.timewarp.specs.Worlds.{none, then, Reachable}
 use Rattle.timewarp.proofs.Invariants.{Sound, sound-step, sound-later}
 use Rattle.timewarp.proofs.Invariants as Invariants
 use Rattle.timewarp.proofs.Histories.{OutstandingFrom, WaitingFrom}
@@ -92,19 +93,19 @@ module _ (S : Setting) where
         RoundSound graph never (With d i out) (W d) r →
         RoundSound graph never (With d i out′) (W d) (lowerAll S i sent r)
     unfolding lowerAll
-    all-sent [] r nothing late s = s
-    all-sent (y ∷ sent) {out} r (more {m = one-more} put rest) late s =
+    all-sent [] r unchanged late s = s
+    all-sent (y ∷ sent) {out} r (one-more {m = with-one} put rest) late s =
         all-sent
         sent
         (lower i (hour model y) r)
         rest
         (λ t w o. all-tail (late t w (λ j k. fewer j t (o j k))))
-        (sound-sends graph never (With d i out) (W d) r s (With d i one-more) (W d) (down-With d i out) (down-W d) i (hour model y) inside sends)
+        (sound-sends graph never (With d i out) (W d) r s (With d i with-one) (W d) (down-With d i out) (down-W d) i (hour model y) inside sends)
       where
-        fewer : (j t : ℕ) → With d i one-more j t → With d i out j t
+        fewer : (j t : ℕ) → With d i with-one j t → With d i out j t
         fewer j t a = record { here = λ p. all-rest put (a .here p); elsewhere = a .elsewhere }
 
-        sends : Sends (graph .last) i (hour model y) (With d i out) (W d) (With d i one-more) (W d)
+        sends : Sends (graph .last) i (hour model y) (With d i out) (W d) (With d i with-one) (W d)
         sends =
             record {
               waiting = λ j t w. w;
@@ -141,7 +142,7 @@ module _ (S : Setting) where
       sent
       r
       (f .put-in)
-      (λ t w o. f .late t (record { waiting = w; outstanding = λ j k. before d i nothing j t (o j (omega (arith, same-gateways))) }))
+      (λ t w o. f .late t (record { waiting = w; outstanding = λ j k. before d i unchanged j t (o j (omega (arith, same-gateways))) }))
       (sound-arrives
       graph
       never
@@ -165,7 +166,8 @@ module _ (S : Setting) where
       (down-W d)
       i
       (record {
-        outstanding = λ j t a. change-each (λ k x. With d i (f .out) k t → OutstandingFrom model x t) i g (d .gateways) (λ b. f .then-go t (b .here refl)) (λ k b. before d i (f .put-in) k t b) j a;
+        outstanding = λ j t a. change-each (λ k x. With d i (f .out) k t → OutstandingFrom model x t) i g (d .gateways) (λ b. f .then-go t
+            (b .here refl)) (λ k b. before d i (f .put-in) k t b) j a;
         elsewhere = λ j t p w. subst (λ x. WaitingFrom model x t) (sym (change-off i g (d .gateways) j p)) w;
         at-i =
             λ t w o. subst

@@ -1,13 +1,11 @@
 -- The laws and proofs of the theory.
-pub mod ListLaws
-pub mod FamilyLaws
+pub mod Acknowledging
 pub mod OrderLaws
 pub mod StepLaws
 pub mod EventCounts
 pub mod Conservation
 pub mod Ordering
 pub mod Addressing
-pub mod Acknowledging
 pub mod Invariants
 pub mod Uniqueness
 pub mod QueueLaws
@@ -25,6 +23,7 @@ pub mod RoundCounts
 pub mod RoundInvariants
 pub mod Joined
 pub mod Theorem
+pub mod ExampleCalls
 pub mod CallChains
 pub mod SmallGraphs
 pub mod RoundExamples

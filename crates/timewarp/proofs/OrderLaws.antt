@@ -7,11 +7,11 @@ use Prim.Native.Nat.{ℕ, _≤_, _<_}
 use native.Mathlib.Omega.{arith}
 use native.Mathlib.Decide.{ℕ-discrete}
 use lib.Dec.{T, ltb, eqb, ltb→lt, lt→ltb, nltb→le, eqb→eq, eqb-refl}
-use Rattle.timewarp.specs.Lists.{All, cons, matches, count}
+use Rattle.lists.specs.Lists.{All, cons, matches, count}
+use Rattle.lists.proofs.ListLaws.{matches-same, count-nil, count-cons, all-count}
 use Rattle.timewarp.specs.Models.{first, KeyNotLater, ended, less, same, Model, hour, NotLater}
 use Rattle.timewarp.specs.SingleQueue.{isNotLater}
 use Rattle.timewarp.specs.Gateways.{Event, plain, cancel}
-use Rattle.timewarp.proofs.ListLaws.{matches-same, count-nil, count-cons, all-count}
 
 pub key-refl : (k : List ℕ) → KeyNotLater k k
 key-refl [] = ended

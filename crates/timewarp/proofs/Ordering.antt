@@ -3,11 +3,12 @@ use mathlib.Core.List.{List, _∷_}
 use mathlib.Core.Path.{subst}
 use Prim.Native.Nat.{ℕ, _≤_, _<_}
 use native.Mathlib.Omega.{arith}
-use Rattle.timewarp.specs.Lists.{All, cons}
+use Rattle.lists.specs.Lists.{All, cons}
+use Rattle.lists.proofs.ListLaws.{all-append, all-insert, all-taken, all-rest, all-map, all-both, all-tail}
 use Rattle.timewarp.specs.Models.{Model, hour, NotLater}
 use Rattle.timewarp.specs.Gateways.{Event, Gateway, Network, history}
-use Rattle.timewarp.specs.EventSteps.{EventStep, does, undoes, takes, takesAcknowledgment, commits, Taking, becomesPending, meetsCancel, strikesOut, waits}
-use Rattle.timewarp.proofs.ListLaws.{all-append, all-insert, all-taken, all-rest, all-map, all-both, all-tail}
+use Rattle.timewarp.specs.EventSteps.{EventStep, does, undoes, takes, takesAcknowledgment, commits, Taking, becomesPending}
+use Rattle.timewarp.specs.EventSteps.{meetsCancel, strikesOut, waits}
 use Rattle.timewarp.proofs.OrderLaws.{Sorted, newest, order-hour}
 use Rattle.timewarp.proofs.StepLaws.{history-undone, history-committed}
 

@@ -7,12 +7,12 @@ use Prim.Native.Nat.{ℕ, zero, suc, _+_, _-_, _≤_, _<_}
 use native.Mathlib.Omega.{arith}
 use native.Mathlib.Decide.{ℕ-discrete}
 use lib.ListN.{length}
-use Rattle.timewarp.specs.Lists.{All, nil, cons, Insert, here, there}
-use Rattle.timewarp.specs.Families.{change, sum}
+use Rattle.lists.specs.Lists.{All, nil, cons, Insert, here, there}
+use Rattle.lists.specs.Families.{change, sum, together}
+use Rattle.lists.proofs.ListLaws.{all-append, all-insert, all-taken, all-rest, all-map, all-both, all-every, count-nil, count-none, count-append, matches-other}
+use Rattle.lists.proofs.FamilyLaws.{together-all, Changed, at, off, change?, sum-agree, sum-constant, change-each, sum-change}
 use Rattle.timewarp.specs.Models.{Model, hour, NotLater, sentBy}
-use Rattle.timewarp.specs.SingleQueue.{together, isNotLater, Queue, earliest, others, openingQueue, doNext, next, steps, measure, singleHistory}
-use Rattle.timewarp.proofs.ListLaws.{all-append, all-insert, all-taken, all-rest, all-map, all-both, all-every, count-nil, count-none, count-append, matches-other}
-use Rattle.timewarp.proofs.FamilyLaws.{Changed, at, off, change?, sum-agree, sum-constant, change-each, sum-change}
+use Rattle.timewarp.specs.SingleQueue.{isNotLater, Queue, earliest, others, openingQueue, doNext, next, steps, measure, singleHistory}
 use Rattle.timewarp.proofs.OrderLaws.{Compared, sooner, later, compared, Sorted, empty, newest, order-refl, order-trans, order-hour, message-eq}
 use Rattle.timewarp.proofs.EventCounts.{times, times-cons, times-insert}
 use Rattle.timewarp.proofs.Addressing.{sent-later, sent-inside, sent-due}
@@ -28,7 +28,8 @@ module _ (M : Model) where
   first-taken m [] = here
   first-taken m (n ∷ l) = go (compared (key m) (key (earliest M n l))) (first-taken n l)
     where
-      go : Compared (key m) (key (earliest M n l)) → Insert (earliest M n l) (others M n l) (n ∷ l) → Insert (cond (isNotLater (key m) (key (earliest M n l))) m (earliest M n l)) (cond (isNotLater (key m) (key (earliest M n l))) (n ∷ l) (m ∷ others M n l)) (m ∷ (n ∷ l))
+      go : Compared (key m) (key (earliest M n l)) → Insert (earliest M n l) (others M n l) (n ∷ l) → Insert (cond (isNotLater (key m) (key
+          (earliest M n l))) m (earliest M n l)) (cond (isNotLater (key m) (key (earliest M n l))) (n ∷ l) (m ∷ others M n l)) (m ∷ (n ∷ l))
       go (sooner c e) i = rw e here
       go (later c e) i = rw e (there i)
 
@@ -37,7 +38,8 @@ module _ (M : Model) where
   first-least m [] = nil
   first-least m (n ∷ l) = go (compared (key m) (key (earliest M n l))) (first-least n l)
     where
-      go : Compared (key m) (key (earliest M n l)) → All (NotLater M (earliest M n l)) (others M n l) → All (NotLater M (cond (isNotLater (key m) (key (earliest M n l))) m (earliest M n l))) (cond (isNotLater (key m) (key (earliest M n l))) (n ∷ l) (m ∷ others M n l))
+      go : Compared (key m) (key (earliest M n l)) → All (NotLater M (earliest M n l)) (others M n l) → All (NotLater M (cond (isNotLater
+          (key m) (key (earliest M n l))) m (earliest M n l))) (cond (isNotLater (key m) (key (earliest M n l))) (n ∷ l) (m ∷ others M n l))
       go (sooner c e) a = rw e (all-insert (first-taken n l) c (all-map (λ y b. order-trans M m (earliest M n l) y c b) a))
       go (later c e) a = rw e (cons c a)
 
@@ -52,30 +54,35 @@ module _ (M : Model) where
     pub balance :
         (x : Message) →
         to x ≤ last →
-        times M x (opening (to x)) + sum last (λ j. times M x (sentIn M j (q .done j))) ≡ times M x (q .done (to x)) + times M x (q .list)
+        times M x (opening (to x)) + sum (suc last) (λ j. times M x (sentIn M j (q .done j))) ≡ times M x (q .done (to x)) + times M x (q .list)
 
-  module _ (m : Message) (rest list : List Message) (h : ℕ → List Message) (taken : Insert m rest list) (least : All (NotLater M m) rest) (k : Kept (record { list = list; done = h })) where
+  module _ (m : Message) (rest list : List Message) (h : ℕ → List Message) (taken : Insert m rest list) (least : All (NotLater M m) rest) (k
+      : Kept (record { list = list; done = h })) where
     sent : List Message
     sent = sentBy M (to m) (h (to m)) m
 
     up-to-m : (i : ℕ) → All (λ p. NotLater M p m) (h i)
     up-to-m i = all-taken taken (k .up-to i)
 
-    up-to-next : (i : ℕ) (d : List Message) → All (λ p. NotLater M p m) d → All (λ y. All (λ p. NotLater M p y) d) rest → All (λ y. All (λ p. NotLater M p y) d) (sent ++ rest)
+    up-to-next : (i : ℕ) (d : List Message) → All (λ p. NotLater M p m) d → All (λ y. All (λ p. NotLater M p y) d) rest → All (λ y. All (λ
+        p. NotLater M p y) d) (sent ++ rest)
     unfolding sent
     up-to-next i d a b =
         all-append
         (all-map (λ y l. all-map (λ p c. order-trans M p m y c (order-hour M m y l)) a) (sent-later M (to m) (h (to m)) m))
         b
 
-    balance-next : (x : Message) → to x ≤ last → times M x (opening (to x)) + sum last (λ j. times M x (sentIn M j (change (to m) (m ∷ h (to m)) h j))) ≡ times M x (change (to m) (m ∷ h (to m)) h (to x)) + times M x (sent ++ rest)
+    balance-next : (x : Message) → to x ≤ last → times M x (opening (to x)) + sum (suc last) (λ j. times M x (sentIn M j (change (to m) (m ∷
+        h (to m)) h j))) ≡ times M x (change (to m) (m ∷ h (to m)) h (to x)) + times M x (sent ++ rest)
     unfolding sent
     balance-next x inside = go (change? (to m) (m ∷ h (to m)) h (to x))
       where
-        total : sum last (λ j. times M x (sentIn M j (change (to m) (m ∷ h (to m)) h j))) + times M x (sentIn M (to m) (h (to m))) ≡ sum last (λ j. times M x (sentIn M j (h j))) + times M x (sentIn M (to m) (m ∷ h (to m)))
-        total = sum-change last (to m) (m ∷ h (to m)) h (λ j d. times M x (sentIn M j d)) (all-taken taken (k .inside))
+        total : sum (suc last) (λ j. times M x (sentIn M j (change (to m) (m ∷ h (to m)) h j))) + times M x (sentIn M (to m) (h (to m))) ≡
+            sum (suc last) (λ j. times M x (sentIn M j (h j))) + times M x (sentIn M (to m) (m ∷ h (to m)))
+        total = sum-change (suc last) (to m) (m ∷ h (to m)) h (λ j d. times M x (sentIn M j d)) (omega (arith, all-taken taken (k .inside)))
 
-        go : Changed (to m) (m ∷ h (to m)) h (to x) → times M x (opening (to x)) + sum last (λ j. times M x (sentIn M j (change (to m) (m ∷ h (to m)) h j))) ≡ times M x (change (to m) (m ∷ h (to m)) h (to x)) + times M x (sentBy M (to m) (h (to m)) m ++ rest)
+        go : Changed (to m) (m ∷ h (to m)) h (to x) → times M x (opening (to x)) + sum (suc last) (λ j. times M x (sentIn M j (change (to m)
+            (m ∷ h (to m)) h j))) ≡ times M x (change (to m) (m ∷ h (to m)) h (to x)) + times M x (sentBy M (to m) (h (to m)) m ++ rest)
         go (at p q) =
             omega (
               arith,
@@ -120,7 +127,8 @@ module _ (M : Model) where
               (to m)
               (m ∷ h (to m))
               h
-              (up-to-next (to m) (m ∷ h (to m)) (cons (order-refl M m) (up-to-m (to m))) (all-both (λ y a b. cons a b) least (all-rest taken (k .up-to (to m)))))
+              (up-to-next (to m) (m ∷ h (to m)) (cons (order-refl M m) (up-to-m (to m))) (all-both (λ y a b. cons a b) least (all-rest taken
+              (k .up-to (to m)))))
               (λ i. up-to-next i (h i) (up-to-m i) (all-rest taken (k .up-to i)));
           inside = all-append (sent-inside M (to m) (h (to m)) m) (all-rest taken (k .inside));
           due = all-append (sent-due M (to m) (h (to m)) m) (all-rest taken (k .due));
@@ -174,7 +182,8 @@ module _ (M : Model) where
   kept-next [] h k = k
   kept-next (m ∷ l) h k = kept-do (earliest M m l) (others M m l) (m ∷ l) h (first-taken m l) (first-least m l) k
 
-  measure-next : (l : List Message) (h : ℕ → List Message) (n : ℕ) → Kept (record { list = l; done = h }) → measure M l ≤ suc n → measure M (next M l h .list) ≤ n
+  measure-next : (l : List Message) (h : ℕ → List Message) (n : ℕ) → Kept (record { list = l; done = h }) → measure M l ≤ suc n → measure M
+      (next M l h .list) ≤ n
   unfolding next measure
   measure-next [] h n k e = omega arith
   measure-next (m ∷ l) h n k e =
@@ -198,44 +207,40 @@ module _ (M : Model) where
   measure-none (m ∷ l) (cons h a) e = absurd (omega arith)
 
   -- All opening lists together hold what the addressee's holds.
-  together-all : {p : Message → Type 0} (n : ℕ) (f : ℕ → List Message) → ((i : ℕ) → i ≤ n → All p (f i)) → All p (together n f)
-  unfolding together
-  together-all zero f a = a zero (omega arith)
-  together-all (suc n) f a = all-append (together-all n f (λ i e. a i (omega arith))) (a (suc n) (omega arith))
-
   opening-elsewhere : (x : Message) (i : ℕ) → to x ≢ i → times M x (opening i) ≡ 0
   opening-elsewhere x i e = count-none (message-eq M) x (M .opening-here i) e
 
-  together-none : (x : Message) (n : ℕ) → n < to x → times M x (together n opening) ≡ 0
+  together-none : (x : Message) (n : ℕ) → n ≤ to x → times M x (together n opening) ≡ 0
   unfolding together
-  together-none x zero e = opening-elsewhere x zero (omega arith)
+  together-none x zero e = count-nil (message-eq M) x
   together-none x (suc n) e =
       omega (
         arith,
-        count-append (message-eq M) x (together n opening) (opening (suc n)),
+        count-append (message-eq M) x (together n opening) (opening n),
         together-none x n (omega arith),
-        opening-elsewhere x (suc n) (omega arith),
+        opening-elsewhere x n (omega arith),
       )
 
-  together-times : (x : Message) (n : ℕ) → to x ≤ n → times M x (together n opening) ≡ times M x (opening (to x))
+  together-times : (x : Message) (n : ℕ) → to x < n → times M x (together n opening) ≡ times M x (opening (to x))
   unfolding together
-  together-times x zero e = ap (λ i. times M x (opening i)) (omega arith)
-  together-times x (suc n) e = go (ℕ-discrete (to x) (suc n)) (together-times x n)
+  together-times x zero e = absurd (omega arith)
+  together-times x (suc n) e = go (ℕ-discrete (to x) n) (together-times x n)
     where
-      go : Dec (to x ≡ suc n) → (to x ≤ n → times M x (together n opening) ≡ times M x (opening (to x))) → times M x (together n opening ++ opening (suc n)) ≡ times M x (opening (to x))
+      go : Dec (to x ≡ n) → (to x < n → times M x (together n opening) ≡ times M x (opening (to x))) → times M x (together n opening ++
+          opening n) ≡ times M x (opening (to x))
       go (yes p) ih =
           omega (
             arith,
-            count-append (message-eq M) x (together n opening) (opening (suc n)),
+            count-append (message-eq M) x (together n opening) (opening n),
             together-none x n (omega arith),
             ap (λ i. times M x (opening i)) p,
           )
       go (no p) ih =
           omega (
             arith,
-            count-append (message-eq M) x (together n opening) (opening (suc n)),
+            count-append (message-eq M) x (together n opening) (opening n),
             ih (omega arith),
-            opening-elsewhere x (suc n) p,
+            opening-elsewhere x n p,
           )
 
   kept-opening : Kept (openingQueue M)
@@ -246,15 +251,15 @@ module _ (M : Model) where
         here = λ i. nil;
         done-due = λ i. nil;
         up-to = λ i. all-every (λ y. nil) _;
-        inside = together-all last opening (λ i e. all-map (λ y p. omega arith) (M .opening-here i));
-        due = together-all last opening (λ i e. M .opening-due i);
+        inside = together-all (suc last) opening (λ i e. all-map (λ y p. omega arith) (M .opening-here i));
+        due = together-all (suc last) opening (λ i e. M .opening-due i);
         balance =
             λ x e. omega (
               arith,
-              together-times x last e,
+              together-times x (suc last) (omega arith),
               count-nil (message-eq M) x,
-              sum-agree last (λ k. times M x []) (λ k. 0) (λ k l. count-nil (message-eq M) x),
-              sum-constant last 0,
+              sum-agree (suc last) (λ k. times M x []) (λ k. 0) (λ k l. count-nil (message-eq M) x),
+              sum-constant (suc last) 0,
             );
       }
 

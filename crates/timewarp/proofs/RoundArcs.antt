@@ -4,12 +4,12 @@ use mathlib.Core.Path.{_≡_, refl, ap}
 use mathlib.Core.Logic.{_≢_}
 use Prim.Native.Nat.{ℕ, zero, suc, _+_, _*_, _≤_, _<_, min}
 use native.Mathlib.Omega.{arith}
-use Rattle.timewarp.specs.Lists.{Insert, tally}
-use Rattle.timewarp.specs.Families.{change, put}
+use Rattle.lists.specs.Lists.{Insert, tally}
+use Rattle.lists.specs.Families.{change, put}
+use Rattle.lists.proofs.ListLaws.{tally-append, tally-insert}
+use Rattle.lists.proofs.FamilyLaws.{Same, same, other, same?, Put, at, off, put?, change-at, change-off}
 use Rattle.timewarp.specs.Arcs.{Graph, Arc, times}
 use Rattle.timewarp.specs.RoundSteps.{idle, counting, stopped, finished, RoundFrame, start, lvt, update, noted}
-use Rattle.timewarp.proofs.ListLaws.{tally-append, tally-insert}
-use Rattle.timewarp.proofs.FamilyLaws.{Same, same, other, same?, Put, at, off, put?, change-at, change-off}
 use Rattle.timewarp.proofs.RoundFrames.{both, both-is, both-not, startOn, lvtOn, sent-first, sent-not-first, sent-none}
 
 -- One arc from a to b: what arrived along it, the statuses and marks of a and b, the Starts and Lvts under way on it.

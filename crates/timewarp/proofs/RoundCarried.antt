@@ -5,12 +5,13 @@ use mathlib.Core.Logic.{_≢_}
 use Prim.Native.Nat.{ℕ, suc, _≤_, _<_}
 use native.Mathlib.Decide.{ℕ-discrete}
 use native.Mathlib.Omega.{arith}
-use Rattle.timewarp.specs.Lists.{All, Insert}
-use Rattle.timewarp.specs.Families.{change}
-use Rattle.timewarp.specs.Arcs.{Graph, Arc, Child, times, children}
+use Rattle.routing.specs.Arcs.{children}
+use Rattle.lists.specs.Lists.{All, Insert}
+use Rattle.lists.specs.Families.{change}
+use Rattle.lists.proofs.ListLaws.{all-member, all-taken, all-image, all-map, tally-insert, count-all, all-count}
+use Rattle.lists.proofs.FamilyLaws.{change-off}
+use Rattle.timewarp.specs.Arcs.{Graph, Arc, Child, times}
 use Rattle.timewarp.specs.RoundSteps.{idle, finished, RoundFrame, start, lvt, update}
-use Rattle.timewarp.proofs.FamilyLaws.{change-off}
-use Rattle.timewarp.proofs.ListLaws.{all-member, all-taken, all-image, all-map, tally-insert, count-all, all-count}
 use Rattle.timewarp.proofs.RoundFrames.{startOn, lvtOn, both-is}
 use Rattle.timewarp.proofs.RoundArcs.{fresh, begun, back, StateOf, ArcStates}
 
@@ -63,9 +64,9 @@ module _ (G : Graph) (st mk : ℕ → ℕ) (tag : ℕ) where
       all-image (λ i. lvt j i tag (mk j))
       (all-map (λ i c. an-lvt (omega (arith, G .matched i j)) p refl refl) (all-times (G .from j)))
 
-  pub updates-carried : (j t v : ℕ) → t < tag → All (Carried G st mk tag) (map (λ k. update j k t v) (children (G .last) j))
+  pub updates-carried : (j t v : ℕ) → t < tag → All (Carried G st mk tag) (map (λ k. update j k t v) (children (suc (G .last)) j))
   updates-carried j t v l =
-      all-image (λ k. update j k t v) (all-map (λ k c. an-update c l) (all-times (children (G .last) j)))
+      all-image (λ k. update j k t v) (all-map (λ k c. an-update c l) (all-times (children (suc (G .last)) j)))
 
   -- at the close no Start and no Lvt is under way
   module _ (ar : ℕ → ℕ → ℕ) (fr : List RoundFrame) (h : ArcStates G st mk ar fr) (z : (a b : ℕ) → Arc G a b → ar a b ≡ 2) where

@@ -5,12 +5,14 @@ use mathlib.Core.Logic.{_≢_}
 use Prim.Native.Nat.{ℕ, zero, suc, _+_, _*_, _≤_, _<_}
 use native.Mathlib.Omega.{arith}
 use lib.ListN.{length}
-use Rattle.timewarp.specs.Lists.{Insert, tally}
-use Rattle.timewarp.specs.Families.{change, put, sum}
-use Rattle.timewarp.specs.Arcs.{Graph, Child, times, arcCount, roundMessages, children}
+use Rattle.routing.specs.Arcs.{children}
+use Rattle.lists.specs.Lists.{Insert, tally}
+use Rattle.lists.specs.Families.{change, put, sum}
+use Rattle.lists.proofs.ListLaws.{tally-append, tally-insert}
+use Rattle.lists.proofs.FamilyLaws.{Same, same, other, same?, change-at, change-off, put-at, put-off, row-at, row-off, sum-agree, sum-add}
+use Rattle.lists.proofs.FamilyLaws.{sum-change, sum-constant}
+use Rattle.timewarp.specs.Arcs.{Graph, Child, times, arcCount, roundMessages}
 use Rattle.timewarp.specs.RoundSteps.{idle, counting, stopped, finished, RoundFrame, start, lvt, update, raise}
-use Rattle.timewarp.proofs.ListLaws.{tally-append, tally-insert}
-use Rattle.timewarp.proofs.FamilyLaws.{Same, same, other, same?, change-at, change-off, put-at, put-off, row-at, row-off, sum-agree, sum-add, sum-change, sum-constant}
 use Rattle.timewarp.proofs.RoundFrames.{both, both-is, both-not, updateTo, sent-first, sent-not-first, sent-none}
 use Rattle.timewarp.proofs.ArcLaws.{ChildOf, child, no-child, child?, parent, all-children, arcs-at-receivers, none-to-0}
 
@@ -26,11 +28,11 @@ spentBy G st j = spent (st j) (length (G .to j)) (length (G .from j))
 
 -- the Updates that gateway j sends on, if it took one
 unfoldable pub relayedBy : Graph → (ℕ → ℕ) → ℕ → ℕ
-relayedBy G accepted j = accepted j * length (children (G .last) j)
+relayedBy G accepted j = accepted j * length (children (suc (G .last)) j)
 
 pub record Counts (G : Graph) (st : ℕ → ℕ) (fr : List RoundFrame) (tag : ℕ) (written : ℕ → ℕ) (accepted : ℕ → ℕ → ℕ) : Type 0 where
-  pub open-round : written tag ≡ sum (G .last) (spentBy G st)
-  pub closed-rounds : (t : ℕ) → t < tag → written t ≡ 2 * arcCount G + sum (G .last) (relayedBy G (accepted t))
+  pub open-round : written tag ≡ sum (suc (G .last)) (spentBy G st)
+  pub closed-rounds : (t : ℕ) → t < tag → written t ≡ 2 * arcCount G + sum (suc (G .last)) (relayedBy G (accepted t))
   pub later-rounds : (t : ℕ) → tag < t → written t ≡ 0
   pub none-accepted : (t j : ℕ) → tag ≤ t → accepted t j ≡ 0
   pub accepted-at-0 : (t : ℕ) → t < tag → accepted t 0 ≡ 1
@@ -39,13 +41,13 @@ pub record Counts (G : Graph) (st : ℕ → ℕ) (fr : List RoundFrame) (tag : �
 
 -- at the close every gateway has written its Starts and its Lvts, of which 0 has none
 pub all-spent : (G : Graph) (st : ℕ → ℕ) → st 0 ≡ stopped → ((j : ℕ) → 0 < j → j ≤ G .last → st j ≡ finished)
-    → sum (G .last) (spentBy G st) ≡ 2 * arcCount G
+    → sum (suc (G .last)) (spentBy G st) ≡ 2 * arcCount G
 unfolding arcCount spentBy spent
 all-spent G st p q =
     omega (
       arith,
-      sum-agree (G .last) (spentBy G st) (λ j. length (G .to j) + length (G .from j)) (λ j l. go j l (same? 0 j)),
-      sum-add (G .last) (λ j. length (G .to j)) (λ j. length (G .from j)),
+      sum-agree (suc (G .last)) (spentBy G st) (λ j. length (G .to j) + length (G .from j)) (λ j l. go j (omega arith) (same? 0 j)),
+      sum-add (suc (G .last)) (λ j. length (G .to j)) (λ j. length (G .from j)),
       arcs-at-receivers G,
     )
   where
@@ -79,7 +81,8 @@ module _ (G : Graph) (st : ℕ → ℕ) (fr : List RoundFrame) (tag : ℕ) (writ
         arith,
         h .closed-rounds t p,
         all-children (G .last),
-        sum-agree (G .last) (relayedBy G (accepted t)) (λ j. length (children (G .last) j)) (λ j l. rw (one-each j l (same? 0 j)) (omega arith)),
+        sum-agree (suc (G .last)) (relayedBy G (accepted t)) (λ j. length (children (suc (G .last)) j)) (λ j l. rw (one-each j (omega arith)
+            (same? 0 j)) (omega arith)),
       )
     where
       one-each : (j : ℕ) → j ≤ G .last → Same 0 j → accepted t j ≡ 1
@@ -88,13 +91,13 @@ module _ (G : Graph) (st : ℕ → ℕ) (fr : List RoundFrame) (tag : ℕ) (writ
 
   -- gateway i comes to status s
   spent-change : (i s : ℕ) → i ≤ G .last
-      → sum (G .last) (spentBy G (change i s st)) + spentBy G st i
-      ≡ sum (G .last) (spentBy G st) + spent s (length (G .to i)) (length (G .from i))
+      → sum (suc (G .last)) (spentBy G (change i s st)) + spentBy G st i
+      ≡ sum (suc (G .last)) (spentBy G st) + spent s (length (G .to i)) (length (G .from i))
   unfolding spentBy
-  spent-change i s l = sum-change (G .last) i s st (λ k x. spent x (length (G .to k)) (length (G .from k))) l
+  spent-change i s l = sum-change (suc (G .last)) i s st (λ k x. spent x (length (G .to k)) (length (G .from k))) (omega arith)
 
   -- a step that writes nothing and takes no Update: the frames left are as many Updates, the sum is the same
-  counts-quiet : (st′ : ℕ → ℕ) (fr′ : List RoundFrame) → sum (G .last) (spentBy G st′) ≡ sum (G .last) (spentBy G st)
+  counts-quiet : (st′ : ℕ → ℕ) (fr′ : List RoundFrame) → sum (suc (G .last)) (spentBy G st′) ≡ sum (suc (G .last)) (spentBy G st)
       → ((t j : ℕ) → tally (updateTo t j) fr′ ≡ tally (updateTo t j) fr)
       → Counts G st′ fr′ tag written accepted
   counts-quiet st′ fr′ e f =
@@ -156,25 +159,25 @@ module _ (G : Graph) (st : ℕ → ℕ) (fr : List RoundFrame) (tag : ℕ) (writ
   counts-finish j t v l p = counts-write j finished (length (G .from j)) (λ i. lvt j i t v) (G .from j) l (rw p (omega arith)) (λ s k i. refl)
 
   -- a gateway that takes an Update sends it to each of its children, and to no others
-  to-child : (i j : ℕ) → Child (G .last) i j → times j (children (G .last) i) ≡ 1
+  to-child : (i j : ℕ) → Child (G .last) i j → times j (children (suc (G .last)) i) ≡ 1
   to-child i j c = go (child? (G .last) i j)
     where
-      go : ChildOf (G .last) i j → times j (children (G .last) i) ≡ 1
+      go : ChildOf (G .last) i j → times j (children (suc (G .last)) i) ≡ 1
       go (child x) = omega arith
       go (no-child x) = omega arith
 
-  to-other : (i k j : ℕ) → Child (G .last) i j → k ≢ i → times j (children (G .last) k) ≡ 0
+  to-other : (i k j : ℕ) → Child (G .last) i j → k ≢ i → times j (children (suc (G .last)) k) ≡ 0
   to-other i k j c n = go (child? (G .last) i j) (child? (G .last) k j)
     where
-      go : ChildOf (G .last) i j → ChildOf (G .last) k j → times j (children (G .last) k) ≡ 0
+      go : ChildOf (G .last) i j → ChildOf (G .last) k j → times j (children (suc (G .last)) k) ≡ 0
       go x (no-child y) = y
       go (no-child x) (child y) = absurd (omega arith)
       go (child x) (child y) = absurd (n (omega arith))
 
   -- gateway 0 closes the round, when all have written all
-  module _ (v : ℕ) (all : sum (G .last) (spentBy G st) ≡ 2 * arcCount G) where
+  module _ (v : ℕ) (all : sum (suc (G .last)) (spentBy G st) ≡ 2 * arcCount G) where
     closing : List RoundFrame
-    closing = map (λ k. update 0 k tag v) (children (G .last) 0)
+    closing = map (λ k. update 0 k tag v) (children (suc (G .last)) 0)
 
     closed-sent-once : (t i j : ℕ) → Child (G .last) i j
         → tally (updateTo t j) (fr ++ closing) + put tag 0 1 accepted t j ≡ put tag 0 1 accepted t i
@@ -184,8 +187,8 @@ module _ (G : Graph) (st : ℕ → ℕ) (fr : List RoundFrame) (tag : ℕ) (writ
         more : tally (updateTo t j) (fr ++ closing) ≡ tally (updateTo t j) fr + tally (updateTo t j) closing
         more = tally-append (updateTo t j) fr closing
 
-        to-j : tag ≡ t → tally (updateTo t j) closing ≡ times j (children (G .last) 0)
-        to-j e = sent-first updateTo (λ k. update 0 k tag v) tag (λ a b k. refl) t j (children (G .last) 0) e
+        to-j : tag ≡ t → tally (updateTo t j) closing ≡ times j (children (suc (G .last)) 0)
+        to-j e = sent-first updateTo (λ k. update 0 k tag v) tag (λ a b k. refl) t j (children (suc (G .last)) 0) e
 
         go : Same tag t → Same 0 i → ChildOf (G .last) i j
             → tally (updateTo t j) (fr ++ closing) + put tag 0 1 accepted t j ≡ put tag 0 1 accepted t i
@@ -195,7 +198,7 @@ module _ (G : Graph) (st : ℕ → ℕ) (fr : List RoundFrame) (tag : ℕ) (writ
               arith,
               more,
               to-j e,
-              ap (λ k. times j (children (G .last) k)) f,
+              ap (λ k. times j (children (suc (G .last)) k)) f,
               put-at tag 0 1 accepted t i e f,
               put-off tag 0 1 accepted t j (λ p. omega arith),
               h .sent-once t i j c,
@@ -215,41 +218,41 @@ module _ (G : Graph) (st : ℕ → ℕ) (fr : List RoundFrame) (tag : ℕ) (writ
             omega (
               arith,
               more,
-              sent-not-first updateTo (λ k. update 0 k tag v) tag (λ a b k. refl) t j (children (G .last) 0) n,
+              sent-not-first updateTo (λ k. update 0 k tag v) tag (λ a b k. refl) t j (children (suc (G .last)) 0) n,
               put-off tag 0 1 accepted t i (λ p. absurd (n p)),
               put-off tag 0 1 accepted t j (λ p. absurd (n p)),
               h .sent-once t i j c,
             )
 
     closed-relays : (t : ℕ) → t < suc tag → Same tag t
-        → raise tag (length (children (G .last) 0)) written t
-        ≡ 2 * arcCount G + sum (G .last) (relayedBy G (put tag 0 1 accepted t))
+        → raise tag (length (children (suc (G .last)) 0)) written t
+        ≡ 2 * arcCount G + sum (suc (G .last)) (relayedBy G (put tag 0 1 accepted t))
     unfolding raise relayedBy
     closed-relays t q (same e d) =
         omega (
           arith,
           all,
           h .open-round,
-          change-at tag (written tag + length (children (G .last) 0)) written t e,
-          ap (λ row. sum (G .last) (relayedBy G row)) (row-at tag 0 1 accepted t e),
-          sum-change (G .last) 0 1 (accepted tag) (λ k x. x * length (children (G .last) k)) (omega arith),
-          sum-agree (G .last) (relayedBy G (accepted tag)) (λ k. 0) (λ k l. none k),
-          sum-constant (G .last) 0,
+          change-at tag (written tag + length (children (suc (G .last)) 0)) written t e,
+          ap (λ row. sum (suc (G .last)) (relayedBy G row)) (row-at tag 0 1 accepted t e),
+          sum-change (suc (G .last)) 0 1 (accepted tag) (λ k x. x * length (children (suc (G .last)) k)) (omega arith),
+          sum-agree (suc (G .last)) (relayedBy G (accepted tag)) (λ k. 0) (λ k l. none k),
+          sum-constant (suc (G .last)) 0,
           none 0,
         )
       where
-        none : (k : ℕ) → accepted tag k * length (children (G .last) k) ≡ 0
+        none : (k : ℕ) → accepted tag k * length (children (suc (G .last)) k) ≡ 0
         none k = rw (h .none-accepted tag k (omega arith)) (omega arith)
     closed-relays t q (other n d) =
         omega (
           arith,
           h .closed-rounds t (omega arith),
-          change-off tag (written tag + length (children (G .last) 0)) written t n,
-          ap (λ row. sum (G .last) (relayedBy G row)) (row-off tag 0 1 accepted t n),
+          change-off tag (written tag + length (children (suc (G .last)) 0)) written t n,
+          ap (λ row. sum (suc (G .last)) (relayedBy G row)) (row-off tag 0 1 accepted t n),
         )
 
-    pub counts-close : Counts G (λ i. idle) (fr ++ map (λ k. update 0 k tag v) (children (G .last) 0)) (suc tag)
-        (raise tag (length (children (G .last) 0)) written) (put tag 0 1 accepted)
+    pub counts-close : Counts G (λ i. idle) (fr ++ map (λ k. update 0 k tag v) (children (suc (G .last)) 0)) (suc tag)
+        (raise tag (length (children (suc (G .last)) 0)) written) (put tag 0 1 accepted)
     unfolding raise closing spentBy spent
     counts-close =
         record {
@@ -257,8 +260,8 @@ module _ (G : Graph) (st : ℕ → ℕ) (fr : List RoundFrame) (tag : ℕ) (writ
               omega (
                 arith,
                 h .later-rounds (suc tag) (omega arith),
-                change-off tag (written tag + length (children (G .last) 0)) written (suc tag) (omega arith),
-                sum-constant (G .last) 0,
+                change-off tag (written tag + length (children (suc (G .last)) 0)) written (suc tag) (omega arith),
+                sum-constant (suc (G .last)) 0,
               );
           closed-rounds = λ t q. closed-relays t q (same? tag t);
           later-rounds =
@@ -266,7 +269,7 @@ module _ (G : Graph) (st : ℕ → ℕ) (fr : List RoundFrame) (tag : ℕ) (writ
               omega (
                 arith,
                 h .later-rounds t (omega arith),
-                change-off tag (written tag + length (children (G .last) 0)) written t (omega arith),
+                change-off tag (written tag + length (children (suc (G .last)) 0)) written t (omega arith),
               );
           none-accepted =
               λ t j q. omega (arith, h .none-accepted t j (omega arith), put-off tag 0 1 accepted t j (λ p. absurd (omega arith)));
@@ -281,7 +284,7 @@ module _ (G : Graph) (st : ℕ → ℕ) (fr : List RoundFrame) (tag : ℕ) (writ
   -- gateway j takes an Update of round s from i and relays it
   module _ (i j s v : ℕ) (rest : List RoundFrame) (x : Insert (update i j s v) rest fr) (q : s < tag) (c : Child (G .last) i j) where
     relayed : List RoundFrame
-    relayed = map (λ k. update j k s v) (children (G .last) j)
+    relayed = map (λ k. update j k s v) (children (suc (G .last)) j)
 
     accepted′ : ℕ → ℕ → ℕ
     accepted′ = put s j (suc (accepted s j)) accepted
@@ -297,8 +300,8 @@ module _ (G : Graph) (st : ℕ → ℕ) (fr : List RoundFrame) (tag : ℕ) (writ
         taken : tally (updateTo t b) fr ≡ both t b s j + tally (updateTo t b) rest
         taken = tally-insert (updateTo t b) x
 
-        to-b : s ≡ t → tally (updateTo t b) relayed ≡ times b (children (G .last) j)
-        to-b e = sent-first updateTo (λ k. update j k s v) s (λ y z k. refl) t b (children (G .last) j) e
+        to-b : s ≡ t → tally (updateTo t b) relayed ≡ times b (children (suc (G .last)) j)
+        to-b e = sent-first updateTo (λ k. update j k s v) s (λ y z k. refl) t b (children (suc (G .last)) j) e
 
         go : Same s t → Same j b → Same j a → ChildOf (G .last) a b
             → tally (updateTo t b) (rest ++ relayed) + accepted′ t b ≡ accepted′ t a
@@ -311,7 +314,7 @@ module _ (G : Graph) (st : ℕ → ℕ) (fr : List RoundFrame) (tag : ℕ) (writ
               taken,
               h .sent-once t a b k,
               both-not t b s j (λ p. absurd (n p)),
-              sent-not-first updateTo (λ k. update j k s v) s (λ y z k. refl) t b (children (G .last) j) n,
+              sent-not-first updateTo (λ k. update j k s v) s (λ y z k. refl) t b (children (suc (G .last)) j) n,
               put-off s j (suc (accepted s j)) accepted t a (λ p. absurd (n p)),
               put-off s j (suc (accepted s j)) accepted t b (λ p. absurd (n p)),
             )
@@ -337,7 +340,7 @@ module _ (G : Graph) (st : ℕ → ℕ) (fr : List RoundFrame) (tag : ℕ) (writ
               h .sent-once t a b k,
               to-b e,
               to-child a b k,
-              ap (λ u. times b (children (G .last) u)) f,
+              ap (λ u. times b (children (suc (G .last)) u)) f,
               both-not t b s j (λ p. n),
               put-at s j (suc (accepted s j)) accepted t a e f,
               put-off s j (suc (accepted s j)) accepted t b (λ p. n),
@@ -362,33 +365,36 @@ module _ (G : Graph) (st : ℕ → ℕ) (fr : List RoundFrame) (tag : ℕ) (writ
     bounds (no-child m) = absurd (omega arith)
 
     update-relays : (t : ℕ) → t < tag → Same s t
-        → raise s (length (children (G .last) j)) written t ≡ 2 * arcCount G + sum (G .last) (relayedBy G (accepted′ t))
+        → raise s (length (children (suc (G .last)) j)) written t ≡ 2 * arcCount G + sum (suc (G .last)) (relayedBy G (accepted′ t))
     unfolding raise relayedBy accepted′
     update-relays t p (same e d) =
         omega (
           arith,
           h .closed-rounds s q,
-          change-at s (written s + length (children (G .last) j)) written t e,
-          ap (λ row. sum (G .last) (relayedBy G row)) (row-at s j (suc (accepted s j)) accepted t e),
-          sum-change (G .last) j (suc (accepted s j)) (accepted s) (λ k x. x * length (children (G .last) k)) (bounds (child? (G .last) i j) .1),
+          change-at s (written s + length (children (suc (G .last)) j)) written t e,
+          ap (λ row. sum (suc (G .last)) (relayedBy G row)) (row-at s j (suc (accepted s j)) accepted t e),
+          sum-change (suc (G .last)) j (suc (accepted s j)) (accepted s) (λ k x. x * length (children (suc (G .last)) k)) (omega (
+            arith,
+            bounds (child? (G .last) i j) .1,
+          )),
         )
     update-relays t p (other n d) =
         omega (
           arith,
           h .closed-rounds t p,
-          change-off s (written s + length (children (G .last) j)) written t n,
-          ap (λ row. sum (G .last) (relayedBy G row)) (row-off s j (suc (accepted s j)) accepted t n),
+          change-off s (written s + length (children (suc (G .last)) j)) written t n,
+          ap (λ row. sum (suc (G .last)) (relayedBy G row)) (row-off s j (suc (accepted s j)) accepted t n),
         )
 
-    pub counts-update : Counts G st (rest ++ map (λ k. update j k s v) (children (G .last) j)) tag
-        (raise s (length (children (G .last) j)) written) (put s j (suc (accepted s j)) accepted)
+    pub counts-update : Counts G st (rest ++ map (λ k. update j k s v) (children (suc (G .last)) j)) tag
+        (raise s (length (children (suc (G .last)) j)) written) (put s j (suc (accepted s j)) accepted)
     unfolding raise relayed accepted′
     counts-update =
         record {
-          open-round = omega (arith, h .open-round, change-off s (written s + length (children (G .last) j)) written tag (omega arith));
+          open-round = omega (arith, h .open-round, change-off s (written s + length (children (suc (G .last)) j)) written tag (omega arith));
           closed-rounds = λ t p. update-relays t p (same? s t);
           later-rounds =
-              λ t p. omega (arith, h .later-rounds t p, change-off s (written s + length (children (G .last) j)) written t (omega arith));
+              λ t p. omega (arith, h .later-rounds t p, change-off s (written s + length (children (suc (G .last)) j)) written t (omega arith));
           none-accepted =
               λ t k p.
               omega (arith, h .none-accepted t k p, put-off s j (suc (accepted s j)) accepted t k (λ e. absurd (omega arith)));

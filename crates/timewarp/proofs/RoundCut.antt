@@ -4,9 +4,9 @@ use mathlib.Core.Path.{_≡_, ap}
 use mathlib.Core.Logic.{_≢_}
 use Prim.Native.Nat.{ℕ, _≤_, min}
 use native.Mathlib.Omega.{arith}
-use Rattle.timewarp.specs.Families.{change}
+use Rattle.lists.specs.Families.{change}
+use Rattle.lists.proofs.FamilyLaws.{Same, same, other, same?, Changed, at, off, change?, change-at, change-off}
 use Rattle.timewarp.specs.RoundSteps.{idle, counting, stopped, finished, noted}
-use Rattle.timewarp.proofs.FamilyLaws.{Same, same, other, same?, Changed, at, off, change?, change-at, change-off}
 use Rattle.timewarp.proofs.RoundArcs.{noted-falls, noted-counting}
 use Rattle.timewarp.proofs.RoundQueues.{Downward, Arrives, Sends}
 

@@ -3,9 +3,9 @@ use mathlib.Core.Path.{ap}
 use mathlib.Core.Logic.{_≢_}
 use Prim.Native.Nat.{ℕ, _≤_, min}
 use native.Mathlib.Omega.{arith}
-use Rattle.timewarp.specs.Families.{change}
+use Rattle.lists.specs.Families.{change}
+use Rattle.lists.proofs.FamilyLaws.{Same, same, other, same?, change-at, change-off}
 use Rattle.timewarp.specs.RoundSteps.{counting, noted}
-use Rattle.timewarp.proofs.FamilyLaws.{Same, same, other, same?, change-at, change-off}
 use Rattle.timewarp.proofs.RoundArcs.{noted-counting, noted-other}
 use Rattle.timewarp.proofs.RoundQueues.{Arrives, Sends}
 use Rattle.timewarp.proofs.RoundCut.{UnderMarks}

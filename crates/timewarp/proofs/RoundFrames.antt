@@ -7,11 +7,11 @@ use Prim.Native.Nat.{ℕ}
 use native.Mathlib.Decide.{ℕ-discrete}
 use native.Mathlib.Omega.{arith}
 use lib.Dec.{eqb}
-use Rattle.timewarp.specs.Lists.{tally, matches, count}
+use Rattle.lists.specs.Lists.{tally, matches, count}
+use Rattle.lists.proofs.ListLaws.{tally-none, tally-map, tally-agree, matches-equal, matches-other, all-every}
+use Rattle.lists.proofs.FamilyLaws.{Same, same, other, same?}
 use Rattle.timewarp.specs.Arcs.{times}
 use Rattle.timewarp.specs.RoundSteps.{RoundFrame, start, lvt, update}
-use Rattle.timewarp.proofs.ListLaws.{tally-none, tally-map, tally-agree, matches-equal, matches-other, all-every}
-use Rattle.timewarp.proofs.FamilyLaws.{Same, same, other, same?}
 
 -- 1 if both are equal, else 0
 unfoldable pub both : ℕ → ℕ → ℕ → ℕ → ℕ

@@ -4,85 +4,27 @@ use mathlib.Core.Path.{_≡_, refl, ap}
 use mathlib.Core.Logic.{_≢_}
 use Prim.Native.Nat.{ℕ, suc, _≤_, _<_, min, max}
 use native.Mathlib.Omega.{arith}
-use Rattle.timewarp.specs.Lists.{All, nil, Insert, tally}
-use Rattle.timewarp.specs.Families.{change}
-use Rattle.timewarp.specs.Arcs.{Graph, Arc, Child, roundMessages, children}
-use Rattle.timewarp.specs.RoundSteps.{
-  idle,
-  counting,
-  stopped,
-  finished,
-  RoundFrame,
-  start,
-  lvt,
-  update,
-  Rounds,
-  opening,
-  noted,
-  lower,
-  begin,
-  hear,
-  stop,
-  takeLvt,
-  finish,
-  close,
-  takeUpdate,
-  Stops,
-  as-it-starts,
-  at-an-lvt,
-  RoundStep,
-  begins,
-  hears,
-  stops,
-  takes-lvt,
-  finishes,
-  closes,
-  takes-update,
-  Completed,
-  InTurn,
-  start-in-turn,
-  lvt-in-turn,
-  update-in-turn,
-}
-use Rattle.timewarp.proofs.FamilyLaws.{Same, same, other, same?, Changed, at, off, change?, change-at, change-off, sum-constant}
-use Rattle.timewarp.proofs.ListLaws.{all-append, all-taken, all-rest, all-image, all-map, all-every, tally-insert}
+use Rattle.routing.specs.Arcs.{children}
+use Rattle.lists.specs.Lists.{All, nil, Insert, tally}
+use Rattle.lists.specs.Families.{change}
+use Rattle.lists.proofs.ListLaws.{all-append, all-taken, all-rest, all-image, all-map, all-every, tally-insert}
+use Rattle.lists.proofs.FamilyLaws.{Same, same, other, same?, Changed, at, off, change?, change-at, change-off, sum-constant}
+use Rattle.timewarp.specs.Arcs.{Graph, Arc, Child, roundMessages}
+use Rattle.timewarp.specs.RoundSteps.{idle, counting, stopped, finished, RoundFrame, start, lvt, update, Rounds, opening, noted}
+use Rattle.timewarp.specs.RoundSteps.{lower, begin, hear, stop, takeLvt, finish, close, takeUpdate, Stops, as-it-starts, at-an-lvt}
+use Rattle.timewarp.specs.RoundSteps.{RoundStep, begins, hears, stops, takes-lvt, finishes, closes, takes-update, Completed, InTurn}
+use Rattle.timewarp.specs.RoundSteps.{start-in-turn, lvt-in-turn, update-in-turn}
 use Rattle.timewarp.proofs.RoundFrames.{startOn, lvtOn, updateTo, both-is}
-use Rattle.timewarp.proofs.RoundArcs.{
-  fresh,
-  begun,
-  back,
-  StateOf,
-  ArcStates,
-  arcs-begin,
-  arcs-hear,
-  arcs-stop,
-  arcs-lvt,
-  arcs-finish,
-  arcs-update,
-  arcs-close,
-  arcs-lower,
-  noted-other,
-}
+use Rattle.timewarp.proofs.RoundArcs.{fresh, begun, back, StateOf, ArcStates, arcs-begin, arcs-hear, arcs-stop, arcs-lvt}
+use Rattle.timewarp.proofs.RoundArcs.{arcs-finish, arcs-update, arcs-close, arcs-lower, noted-other}
 use Rattle.timewarp.proofs.RoundReach.{all-begun, Done, all-done, LastStops, last-stops-begin, last-stops-change}
-use Rattle.timewarp.proofs.RoundCarried.{Carried, of-start, of-lvt, of-update, carried-on, change-unfinished, starts-carried, lvts-carried, updates-carried, carried-close}
+use Rattle.timewarp.proofs.RoundCarried.{Carried, of-start, of-lvt, of-update, carried-on, change-unfinished, starts-carried}
+use Rattle.timewarp.proofs.RoundCarried.{lvts-carried, updates-carried, carried-close}
 use Rattle.timewarp.proofs.RoundQueues.{Downward, Reading, Arrives, Sends}
 use Rattle.timewarp.proofs.RoundCut.{Cut, UnderMarks, cut-begin, cut-stop, cut-fall, cut-finish, cut-arrives, cut-sends}
 use Rattle.timewarp.proofs.RoundFloor.{Floor, OnMarks, marks-change, marks-noted, floor-round, floor-arrives, floor-sends}
-use Rattle.timewarp.proofs.RoundCounts.{
-  Counts,
-  spent,
-  spentBy,
-  all-spent,
-  accepted-once,
-  completed-count,
-  counts-begin,
-  counts-hear,
-  counts-stop,
-  counts-lvt,
-  counts-finish,
-  counts-close,
-  counts-update,
-}
+use Rattle.timewarp.proofs.RoundCounts.{Counts, spent, spentBy, all-spent, accepted-once, completed-count, counts-begin, counts-hear}
+use Rattle.timewarp.proofs.RoundCounts.{counts-stop, counts-lvt, counts-finish, counts-close, counts-update}
 use Rattle.timewarp.proofs.ArcLaws.{ChildOf, child, no-child, child?}
 
 -- the hour of an Update has the property
@@ -135,7 +77,7 @@ sound-opening G never O W o w =
       update-floor = nil;
       counts =
           record {
-            open-round = omega (arith, sum-constant (G .last) 0);
+            open-round = omega (arith, sum-constant (suc (G .last)) 0);
             closed-rounds = λ t p. absurd (omega arith);
             later-rounds = λ t p. refl;
             none-accepted = λ t j p. refl;
@@ -338,7 +280,7 @@ module _ (G : Graph) (never : ℕ) (O W : ℕ → ℕ → Type 0) (down-O : Down
     unfolding close
     sound-close =
         record {
-          arcs = arcs-close G status mark arrived frames (s .arcs) tag (mark 0) (children (G .last) 0) all-in;
+          arcs = arcs-close G status mark arrived frames (s .arcs) tag (mark 0) (children (suc (G .last)) 0) all-in;
           last-stops = λ i l n. absurd (omega arith);
           carried =
               all-append (carried-close G status mark tag arrived frames (s .arcs) all-in (s .carried))
@@ -348,7 +290,7 @@ module _ (G : Graph) (never : ℕ) (O W : ℕ → ℕ → Type 0) (down-O : Down
           floor = λ k l. kept k l (change? 0 (mark 0) agreed k);
           update-floor =
               all-append (all-map (update-hour on) (s .update-floor))
-              (all-image (λ k. update 0 k tag (mark 0)) (all-every (λ k. close-floor) (children (G .last) 0)));
+              (all-image (λ k. update 0 k tag (mark 0)) (all-every (λ k. close-floor) (children (suc (G .last)) 0)));
           counts =
               counts-close G status frames tag written accepted (s .counts) (mark 0)
               (all-spent G status p close-finished);
@@ -386,7 +328,7 @@ module _ (G : Graph) (never : ℕ) (O W : ℕ → ℕ → Type 0) (down-O : Down
       go c l (no-child y) = absurd (omega arith)
       go c l (child y) =
           record {
-            arcs = arcs-update G status mark arrived frames (s .arcs) i j t v rest (children (G .last) j) x;
+            arcs = arcs-update G status mark arrived frames (s .arcs) i j t v rest (children (suc (G .last)) j) x;
             last-stops = s .last-stops;
             carried = all-append (all-rest x (s .carried)) (updates-carried G status mark tag j t v l);
             cut = s .cut;
@@ -394,7 +336,7 @@ module _ (G : Graph) (never : ℕ) (O W : ℕ → ℕ → Type 0) (down-O : Down
             floor = λ k m. kept (y .2) k m (change? j (max (agreed j) v) agreed k);
             update-floor =
                 all-append (all-rest x (s .update-floor))
-                (all-image (λ k. update j k t v) (all-every (λ k. new) (children (G .last) j)));
+                (all-image (λ k. update j k t v) (all-every (λ k. new) (children (suc (G .last)) j)));
             counts = counts-update G status frames tag written accepted (s .counts) i j t v rest x l c;
           }
 

@@ -4,10 +4,10 @@ use mathlib.Core.Path.{_≡_, ap}
 use mathlib.Core.Logic.{_≢_}
 use Prim.Native.Nat.{ℕ, zero, suc, _+_, _≤_, _<_}
 use native.Mathlib.Omega.{arith}
-use Rattle.timewarp.specs.Families.{change}
+use Rattle.lists.specs.Families.{change}
+use Rattle.lists.proofs.FamilyLaws.{Same, same, other, same?, Changed, at, off, change?}
 use Rattle.timewarp.specs.Arcs.{Graph, Arc}
 use Rattle.timewarp.specs.RoundSteps.{idle, counting, stopped, finished, RoundFrame}
-use Rattle.timewarp.proofs.FamilyLaws.{Same, same, other, same?, Changed, at, off, change?}
 use Rattle.timewarp.proofs.RoundArcs.{fresh, begun, back, StateOf, ArcStates}
 
 module _ (G : Graph) (st mk : ℕ → ℕ) (ar : ℕ → ℕ → ℕ) (fr : List RoundFrame) (h : ArcStates G st mk ar fr) where

@@ -5,10 +5,10 @@ use Prim.Native.Nat.{ℕ, zero, suc, _+_, _≤_, _<_}
 use native.Mathlib.Decide.{ℕ-discrete}
 use native.Mathlib.Omega.{arith}
 use lib.ListN.{length}
-use Rattle.timewarp.specs.Lists.{tally, matches, count}
-use Rattle.timewarp.specs.Families.{sum}
+use Rattle.lists.specs.Lists.{tally, matches, count}
+use Rattle.lists.specs.Families.{sum}
+use Rattle.lists.proofs.ListLaws.{matches-other}
 use Rattle.timewarp.specs.Arcs.{Graph, times, arcCount, roundMessages}
-use Rattle.timewarp.proofs.ListLaws.{matches-other}
 
 -- one gateway has no arc
 unfoldable pub single : Graph
@@ -110,7 +110,11 @@ matchedOfFour zero zero = refl
 matchedOfFour zero (suc zero) = refl
 matchedOfFour zero (suc (suc zero)) = refl
 matchedOfFour zero (suc (suc (suc zero))) = refl
-matchedOfFour zero (suc (suc (suc (suc j)))) = omega (arith, matches-other ℕ-discrete {a = suc (suc (suc (suc j)))} {b = 1} (omega arith), matches-other ℕ-discrete {a = suc (suc (suc (suc j)))} {b = 2} (omega arith))
+matchedOfFour zero (suc (suc (suc (suc j)))) = omega (
+  arith,
+  matches-other ℕ-discrete {a = suc (suc (suc (suc j)))} {b = 1} (omega arith),
+  matches-other ℕ-discrete {a = suc (suc (suc (suc j)))} {b = 2} (omega arith),
+)
 matchedOfFour (suc zero) zero = refl
 matchedOfFour (suc zero) (suc zero) = refl
 matchedOfFour (suc zero) (suc (suc zero)) = refl
@@ -124,7 +128,12 @@ matchedOfFour (suc (suc zero)) (suc (suc (suc (suc j)))) = omega (arith, matches
 matchedOfFour (suc (suc (suc i))) zero = refl
 matchedOfFour (suc (suc (suc i))) (suc zero) = omega (arith, matches-other ℕ-discrete {a = suc (suc (suc i))} {b = 0} (omega arith))
 matchedOfFour (suc (suc (suc i))) (suc (suc zero)) = omega (arith, matches-other ℕ-discrete {a = suc (suc (suc i))} {b = 0} (omega arith))
-matchedOfFour (suc (suc (suc i))) (suc (suc (suc zero))) = omega (arith, matches-other ℕ-discrete {a = suc (suc (suc i))} {b = 1} (omega arith), matches-other ℕ-discrete {a = suc (suc (suc i))} {b = 2} (omega arith))
+matchedOfFour (suc (suc (suc i))) (suc (suc (suc zero))) = omega (
+  arith,
+  matches-other ℕ-discrete {a = suc (suc (suc i))} {b = 1} (omega
+      arith),
+  matches-other ℕ-discrete {a = suc (suc (suc i))} {b = 2} (omega arith),
+)
 matchedOfFour (suc (suc (suc i))) (suc (suc (suc (suc j)))) = refl
 
 pub onceOfFour : (i j : ℕ) → times j (toOfFour i) ≤ 1
@@ -133,7 +142,11 @@ onceOfFour zero zero = omega arith
 onceOfFour zero (suc zero) = omega arith
 onceOfFour zero (suc (suc zero)) = omega arith
 onceOfFour zero (suc (suc (suc zero))) = omega arith
-onceOfFour zero (suc (suc (suc (suc j)))) = omega (arith, matches-other ℕ-discrete {a = suc (suc (suc (suc j)))} {b = 1} (omega arith), matches-other ℕ-discrete {a = suc (suc (suc (suc j)))} {b = 2} (omega arith))
+onceOfFour zero (suc (suc (suc (suc j)))) = omega (
+  arith,
+  matches-other ℕ-discrete {a = suc (suc (suc (suc j)))} {b = 1} (omega arith),
+  matches-other ℕ-discrete {a = suc (suc (suc (suc j)))} {b = 2} (omega arith),
+)
 onceOfFour (suc zero) zero = omega arith
 onceOfFour (suc zero) (suc zero) = omega arith
 onceOfFour (suc zero) (suc (suc zero)) = omega arith
@@ -152,7 +165,12 @@ upwardOfFour zero zero c = absurd (omega arith)
 upwardOfFour zero (suc zero) c = omega arith
 upwardOfFour zero (suc (suc zero)) c = omega arith
 upwardOfFour zero (suc (suc (suc zero))) c = absurd (omega arith)
-upwardOfFour zero (suc (suc (suc (suc j)))) c = absurd (omega (arith, matches-other ℕ-discrete {a = suc (suc (suc (suc j)))} {b = 1} (omega arith), matches-other ℕ-discrete {a = suc (suc (suc (suc j)))} {b = 2} (omega arith)))
+upwardOfFour zero (suc (suc (suc (suc j)))) c = absurd (omega (
+  arith,
+  matches-other ℕ-discrete {a = suc (suc (suc (suc j)))} {b = 1} (omega
+      arith),
+  matches-other ℕ-discrete {a = suc (suc (suc (suc j)))} {b = 2} (omega arith),
+))
 upwardOfFour (suc zero) zero c = absurd (omega arith)
 upwardOfFour (suc zero) (suc zero) c = absurd (omega arith)
 upwardOfFour (suc zero) (suc (suc zero)) c = absurd (omega arith)

@@ -3,13 +3,13 @@ use mathlib.Core.List.{List, [], _∷_, _++_}
 use mathlib.Core.Path.{_≡_, refl, sym, subst, _∙_}
 use Prim.Native.Nat.{ℕ, _≤_}
 use native.Mathlib.Omega.{arith}
-use Rattle.timewarp.specs.Lists.{All}
+use Rattle.lists.specs.Lists.{All}
+use Rattle.lists.proofs.ListLaws.{all-left, all-right, all-head, all-member}
 use Rattle.timewarp.specs.Models.{Model}
 use Rattle.timewarp.specs.Gateways.{history}
 use Rattle.timewarp.specs.SingleQueue.{singleHistory}
 use Rattle.timewarp.specs.Worlds.{Setting, World, Steps, none, then, Reachable}
 use Rattle.timewarp.specs.Claims.{Claim, NothingToCommit, AlwaysClaimed}
-use Rattle.timewarp.proofs.ListLaws.{all-left, all-right, all-head, all-member}
 use Rattle.timewarp.proofs.Addressing.{Here}
 use Rattle.timewarp.proofs.ArcLaws.{round-below}
 use Rattle.timewarp.proofs.Histories.{Bounds, bounds-events, bounds-acknowledgments, committed-beginning, history-whole, acknowledgments-settle}

@@ -5,11 +5,11 @@ use mathlib.Core.Logic.{_≢_}
 use Prim.Native.Nat.{ℕ, zero, suc, _+_, _≤_, _<_}
 use native.Mathlib.Omega.{arith}
 use native.Mathlib.Decide.{decLt, ℕ-discrete}
-use Rattle.timewarp.specs.Lists.{All, nil, cons}
-use Rattle.timewarp.specs.Families.{sum}
+use Rattle.lists.specs.Lists.{All, nil, cons}
+use Rattle.lists.specs.Families.{sum}
+use Rattle.lists.proofs.ListLaws.{all-map, count-none, matches-other}
+use Rattle.lists.proofs.FamilyLaws.{sum-agree}
 use Rattle.timewarp.specs.Models.{Model, hour}
-use Rattle.timewarp.proofs.ListLaws.{all-map, count-none, matches-other}
-use Rattle.timewarp.proofs.FamilyLaws.{sum-agree}
 use Rattle.timewarp.proofs.OrderLaws.{Sorted, newest, sorted-unique, hour-order, message-eq}
 use Rattle.timewarp.proofs.EventCounts.{times, times-cons}
 use Rattle.timewarp.proofs.Addressing.{sent-later}
@@ -102,7 +102,7 @@ module _ (M : Model) where
         (x : Message) →
         to x ≤ last →
         hour M x < t →
-        times M x (opening (to x)) + sum last (λ j. times M x (sentIn M j (h j))) ≡ times M x (h (to x))
+        times M x (opening (to x)) + sum (suc last) (λ j. times M x (sentIn M j (h j))) ≡ times M x (h (to x))
 
   module _ {G : ℕ} {h k : ℕ → List Message} (a : Accounts G h) (c : Accounts G k) where
     -- Below t they agree.
@@ -115,16 +115,16 @@ module _ (M : Model) where
         Agree t →
         (x : Message) →
         hour M x ≤ t →
-        sum last (λ j. times M x (sentIn M j (h j))) ≡ sum last (λ j. times M x (sentIn M j (k j)))
+        sum (suc last) (λ j. times M x (sentIn M j (h j))) ≡ sum (suc last) (λ j. times M x (sentIn M j (k j)))
     same-sent t agree x l =
         sum-agree
-        last
+        (suc last)
         (λ j. times M x (sentIn M j (h j)))
         (λ j. times M x (sentIn M j (k j)))
         (λ j inside.
         let b = below t (h j) in
         let d = below t (k j) in
-        sym (below-sent j (b .1) x l) ∙ ap (λ z. times M x (sentIn M j z)) (agree j inside (b .0) (d .0) (b .1) (d .1)) ∙ below-sent j (d .1) x l)
+        sym (below-sent j (b .1) x l) ∙ ap (λ z. times M x (sentIn M j z)) (agree j (omega arith) (b .0) (d .0) (b .1) (d .1)) ∙ below-sent j (d .1) x l)
 
     -- Below t they have the same of each message if it is so for messages that have an hour below t and are addressed there.
     same-parts :
@@ -144,4 +144,9 @@ module _ (M : Model) where
 
     pub unique : (t : ℕ) → t ≤ G → Agree t
     unique zero l = same-parts zero (λ x inside e. absurd (omega arith))
-    unique (suc t) l = same-parts (suc t) (λ x inside e. omega (arith, a .balance x inside (omega arith), c .balance x inside (omega arith), same-sent t (unique t (omega arith)) x (omega arith)))
+    unique (suc t) l = same-parts (suc t) (λ x inside e. omega (
+      arith,
+      a .balance x inside (omega arith),
+      c .balance x inside (omega arith),
+      same-sent t (unique t (omega arith)) x (omega arith),
+    ))

@@ -5,15 +5,18 @@ use mathlib.Core.Path.{_≡_, refl}
 use Prim.Native.Nat.{ℕ, _≤_}
 use native.Mathlib.Decide.{ℕ-discrete}
 use native.Mathlib.Omega.{arith}
-use Rattle.timewarp.specs.Lists.{least, Insert, here, there, nil, cons, tally, matches, count}
-use Rattle.timewarp.specs.Families.{change, put}
+use Rattle.routing.specs.Arcs.{children}
+use Rattle.lists.specs.Lists.{least, Insert, here, there, nil, cons, tally, matches, count, any, withoutFirst}
+use Rattle.lists.specs.Families.{change, put}
 use Rattle.timewarp.specs.Models.{stateAfter, sentBy, first, hour}
 use Rattle.timewarp.specs.SingleQueue.{isNotLater, earliest, others}
 use Rattle.timewarp.specs.Gateways.{Event, plain, cancel, message, history, gatewayOf, after, openingData}
-use Rattle.timewarp.specs.Arcs.{ifGateway, children}
-use Rattle.timewarp.specs.RoundSteps.{opening, raise, noted, lower, begin, hear, stop, takeLvt, finish, close, takeUpdate, as-it-starts, at-an-lvt, begins, hears, stops, takes-lvt, finishes, closes, takes-update}
+use Rattle.timewarp.specs.RoundSteps.{opening, raise, noted, lower, begin, hear, stop, takeLvt, finish, close, takeUpdate}
+use Rattle.timewarp.specs.RoundSteps.{as-it-starts, at-an-lvt, begins, hears, stops, takes-lvt, finishes, closes, takes-update}
 use Rattle.timewarp.specs.Worlds.{Setting, World, openingWorld, lowerAll, leastOutstanding, leastWaiting, round, then, Reachable}
-use Rattle.timewarp.specs.Calls.{has, without, same, sameEvent, enqueue, becomes, doMessage, doEarliest, work, undoMessage, undoLater, undoBackTo, accept, acceptMet, acceptPending, acceptStriking, acceptWaiting, takePlain, takeCancel, takeAcknowledgment, oldest, newerOnes, commitOldest, commit}
+use Rattle.timewarp.proofs.ExampleCalls.{same, sameEvent, enqueue, becomes, doMessage, doEarliest, work, undoMessage, undoLater}
+use Rattle.timewarp.proofs.ExampleCalls.{undoBackTo, accept, acceptMet, acceptPending, acceptStriking, acceptWaiting, takePlain}
+use Rattle.timewarp.proofs.ExampleCalls.{takeCancel, takeAcknowledgment, oldest, newerOnes, commitOldest, commit}
 use Rattle.timewarp.proofs.RoundCarried.{all-to, all-from}
 use Rattle.timewarp.proofs.SmallGraphs.{two, toOfTwo, fromOfTwo}
 use Rattle.timewarp.proofs.ExampleModel.{Parcel, passedOn, atFirst, relayOfTwo}
@@ -45,7 +48,9 @@ all-done-in-order :
     (allAcknowledged .events .gateways 1 ≡ gatewayOf [] (q5 ∷ (a2 ∷ [])) [] [] [])
     × (allAcknowledged .events .gateways 0 ≡ gatewayOf [] (s6 ∷ (b3 ∷ (p1 ∷ []))) [] [] [])
     × (allAcknowledged .events .network .acknowledgments ≡ [])
-unfolding allAcknowledged allDone met overtaken early straggler openingWorld openingData work doEarliest doMessage becomes takePlain takeCancel takeAcknowledgment undoLater undoBackTo undoMessage acceptMet acceptPending acceptStriking acceptWaiting accept has without same sameEvent enqueue after change history sentBy stateAfter passedOn atFirst isNotLater earliest others
+unfolding allAcknowledged allDone met overtaken early straggler openingWorld openingData work doEarliest doMessage becomes takePlain
+    takeCancel takeAcknowledgment undoLater undoBackTo undoMessage acceptMet acceptPending acceptStriking acceptWaiting accept any
+    withoutFirst same sameEvent enqueue after change history sentBy stateAfter passedOn atFirst isNotLater earliest others
 all-done-in-order = (refl, refl, refl)
 
 -- These worlds are reached by the steps.
@@ -54,21 +59,29 @@ unfolding early
 reached-early = steps-join (work-chain S 1 (omega arith) 1 (openingWorld S)) (work-chain S 0 (omega arith) 1 (work S 1 1 (openingWorld S)))
 
 pub reached-straggler : Reachable S straggler
-unfolding straggler early openingWorld openingData work doEarliest doMessage becomes takePlain takeCancel takeAcknowledgment undoLater undoBackTo undoMessage acceptMet acceptPending acceptStriking acceptWaiting accept has without same sameEvent enqueue after change history sentBy stateAfter passedOn atFirst isNotLater earliest others message
+unfolding straggler early openingWorld openingData work doEarliest doMessage becomes takePlain takeCancel takeAcknowledgment undoLater
+    undoBackTo undoMessage acceptMet acceptPending acceptStriking acceptWaiting accept any withoutFirst same sameEvent enqueue after change
+    history sentBy stateAfter passedOn atFirst isNotLater earliest others message
 reached-straggler =
     steps-join reached-early (takePlain-chain S 1 (omega arith) a2 early (good S reached-early) refl (there here))
 
 pub reached-overtaken : Reachable S overtaken
-unfolding overtaken straggler early openingWorld openingData work doEarliest doMessage becomes takePlain takeCancel takeAcknowledgment undoLater undoBackTo undoMessage acceptMet acceptPending acceptStriking acceptWaiting accept has without same sameEvent enqueue after change history sentBy stateAfter passedOn atFirst isNotLater earliest others message
+unfolding overtaken straggler early openingWorld openingData work doEarliest doMessage becomes takePlain takeCancel takeAcknowledgment
+    undoLater undoBackTo undoMessage acceptMet acceptPending acceptStriking acceptWaiting accept any withoutFirst same sameEvent enqueue
+    after change history sentBy stateAfter passedOn atFirst isNotLater earliest others message
 reached-overtaken =
     steps-join reached-straggler (takeCancel-chain S 0 (omega arith) r6 straggler (good S reached-straggler) refl (there here))
 
 pub reached-met : Reachable S met
-unfolding met overtaken straggler early openingWorld openingData work doEarliest doMessage becomes takePlain takeCancel takeAcknowledgment undoLater undoBackTo undoMessage acceptMet acceptPending acceptStriking acceptWaiting accept has without same sameEvent enqueue after change history sentBy stateAfter passedOn atFirst isNotLater earliest others message
+unfolding met overtaken straggler early openingWorld openingData work doEarliest doMessage becomes takePlain takeCancel takeAcknowledgment
+    undoLater undoBackTo undoMessage acceptMet acceptPending acceptStriking acceptWaiting accept any withoutFirst same sameEvent enqueue
+    after change history sentBy stateAfter passedOn atFirst isNotLater earliest others message
 reached-met = steps-join reached-overtaken (takePlain-chain S 0 (omega arith) r6 overtaken (good S reached-overtaken) refl here)
 
 pub reached-done : Reachable S allDone
-unfolding allDone met overtaken straggler early openingWorld openingData work doEarliest doMessage becomes takePlain takeCancel takeAcknowledgment undoLater undoBackTo undoMessage acceptMet acceptPending acceptStriking acceptWaiting accept has without same sameEvent enqueue after change history sentBy stateAfter passedOn atFirst isNotLater earliest others message
+unfolding allDone met overtaken straggler early openingWorld openingData work doEarliest doMessage becomes takePlain takeCancel
+    takeAcknowledgment undoLater undoBackTo undoMessage acceptMet acceptPending acceptStriking acceptWaiting accept any withoutFirst same
+    sameEvent enqueue after change history sentBy stateAfter passedOn atFirst isNotLater earliest others message
 reached-done =
     let a : Reachable S (work S 2 1 met) = steps-join reached-met (work-chain S 1 (omega arith) 2 met) in
     let b : Reachable S (takePlain S 0 b3 (work S 2 1 met)) = steps-join a (takePlain-chain S 0 (omega arith) b3 (work S 2 1 met) (good S a) refl here) in
@@ -78,11 +91,14 @@ reached-done =
     steps-join c (work-chain S 0 (omega arith) 2 (takePlain S 0 s6 (takePlain S 0 b3 (work S 2 1 met))))
 
 -- An acknowledgment is taken.
-settles : (i : ℕ) → i ≤ 1 → (e : Event Parcel) (w : World S) → Reachable S w → message e .source ≡ i → (rest : List (Event Parcel)) → Insert e rest (w .events .network .acknowledgments) → Reachable S (takeAcknowledgment S i e w)
+settles : (i : ℕ) → i ≤ 1 → (e : Event Parcel) (w : World S) → Reachable S w → message e .source ≡ i → (rest : List (Event Parcel)) → Insert
+    e rest (w .events .network .acknowledgments) → Reachable S (takeAcknowledgment S i e w)
 settles i l e w r p rest x = steps-join r (takeAcknowledgment-chain S i l e w (good S r) p x)
 
 pub reached-acknowledged : Reachable S allAcknowledged
-unfolding allAcknowledged allDone met overtaken straggler early openingWorld openingData work doEarliest doMessage becomes takePlain takeCancel takeAcknowledgment undoLater undoBackTo undoMessage acceptMet acceptPending acceptStriking acceptWaiting accept has without same sameEvent enqueue after change history sentBy stateAfter passedOn atFirst isNotLater earliest others message
+unfolding allAcknowledged allDone met overtaken straggler early openingWorld openingData work doEarliest doMessage becomes takePlain
+    takeCancel takeAcknowledgment undoLater undoBackTo undoMessage acceptMet acceptPending acceptStriking acceptWaiting accept any
+    withoutFirst same sameEvent enqueue after change history sentBy stateAfter passedOn atFirst isNotLater earliest others message
 reached-acknowledged =
     settles
     1
@@ -112,7 +128,11 @@ reached-acknowledged =
 
 -- A round: nothing is outstanding, pending or waiting, so that all agree on "nothing due".
 pub agreedRun : (w : World S) × Reachable S w
-unfolding allAcknowledged allDone met overtaken straggler early openingWorld openingData opening lowerAll lower leastOutstanding leastWaiting least begin hear stop finish takeLvt close takeUpdate noted put raise two toOfTwo fromOfTwo children ifGateway work doEarliest doMessage becomes takePlain takeCancel takeAcknowledgment undoLater undoBackTo undoMessage acceptMet acceptPending acceptStriking acceptWaiting accept has without same sameEvent enqueue after change history sentBy stateAfter passedOn atFirst isNotLater earliest others message tally matches count ℕ-discrete
+unfolding allAcknowledged allDone met overtaken straggler early openingWorld openingData opening lowerAll lower leastOutstanding
+    leastWaiting least begin hear stop finish takeLvt close takeUpdate noted put raise two toOfTwo fromOfTwo children work doEarliest
+    doMessage becomes takePlain takeCancel takeAcknowledgment undoLater undoBackTo undoMessage acceptMet acceptPending acceptStriking
+    acceptWaiting accept any withoutFirst same sameEvent enqueue after change history sentBy stateAfter passedOn atFirst isNotLater earliest
+    others message tally matches count ℕ-discrete
 agreedRun = (
   _,
   then
@@ -145,7 +165,11 @@ record-is-whole :
     × (final .rounds .agreed 0 ≡ 20)
     × (final .rounds .agreed 1 ≡ 20)
     × (final .rounds .written 0 ≡ 3)
-unfolding final agreedRun commit commitOldest oldest newerOnes hour first allAcknowledged allDone met overtaken straggler early openingWorld openingData opening lowerAll lower leastOutstanding leastWaiting least begin hear stop finish takeLvt close takeUpdate noted put raise two toOfTwo fromOfTwo children ifGateway work doEarliest doMessage becomes takePlain takeCancel takeAcknowledgment undoLater undoBackTo undoMessage acceptMet acceptPending acceptStriking acceptWaiting accept has without same sameEvent enqueue after change history sentBy stateAfter passedOn atFirst isNotLater earliest others message tally matches count ℕ-discrete
+unfolding final agreedRun commit commitOldest oldest newerOnes hour first allAcknowledged allDone met overtaken straggler early openingWorld
+    openingData opening lowerAll lower leastOutstanding leastWaiting least begin hear stop finish takeLvt close takeUpdate noted put raise
+    two toOfTwo fromOfTwo children work doEarliest doMessage becomes takePlain takeCancel takeAcknowledgment undoLater undoBackTo
+    undoMessage acceptMet acceptPending acceptStriking acceptWaiting accept any withoutFirst same sameEvent enqueue after change history
+    sentBy stateAfter passedOn atFirst isNotLater earliest others message tally matches count ℕ-discrete
 record-is-whole = (refl, refl, refl, refl, refl)
 
 pub reached-final : Reachable S final

@@ -1,13 +1,12 @@
 -- The arcs that a round goes along, known by their laws alone, and the tree that its result goes down.
-use mathlib.Core.Bool.{cond}
-use mathlib.Core.List.{List, [], _∷_, _++_}
+use mathlib.Core.List.{List}
 use mathlib.Core.Path.{_≡_}
-use Prim.Native.Nat.{ℕ, _+_, _*_, _≤_, _<_}
+use Prim.Native.Nat.{ℕ, suc, _+_, _*_, _≤_, _<_}
 use native.Mathlib.Decide.{ℕ-discrete}
-use lib.Dec.{leb}
 use lib.ListN.{length}
-use Rattle.timewarp.specs.Lists.{count}
-use Rattle.timewarp.specs.Families.{sum}
+use Rattle.routing.specs.Arcs.{children}
+use Rattle.lists.specs.Lists.{count}
+use Rattle.lists.specs.Families.{sum}
 
 -- how often n stands in a list
 abbrev pub times : ℕ → List ℕ → ℕ
@@ -37,20 +36,12 @@ Arc G i j = 1 ≤ times j (G .to i)
 
 -- the number of arcs
 unfoldable pub arcCount : Graph → ℕ
-arcCount G = sum (G .last) (λ i. length (G .to i))
+arcCount G = sum (suc (G .last)) (λ i. length (G .to i))
 
 -- the messages of a whole round: a Start and an Lvt for each arc, an Update for each gateway but 0
 unfoldable pub roundMessages : Graph → ℕ
 roundMessages G = 2 * arcCount G + G .last
 
--- n as a list, if there is a gateway n
-unfoldable pub ifGateway : ℕ → ℕ → List ℕ
-ifGateway last n = cond (leb n last) (n ∷ []) []
-
--- where i sends an Update on to: 2 i + 1 and 2 i + 2, if there are such gateways
-unfoldable pub children : ℕ → ℕ → List ℕ
-children last i = ifGateway last (2 * i + 1) ++ ifGateway last (2 * i + 2)
-
 -- i sends Updates on to j
 abbrev pub Child : ℕ → ℕ → ℕ → Type 0
-Child last i j = 1 ≤ times j (children last i)
+Child last i j = 1 ≤ times j (children (suc last) i)

@@ -2,7 +2,7 @@
 use mathlib.Core.List.{List, [], _∷_, _++_}
 use mathlib.Core.Path.{_≡_}
 use Prim.Native.Nat.{ℕ, suc, _*_, _≤_, _<_}
-use Rattle.timewarp.specs.Lists.{All, Insert}
+use Rattle.lists.specs.Lists.{All, Insert}
 use Rattle.timewarp.specs.Models.{Model, hour}
 use Rattle.timewarp.specs.Gateways.{Event, message, Gateway}
 use Rattle.timewarp.specs.SingleQueue.{singleHistory}
@@ -10,9 +10,9 @@ use Rattle.timewarp.specs.Arcs.{roundMessages}
 use Rattle.timewarp.specs.RoundSteps.{Completed, InTurn}
 use Rattle.timewarp.specs.Worlds.{Setting, World, Step, Reachable}
 
--- c is a beginning of h; both have the newest event in front.
-abbrev pub Beginning : {A : Type 0} → List A → List A → Type 0
-Beginning {A} c h = (later : List A) × (h ≡ later ++ c)
+-- c is what was first of h: its beginning in time, as both have the newest event in front.
+abbrev pub EarlierPart : {A : Type 0} → List A → List A → Type 0
+EarlierPart {A} c h = (later : List A) × (h ≡ later ++ c)
 
 module _ (S : Setting) where
   open Setting S using (model, graph)
@@ -35,7 +35,7 @@ module _ (S : Setting) where
 
   pub record Claim (w : World S) : Type 0 where
     -- What a gateway has committed is a beginning of what the single queue does there.
-    pub beginning : (i : ℕ) → i ≤ last → Beginning (w .events .gateways i .committed) (singleHistory model i)
+    pub beginning : (i : ℕ) → i ≤ last → EarlierPart (w .events .gateways i .committed) (singleHistory model i)
     -- Where the agreed time is above every hour and nothing is left to commit it is all of it.
     pub whole :
         (i : ℕ) →

@@ -2,7 +2,7 @@
 use mathlib.Core.List.{List, [], _∷_, _++_, map}
 use mathlib.Core.Path.{_≡_}
 use Prim.Native.Nat.{ℕ, _≤_, _<_}
-use Rattle.timewarp.specs.Lists.{All, Insert, Inserts}
+use Rattle.lists.specs.Lists.{All, Insert, Inserts}
 use Rattle.timewarp.specs.Models.{Model, hour, NotLater, sentBy}
 use Rattle.timewarp.specs.Gateways.{Event, plain, cancel, message, Gateway, Network, history, gatewayOf, networkOf}
 

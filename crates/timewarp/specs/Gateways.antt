@@ -1,7 +1,7 @@
 -- The gateways' queues and outstanding lists, and the events under way between them.
 use mathlib.Core.List.{List, [], _++_}
 use Prim.Native.Nat.{ℕ}
-use Rattle.timewarp.specs.Families.{change}
+use Rattle.lists.specs.Families.{change}
 use Rattle.timewarp.specs.Models.{Model}
 
 -- What is sent as an event: a message, or the cancel of one.

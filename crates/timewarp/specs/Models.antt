@@ -3,7 +3,7 @@ use mathlib.Core.List.{List, [], _∷_}
 use mathlib.Core.Path.{_≡_}
 use lib.ListN.{length}
 use Prim.Native.Nat.{ℕ, _≤_, _<_}
-use Rattle.timewarp.specs.Lists.{All}
+use Rattle.lists.specs.Lists.{All}
 
 -- The first number of a key, zero if there is none.
 unfoldable pub first : List ℕ → ℕ

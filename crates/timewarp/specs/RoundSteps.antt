@@ -3,9 +3,10 @@ use mathlib.Core.List.{List, [], _++_, map}
 use mathlib.Core.Path.{_≡_}
 use Prim.Native.Nat.{ℕ, zero, suc, _+_, _≤_, _<_, min, max}
 use lib.ListN.{length}
-use Rattle.timewarp.specs.Lists.{Insert}
-use Rattle.timewarp.specs.Families.{change, put}
-use Rattle.timewarp.specs.Arcs.{Graph, Arc, Child, children}
+use Rattle.routing.specs.Arcs.{children}
+use Rattle.lists.specs.Lists.{Insert}
+use Rattle.lists.specs.Families.{change, put}
+use Rattle.timewarp.specs.Arcs.{Graph, Arc, Child}
 
 -- A gateway's status in the open round: it has not sent its Starts; it has, and each of its sends lowers its note;
 -- it has stopped, and its value is taken; it has sent its Lvts.
@@ -165,9 +166,9 @@ close G r =
       status = λ i. idle;
       mark = r .mark;
       arrived = λ i j. 0;
-      frames = r .frames ++ map (λ k. update 0 k (r .tag) (r .mark 0)) (children (G .last) 0);
+      frames = r .frames ++ map (λ k. update 0 k (r .tag) (r .mark 0)) (children (suc (G .last)) 0);
       tag = suc (r .tag);
-      written = raise (r .tag) (length (children (G .last) 0)) (r .written);
+      written = raise (r .tag) (length (children (suc (G .last)) 0)) (r .written);
       accepted = put (r .tag) 0 1 (r .accepted);
     }
 
@@ -179,9 +180,9 @@ takeUpdate G j t h rest r =
       status = r .status;
       mark = r .mark;
       arrived = r .arrived;
-      frames = rest ++ map (λ k. update j k t h) (children (G .last) j);
+      frames = rest ++ map (λ k. update j k t h) (children (suc (G .last)) j);
       tag = r .tag;
-      written = raise t (length (children (G .last) j)) (r .written);
+      written = raise t (length (children (suc (G .last)) j)) (r .written);
       accepted = put t j (suc (r .accepted t j)) (r .accepted);
     }
 

@@ -3,13 +3,8 @@ use mathlib.Core.List.{List, [], _∷_, _++_}
 use Prim.Native.Nat.{ℕ, zero, suc, _+_, _-_}
 use lib.Dec.{ltb, eqb}
 use mathlib.Core.Bool.{Bool, true, false, cond}
-use Rattle.timewarp.specs.Families.{change}
+use Rattle.lists.specs.Families.{change, together}
 use Rattle.timewarp.specs.Models.{Model, hour, sentBy}
-
--- The lists of gateways 0 to n, one behind the other.
-unfoldable pub together : {A : Type 0} → ℕ → (ℕ → List A) → List A
-together zero f = f zero
-together (suc n) f = together n f ++ f (suc n)
 
 -- Whether a key is not later than another: `KeyNotLater` as a test.
 unfoldable pub isNotLater : List ℕ → List ℕ → Bool
@@ -37,7 +32,7 @@ module _ (M : Model) where
 
   -- At first all opening lists together, and nothing is done.
   unfoldable pub openingQueue : Queue Message
-  openingQueue = record { list = together last opening; done = λ i. [] }
+  openingQueue = record { list = together (suc last) opening; done = λ i. [] }
 
   -- The gateway in its to does m. What is sent joins the list.
   unfoldable pub doNext : Message → List Message → (ℕ → List Message) → Queue Message

@@ -2,7 +2,7 @@
 use mathlib.Core.List.{List, [], _∷_}
 use mathlib.Core.Path.{_≡_}
 use Prim.Native.Nat.{ℕ, _≤_, min}
-use Rattle.timewarp.specs.Lists.{least}
+use Rattle.lists.specs.Lists.{least}
 use Rattle.timewarp.specs.Models.{Model, hour}
 use Rattle.timewarp.specs.Gateways.{message, Gateway, Network, Data, after, openingData}
 use Rattle.timewarp.specs.EventSteps.{EventStep}

@@ -17,12 +17,12 @@ use Rattle.memory.proofs.Validated.{valid-facts}
 use Rattle.memory.proofs.SoundMemory.{sound-facts, reading-laws}
 use Rattle.gateway.specs.Working.{Progress, worked}
 use Rattle.gateway.specs.Calls.{workedOff}
-use Rattle.gateway.specs.Premises.{Known}
+use Rattle.gateway.specs.inside.Premises.{Known}
 use Rattle.gateway.specs.declared.Worked.{Worked}
 use Rattle.effects.proofs.PlacedLaws.{placed-first, placed-inside, placed-last}
-use Rattle.work.specs.Turns.{Ready, Reached, Turned, Turns}
-use Rattle.work.specs.declared.Turn.{Turn}
-use Rattle.work.proofs.WorkedLaws.{First, stops, does, first, worked-inside, worked-all, worked-then, worked-stopped}
+use Rattle.replies.specs.inside.Turns.{Ready, Reached, Turned, Turns}
+use Rattle.replies.specs.declared.Turn.{Turn}
+use Rattle.events.proofs.WorkedLaws.{First, stops, does, first, worked-inside, worked-all, worked-then, worked-stopped}
 
 -- the memory and the output after work from `before` and `output₀` on that came to w
 pub record Came (w : Progress) (before output₀ memory output : List ℕ) (t : Turn) : Type 0 where
@@ -39,7 +39,13 @@ pub record Going (before output₀ memory output : List ℕ) (t : Turn) (budget 
   pub within : count ≤ budget
 
 -- before the first
-pub at-first : {m output : List ℕ} {h : Header} → Known m h → Bytes m → (budget : ℕ) → Going m output m output (record { header = h; written = 0; place = 0; why = 0 }) budget 0
+pub at-first : {m output : List ℕ} {h : Header} → Known m h → Bytes m → (budget : ℕ) → Going m output m output (record {
+  header = h;
+  written
+      = 0;
+  place = 0;
+  why = 0;
+}) budget 0
 unfolding worked
 at-first {m} {output} {h} k bytes budget =
     let s = sound-facts m (k .soundness) in
@@ -84,7 +90,8 @@ module _ {w : Progress} {before output₀ memory output : List ℕ} {t : Turn} (
 
   -- one event more
   pub came-further : {memory′ output′ : List ℕ} {r : Turn} → Turns memory output memory′ output′ t r → (x : Progress)
-      → x .gateway ≡ worked 1 (length output₀ - length (w .output)) (w .gateway) .gateway → x .why ≡ worked 1 (length output₀ - length (w .output)) (w .gateway) .why
+      → x .gateway ≡ worked 1 (length output₀ - length (w .output)) (w .gateway) .gateway → x .why ≡ worked 1 (length output₀ - length
+      (w .output)) (w .gateway) .why
       → x .output ≡ w .output ++ worked 1 (length output₀ - length (w .output)) (w .gateway) .output → Came x before output₀ memory′ output′ r
   came-further {memory′} {output′} {r} turns x same-gateway same-why same-output =
       let room : length output - t .written ≡ length output₀ - length (w .output) = rw (came .written, output-long) in
@@ -151,7 +158,8 @@ module _ {before output₀ memory output : List ℕ} {t : Turn} {budget count : 
     one-more z = record { came = came-next; on = z; within = omega arith }
 
     pub stops-early : {h : Header} {after : List ℕ} {answer : Worked} → Known before h → (r .why ≡ 0 → ⊥)
-        → (answer ≡ record { count = count; why = r .why; written = r .written }) × (after ≡ write 6 (headerBack (r .header)) (write 0 (headerFront (r .header)) memory′))
+        → (answer ≡ record { count = count; why = r .why; written = r .written }) × (after ≡ write 6 (headerBack (r .header)) (write 0
+        (headerFront (r .header)) memory′))
         → record { answer = answer; memory = after; output = output′ } ≡ workedOff budget before output₀
     unfolding w
     stops-early k n f =
@@ -172,7 +180,8 @@ module _ {before output₀ memory output : List ℕ} {t : Turn} {budget count : 
         f
 
   pub ends : {h : Header} {after : List ℕ} {answer : Worked} → Known before h → budget ≤ count
-      → (answer ≡ record { count = count; why = t .why; written = t .written }) × (after ≡ write 6 (headerBack (t .header)) (write 0 (headerFront (t .header)) memory))
+      → (answer ≡ record { count = count; why = t .why; written = t .written }) × (after ≡ write 6 (headerBack (t .header)) (write 0
+      (headerFront (t .header)) memory))
       → record { answer = answer; memory = after; output = output } ≡ workedOff budget before output₀
   unfolding w
   ends k l f =

@@ -1,7 +1,7 @@
 -- `frames::next_item` meets its contract.
 use borrow.Author.Needs.{needs}
 use native.Mathlib.Omega.{arith}
-use lib.ListN.{length-take, length-set}
+use lib.ListN.{length-take}
 use Rattle.frames.proofs.next_item.Statement.{statement}
 use Rattle.frames.proofs.next_item.Tie as tie
 

@@ -1,5 +1,5 @@
 -- `hurfaith::hurfaith_take` meets its contract.
-use Rattle.gateway.proofs.Changing.{bytes-known}
+use Rattle.buffer.proofs.Lent.{bytes-known}
 use Rattle.hurfaith.proofs.Packing.{answer-packed, taken-fits}
 use borrow.Author.Needs.{needs}
 use Rattle.hurfaith.proofs.hurfaith_take.Statement.{statement}

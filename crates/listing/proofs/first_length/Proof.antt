@@ -6,7 +6,9 @@ use Rattle.listing.proofs.first_length.Statement.{statement}
 use Rattle.listing.proofs.first_length.Tie as tie
 
 returns : tie.Need-returns
-returns c = omega (arith, length-firstLine (c .before .before .before .args .n) (c .before .before .before .args .arcs) (c .before .before .before .args .messages))
+returns c =
+    let start = c .before .before .before in
+    omega (arith, length-firstLine (start .args .n) (start .args .arcs) (start .args .messages))
 
 pub first-length-spec : {M : Type 1} → statement M
 first-length-spec =

@@ -11,10 +11,14 @@ returns : tie.Need-returns
 returns c = omega (arith, ap length (no-line (c .before .args .own) (c .before .args .t2 .count) (c .before .args .t2 .number) (c .if1 .taken)))
 
 returns-2 : tie.Need-returns-2
-returns-2 c = omega (arith, ap length (one-line (c .before .before .before .before .args .own) (c .before .before .before .before .args .t2 .count) (c .before .before .before .before .args .t2 .number) (c .if2 .taken) (omega arith)))
+returns-2 c =
+    let start = c .before .before .before .before in
+    omega (arith, ap length (one-line (start .args .own) (start .args .t2 .count) (start .args .t2 .number) (c .if2 .taken) (omega arith)))
 
 returns-3 : tie.Need-returns-3
-returns-3 c = omega (arith, two-length (c .before .before .before .before .before .before .args .own) (c .before .before .before .before .before .before .args .t2 .count) (c .before .before .before .before .before .before .args .t2 .number) (omega arith) (omega arith))
+returns-3 c =
+    let start = c .before .before .before .before .before .before in
+    omega (arith, two-length (start .args .own) (start .args .t2 .count) (start .args .t2 .number) (omega arith) (omega arith))
 
 pub lines-length-spec : {M : Type 1} → statement M
 lines-length-spec =

@@ -13,7 +13,10 @@ put-decimal-requires : tie.Need-put-decimal-requires
 put-decimal-requires c κs = omega (arith, c .before .before .before .copy .kept .0)
 
 returns : tie.Need-returns
-returns c = puts-more (omega arith) (record { position = refl; output = c .before .before .before .before .before .before .copy .ensures }) (c .before .before .put-decimal .ensures)
+returns c =
+    let at-put-decimal = c .before .before in
+    let at-copy = at-put-decimal .before .before .before .before in
+    puts-more (omega arith) (record { position = refl; output = at-copy .copy .ensures }) (at-put-decimal .put-decimal .ensures)
 
 pub put-field-spec : {M : Type 1} → statement M
 put-field-spec =

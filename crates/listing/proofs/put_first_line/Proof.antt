@@ -10,25 +10,104 @@ use Rattle.listing.proofs.put_first_line.Statement.{statement}
 use Rattle.listing.proofs.put_first_line.Tie as tie
 
 put-field-requires : tie.Need-put-field-requires
-put-field-requires c κs = omega (arith, length-firstLine (c .before .before .before .args .n) (c .before .before .before .args .arcs) (c .before .before .before .args .messages), length-append nodesWord (decimal (c .before .before .before .args .n)), length-append arcsWord (decimal (c .before .before .before .args .arcs)), length-append roundWord (decimal (c .before .before .before .args .messages)))
+put-field-requires c κs =
+    let start = c .before .before .before in
+    omega (
+      arith,
+      length-firstLine (start .args .n) (start .args .arcs) (start .args .messages),
+      length-append nodesWord (decimal
+          (start .args .n)),
+      length-append arcsWord (decimal (start .args .arcs)),
+      length-append roundWord (decimal (start .args .messages)),
+    )
 
 put-field-requires-2 : tie.Need-put-field-requires-2
-put-field-requires-2 c κs = omega (arith, length-firstLine (c .before .before .before .before .before .before .before .before .args .n) (c .before .before .before .before .before .before .before .before .args .arcs) (c .before .before .before .before .before .before .before .before .args .messages), length-append nodesWord (decimal (c .before .before .before .before .before .before .before .before .args .n)), length-append arcsWord (decimal (c .before .before .before .before .before .before .before .before .args .arcs)), length-append roundWord (decimal (c .before .before .before .before .before .before .before .before .args .messages)), c .before .before .before .before .put-field .ensures .position, c .before .before .before .before .put-field .kept .0)
+put-field-requires-2 c κs =
+    let at-put-field = c .before .before .before .before in
+    let start = at-put-field .before .before .before .before in
+    omega (
+      arith,
+      length-firstLine (start .args .n) (start .args .arcs) (start .args .messages),
+      length-append nodesWord (decimal
+          (start .args .n)),
+      length-append arcsWord (decimal (start .args .arcs)),
+      length-append roundWord (decimal (start .args .messages)),
+      at-put-field .put-field .ensures .position,
+      at-put-field .put-field .kept .0,
+    )
 
 put-field-requires-3 : tie.Need-put-field-requires-3
-put-field-requires-3 c κs = omega (arith, length-firstLine (c .before .before .before .before .before .before .before .before .before .before .before .before .before .args .n) (c .before .before .before .before .before .before .before .before .before .before .before .before .before .args .arcs) (c .before .before .before .before .before .before .before .before .before .before .before .before .before .args .messages), length-append nodesWord (decimal (c .before .before .before .before .before .before .before .before .before .before .before .before .before .args .n)), length-append arcsWord (decimal (c .before .before .before .before .before .before .before .before .before .before .before .before .before .args .arcs)), length-append roundWord (decimal (c .before .before .before .before .before .before .before .before .before .before .before .before .before .args .messages)), c .before .before .before .before .before .before .before .before .before .put-field .ensures .position, c .before .before .before .before .before .before .before .before .before .put-field .kept .0, c .before .before .before .before .put-field2 .ensures .position, c .before .before .before .before .put-field2 .kept .0)
+put-field-requires-3 c κs =
+    let at-put-field2 = c .before .before .before .before in
+    let at-put-field = at-put-field2 .before .before .before .before .before in
+    let start = at-put-field .before .before .before .before in
+    omega (
+      arith,
+      length-firstLine (start .args .n) (start .args .arcs) (start .args .messages),
+      length-append nodesWord (decimal
+          (start .args .n)),
+      length-append arcsWord (decimal (start .args .arcs)),
+      length-append roundWord (decimal (start .args .messages)),
+      at-put-field .put-field .ensures .position,
+      at-put-field .put-field .kept .0,
+      at-put-field2 .put-field2 .ensures .position,
+      at-put-field2 .put-field2 .kept .0,
+    )
 
 slice-write-out : tie.Need-slice-write-out
-slice-write-out c = omega (arith, length-firstLine (c .before .before .before .before .before .before .before .before .before .before .before .before .before .before .before .before .args .n) (c .before .before .before .before .before .before .before .before .before .before .before .before .before .before .before .before .args .arcs) (c .before .before .before .before .before .before .before .before .before .before .before .before .before .before .before .before .args .messages), length-append nodesWord (decimal (c .before .before .before .before .before .before .before .before .before .before .before .before .before .before .before .before .args .n)), length-append arcsWord (decimal (c .before .before .before .before .before .before .before .before .before .before .before .before .before .before .before .before .args .arcs)), length-append roundWord (decimal (c .before .before .before .before .before .before .before .before .before .before .before .before .before .before .before .before .args .messages)), c .before .before .before .before .before .before .before .before .before .before .before .before .put-field .ensures .position, c .before .before .before .before .before .before .before .before .before .before .before .before .put-field .kept .0, c .before .before .before .before .before .before .before .put-field2 .ensures .position, c .before .before .before .before .before .before .before .put-field2 .kept .0, c .before .before .put-field3 .ensures .position, c .before .before .put-field3 .kept .0)
+slice-write-out c =
+    let at-put-field3 = c .before .before in
+    let at-put-field2 = at-put-field3 .before .before .before .before .before in
+    let at-put-field = at-put-field2 .before .before .before .before .before in
+    let start = at-put-field .before .before .before .before in
+    omega (
+      arith,
+      length-firstLine (start .args .n) (start .args .arcs) (start .args .messages),
+      length-append nodesWord (decimal
+          (start .args .n)),
+      length-append arcsWord (decimal (start .args .arcs)),
+      length-append roundWord (decimal (start .args .messages)),
+      at-put-field .put-field .ensures .position,
+      at-put-field .put-field .kept .0,
+      at-put-field2 .put-field2 .ensures .position,
+      at-put-field2 .put-field2 .kept .0,
+      at-put-field3 .put-field3 .ensures .position,
+      at-put-field3 .put-field3 .kept .0,
+    )
 
 add-result : tie.Need-add-result
-add-result c = omega (arith, length-firstLine (c .before .before .before .before .before .before .before .before .before .before .before .before .before .before .before .before .args .n) (c .before .before .before .before .before .before .before .before .before .before .before .before .before .before .before .before .args .arcs) (c .before .before .before .before .before .before .before .before .before .before .before .before .before .before .before .before .args .messages), length-append nodesWord (decimal (c .before .before .before .before .before .before .before .before .before .before .before .before .before .before .before .before .args .n)), length-append arcsWord (decimal (c .before .before .before .before .before .before .before .before .before .before .before .before .before .before .before .before .args .arcs)), length-append roundWord (decimal (c .before .before .before .before .before .before .before .before .before .before .before .before .before .before .before .before .args .messages)), c .before .before .before .before .before .before .before .before .before .before .before .before .put-field .ensures .position, c .before .before .before .before .before .before .before .put-field2 .ensures .position, c .before .before .put-field3 .ensures .position)
+add-result c =
+    let at-put-field3 = c .before .before in
+    let at-put-field2 = at-put-field3 .before .before .before .before .before in
+    let at-put-field = at-put-field2 .before .before .before .before .before in
+    let start = at-put-field .before .before .before .before in
+    omega (
+      arith,
+      length-firstLine (start .args .n) (start .args .arcs) (start .args .messages),
+      length-append nodesWord (decimal
+          (start .args .n)),
+      length-append arcsWord (decimal (start .args .arcs)),
+      length-append roundWord (decimal (start .args .messages)),
+      at-put-field .put-field .ensures .position,
+      at-put-field2 .put-field2 .ensures .position,
+      at-put-field3 .put-field3 .ensures .position,
+    )
 
 same-length : tie.Need-same-length
-same-length c = simp length-set (c .before .before .put-field3 .kept .0 ∙ c .before .before .before .before .before .before .before .put-field2 .kept .0 ∙ c .before .before .before .before .before .before .before .before .before .before .before .before .put-field .kept .0)
+same-length c =
+    let at-put-field3 = c .before .before in
+    let at-put-field2 = at-put-field3 .before .before .before .before .before in
+    let at-put-field = at-put-field2 .before .before .before .before .before in
+    simp length-set (at-put-field3 .put-field3 .kept .0 ∙ at-put-field2 .put-field2 .kept .0 ∙ at-put-field .put-field .kept .0)
 
 returns : tie.Need-returns
-returns c = first-put _ _ _ _ (c .before .before .before .before .before .before .before .before .before .before .before .before .before .before .before .before .pre) (c .before .before .before .before .before .before .before .before .before .before .before .before .put-field .ensures) (c .before .before .before .before .before .before .before .put-field2 .ensures) (c .before .before .put-field3 .ensures)
+returns c =
+    let at-put-field3 = c .before .before in
+    let at-put-field2 = at-put-field3 .before .before .before .before .before in
+    let at-put-field = at-put-field2 .before .before .before .before .before in
+    let start = at-put-field .before .before .before .before in
+    first-put _ _ _ _ (start .pre) (at-put-field .put-field .ensures) (at-put-field2 .put-field2 .ensures)
+    (at-put-field3 .put-field3 .ensures)
 
 pub put-first-line-spec : {M : Type 1} → statement M
 put-first-line-spec =

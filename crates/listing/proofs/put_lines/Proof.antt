@@ -9,16 +9,40 @@ returns : tie.Need-returns
 returns c = none-put (c .before .before .args .own) (c .before .before .args .t4 .count) (c .before .before .args .t4 .number) _ _ (c .if1 .taken)
 
 put-arc-requires : tie.Need-put-arc-requires
-put-arc-requires c κs = omega (arith, first-within (c .before .before .before .before .args .own) (c .before .before .before .before .args .t4 .count) (c .before .before .before .before .args .t4 .number) (c .before .before .if1 .left) (omega arith) (omega arith))
+put-arc-requires c κs =
+    let at-if1 = c .before .before in
+    let start = at-if1 .before .before in
+    omega (
+      arith,
+      first-within (start .args .own) (start .args .t4 .count) (start .args .t4 .number) (at-if1 .if1 .left) (omega arith)
+          (omega arith),
+    )
 
 returns-2 : tie.Need-returns-2
-returns-2 c = one-put (c .before .before .before .before .before .before .before .before .args .own) (c .before .before .before .before .before .before .before .before .args .t4 .count) (c .before .before .before .before .before .before .before .before .args .t4 .number) _ _ (c .if2 .taken) (omega arith) (c .before .before .before .put-arc .ensures)
+returns-2 c =
+    let at-put-arc = c .before .before .before in
+    let start = at-put-arc .before .before .before .before .before in
+    one-put (start .args .own) (start .args .t4 .count) (start .args .t4 .number) _ _ (c .if2 .taken) (omega arith)
+    (at-put-arc .put-arc .ensures)
 
 put-arc-requires-2 : tie.Need-put-arc-requires-2
-put-arc-requires-2 c κs = omega (arith, two-length (c .before .before .before .before .before .before .before .before .before .before .args .own) (c .before .before .before .before .before .before .before .before .before .before .args .t4 .count) (c .before .before .before .before .before .before .before .before .before .before .args .t4 .number) (omega arith) (omega arith), c .before .before .before .before .before .put-arc .ensures .position, c .before .before .before .before .before .put-arc .kept .0)
+put-arc-requires-2 c κs =
+    let at-put-arc = c .before .before .before .before .before in
+    let start = at-put-arc .before .before .before .before .before in
+    omega (
+      arith,
+      two-length (start .args .own) (start .args .t4 .count) (start .args .t4 .number) (omega arith) (omega arith),
+      at-put-arc .put-arc .ensures .position,
+      at-put-arc .put-arc .kept .0,
+    )
 
 returns-3 : tie.Need-returns-3
-returns-3 c = two-put (c .before .before .before .before .before .before .before .before .before .before .before .before .before .args .own) (c .before .before .before .before .before .before .before .before .before .before .before .before .before .args .t4 .count) (c .before .before .before .before .before .before .before .before .before .before .before .before .before .args .t4 .number) _ _ (omega arith) (omega arith) (c .before .before .before .before .before .before .before .before .before .before .before .before .before .pre .2) (c .before .before .before .before .before .before .before .before .put-arc .ensures) (c .before .before .put-arc2 .ensures)
+returns-3 c =
+    let at-put-arc2 = c .before .before in
+    let at-put-arc = at-put-arc2 .before .before .before .before .before .before in
+    let start = at-put-arc .before .before .before .before .before in
+    two-put (start .args .own) (start .args .t4 .count) (start .args .t4 .number) _ _ (omega arith) (omega arith) (start .pre .2)
+    (at-put-arc .put-arc .ensures) (at-put-arc2 .put-arc2 .ensures)
 
 pub put-lines-spec : {M : Type 1} → statement M
 put-lines-spec =

@@ -7,7 +7,13 @@ use Rattle.listing.proofs.put_listing.Statement.{statement}
 use Rattle.listing.proofs.put_listing.Tie as tie
 
 returns : tie.Need-returns
-returns c = puts-more (omega arith) (c .before .before .before .before .before .before .put-first-line .ensures) (record { position = refl; output = c .before .before .put-arcs .ensures }) .output
+returns c =
+    let at-put-arcs = c .before .before in
+    let at-put-first-line = at-put-arcs .before .before .before .before in
+    puts-more (omega arith) (at-put-first-line .put-first-line .ensures) (record {
+      position = refl;
+      output = at-put-arcs .put-arcs .ensures;
+    }) .output
 
 pub put-listing-spec : {M : Type 1} → statement M
 put-listing-spec =

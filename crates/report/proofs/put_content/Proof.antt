@@ -37,7 +37,23 @@ same-length c = search needs
 
 returns : tie.Need-returns
 returns c =
-    (content-put _ _ (c .before .before .before .before .before .before .before .before .before .before .before .before .before .before .before .before .before .args .frame) (c .before .before .before .before .before .before .before .before .before .before .before .before .before .before .before .before .before .pre) (c .before .before .before .before .before .before .before .before .before .before .before .before .before .origin-of .ensures) (c .before .before .before .before .before .before .before .before .before .before .before .before .put-field .ensures) (c .before .before .before .before .before .before .before .before .quantity-of .ensures) (c .before .before .before .before .before .before .before .put-field2 .ensures) (c .before .before .before .sense-number .ensures) (c .before .before .put-field3 .ensures), omega (arith, c .before .before .before .before .before .before .before .before .before .before .before .before .put-field .ensures, c .before .before .before .before .before .before .before .put-field2 .ensures, c .before .before .put-field3 .ensures))
+    let at-put-field3 = c .before .before in
+    let at-sense-number = at-put-field3 .before in
+    let at-put-field2 = at-sense-number .before .before .before .before in
+    let at-quantity-of = at-put-field2 .before in
+    let at-put-field = at-quantity-of .before .before .before .before in
+    let at-origin-of = at-put-field .before in
+    let start = at-origin-of .before .before .before .before in (
+      content-put _ _ (start .args .frame) (start .pre) (at-origin-of .origin-of .ensures) (at-put-field .put-field .ensures)
+          (at-quantity-of .quantity-of .ensures) (at-put-field2 .put-field2 .ensures) (at-sense-number .sense-number .ensures)
+          (at-put-field3 .put-field3 .ensures),
+      omega (
+        arith,
+        at-put-field .put-field .ensures,
+        at-put-field2 .put-field2 .ensures,
+        at-put-field3 .put-field3 .ensures,
+      ),
+    )
 
 pub put-content-spec : {M : Type 1} → statement M
 put-content-spec =

@@ -19,7 +19,19 @@ same-length c = search needs
 
 returns : tie.Need-returns
 returns c =
-    (frame-put _ _ (c .before .before .before .before .before .before .before .before .before .before .before .before .before .before .args .frame) (c .before .before .before .before .before .before .before .before .before .before .before .before .before .before .pre) (c .before .before .before .before .before .before .before .before .before .before .put-route .ensures) (c .before .before .before .before .before .before .put-content .ensures) (c .before .before .put-lamp .ensures), omega (arith, c .before .before .before .before .before .before .before .before .before .before .put-route .ensures, c .before .before .before .before .before .before .put-content .ensures, c .before .before .put-lamp .ensures))
+    let at-put-lamp = c .before .before in
+    let at-put-content = at-put-lamp .before .before .before .before in
+    let at-put-route = at-put-content .before .before .before .before in
+    let start = at-put-route .before .before .before .before in (
+      frame-put _ _ (start .args .frame) (start .pre) (at-put-route .put-route .ensures) (at-put-content .put-content .ensures)
+          (at-put-lamp .put-lamp .ensures),
+      omega (
+        arith,
+        at-put-route .put-route .ensures,
+        at-put-content .put-content .ensures,
+        at-put-lamp .put-lamp .ensures,
+      ),
+    )
 
 pub put-frame-spec : {M : Type 1} → statement M
 put-frame-spec =

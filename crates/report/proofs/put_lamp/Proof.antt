@@ -2,7 +2,7 @@
 use borrow.Author.Needs.{needs}
 use native.Mathlib.Omega.{arith}
 use mathlib.Core.Path.{_≡_}
-use lib.ListN.{length, length-set}
+use lib.ListN.{length}
 use Rattle.model.proofs.Arrays.{lamp-length}
 use Rattle.report.proofs.Fields.{lamp-put, dash-put}
 use Rattle.report.proofs.put_lamp.Statement.{statement}

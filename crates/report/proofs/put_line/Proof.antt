@@ -30,7 +30,13 @@ same-length-2 : tie.Need-same-length-2
 same-length-2 c = search needs
 
 returns-2 : tie.Need-returns-2
-returns-2 c = (refused-put _ _ _ (c .before .before .read .result) (c .before .before .read .ensures) (c .before .is-good .ensures) (omega arith) (c .if1 .left), omega arith)
+returns-2 c =
+    let at-is-good = c .before in
+    let at-read = at-is-good .before in (
+      refused-put _ _ _ (at-read .read .result) (at-read .read .ensures) (at-is-good .is-good .ensures) (omega arith) (c .if1 .left),
+      omega
+          arith,
+    )
 
 pub put-line-spec : {M : Type 1} → statement M
 put-line-spec =

@@ -34,7 +34,22 @@ same-length c = search needs
 
 returns : tie.Need-returns
 returns c =
-    (route-put _ _ (c .before .before .before .before .before .before .before .before .before .before .before .before .before .before .before .before .before .before .before .before .args .message) (c .before .before .before .before .before .before .before .before .before .before .before .before .before .before .before .before .before .before .before .before .pre) (c .before .before .before .before .before .before .before .before .before .before .before .before .before .before .before .before .before .kind-number .ensures) (c .before .before .before .before .before .before .before .before .before .before .before .before .before .before .before .before .put-field .ensures) (c .before .before .before .before .before .before .before .before .before .before .before .put-field2 .ensures) (c .before .before .before .before .before .before .put-field3 .ensures) (c .before .before .put-field4 .ensures), omega (arith, c .before .before .before .before .before .before .before .before .before .before .before .before .before .before .before .before .put-field .ensures, c .before .before .before .before .before .before .before .before .before .before .before .put-field2 .ensures, c .before .before .before .before .before .before .put-field3 .ensures, c .before .before .put-field4 .ensures))
+    let at-put-field4 = c .before .before in
+    let at-put-field3 = at-put-field4 .before .before .before .before in
+    let at-put-field2 = at-put-field3 .before .before .before .before .before in
+    let at-put-field = at-put-field2 .before .before .before .before .before in
+    let at-kind-number = at-put-field .before in
+    let start = at-kind-number .before .before .before in (
+      route-put _ _ (start .args .message) (start .pre) (at-kind-number .kind-number .ensures) (at-put-field .put-field .ensures)
+          (at-put-field2 .put-field2 .ensures) (at-put-field3 .put-field3 .ensures) (at-put-field4 .put-field4 .ensures),
+      omega (
+        arith,
+        at-put-field .put-field .ensures,
+        at-put-field2 .put-field2 .ensures,
+        at-put-field3 .put-field3 .ensures,
+        at-put-field4 .put-field4 .ensures,
+      ),
+    )
 
 pub put-route-spec : {M : Type 1} → statement M
 put-route-spec =

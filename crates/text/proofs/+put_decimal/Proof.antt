@@ -35,14 +35,24 @@ put-decimal-same-length t c = simp length-set
 put-decimal-returns : (t : ℕ) → put-decimal-lts.Need-returns (put-decimal-below t, put-decimal.Post) (put-decimal-at t) put-decimal.Post
 put-decimal-returns t c = put-small _ _ _ (c .before .before .pre .1) (c .if1 .taken)
 
-put-decimal-put-decimal-requires : (t : ℕ) → put-decimal-lts.Need-put-decimal-requires (put-decimal-below t, put-decimal.Post) (put-decimal-at t) put-decimal.Post
+put-decimal-put-decimal-requires : (t : ℕ) → put-decimal-lts.Need-put-decimal-requires (put-decimal-below t, put-decimal.Post)
+    (put-decimal-at t) put-decimal.Post
 put-decimal-put-decimal-requires t c κs = (omega arith, omega (arith, length-more (c .before .before .before .args .n) (omega arith)))
 
 put-decimal-slice-write-out-2 : (t : ℕ) → put-decimal-lts.Need-slice-write-out-2 (put-decimal-below t, put-decimal.Post) (put-decimal-at t) put-decimal.Post
-put-decimal-slice-write-out-2 t c = omega (arith, length-more (c .before .before .before .before .before .before .args .n) (omega arith), c .before .before .put-decimal .ensures .position, c .before .before .put-decimal .kept .0)
+put-decimal-slice-write-out-2 t c = omega (
+  arith,
+  length-more (c .before .before .before .before .before .before .args .n) (omega arith),
+  c .before .before .put-decimal .ensures .position,
+  c .before .before .put-decimal .kept .0,
+)
 
 put-decimal-add-result-2 : (t : ℕ) → put-decimal-lts.Need-add-result-2 (put-decimal-below t, put-decimal.Post) (put-decimal-at t) put-decimal.Post
-put-decimal-add-result-2 t c = omega (arith, length-more (c .before .before .before .before .before .before .args .n) (omega arith), c .before .before .put-decimal .ensures .position)
+put-decimal-add-result-2 t c = omega (
+  arith,
+  length-more (c .before .before .before .before .before .before .args .n) (omega arith),
+  c .before .before .put-decimal .ensures .position,
+)
 
 put-decimal-same-length-2 : (t : ℕ) → put-decimal-lts.Need-same-length-2 (put-decimal-below t, put-decimal.Post) (put-decimal-at t) put-decimal.Post
 put-decimal-same-length-2 t c = simp length-set (c .before .before .put-decimal .kept .0)

@@ -36,13 +36,28 @@ returns-5 : tie.Need-returns-5 Inv-loop μ-loop
 returns-5 c = no-digit _ _ (c .before .before .before .before .loop .i) (c .before .before .before .loop-test .taken) (λ p q. omega arith)
 
 returns-6 : tie.Need-returns-6 Inv-loop μ-loop
-returns-6 c = past-most _ _ (c .before .before .before .before .before .loop .i) (c .before .before .before .before .loop-test .taken) (c .before .before .before .before .before .loop .inv .1) (omega arith)
+returns-6 c =
+    let at-loop-test = c .before .before .before .before in
+    let at-loop = at-loop-test .before in
+    past-most _ _ (at-loop .loop .i) (at-loop-test .loop-test .taken) (at-loop .loop .inv .1) (omega arith)
 
 loop-again : tie.Need-loop-again Inv-loop μ-loop
-loop-again c = (omega arith, read-value _ _ (c .before .before .before .before .loop-test .taken) (c .before .before .before .before .before .loop .inv .1), read-digits _ _ (c .before .before .before .before .loop-test .taken) (omega arith) (omega arith) (c .before .before .before .before .before .loop .inv .2), omega arith)
+loop-again c =
+    let at-loop-test = c .before .before .before .before in
+    let at-loop = at-loop-test .before in (
+      omega arith,
+      read-value _ _ (at-loop-test .loop-test .taken) (at-loop .loop .inv .1),
+      read-digits _ _ (at-loop-test .loop-test .taken)
+          (omega arith) (omega arith) (at-loop .loop .inv .2),
+      omega arith,
+    )
 
 returns-7 : tie.Need-returns-7 Inv-loop μ-loop
-returns-7 c = whole _ _ (c .before .loop .i) (omega arith) (c .before .loop .inv .1) (c .before .loop .inv .2) (omega arith) (c .before .before .if2 .left) (omega arith)
+returns-7 c =
+    let at-loop = c .before in
+    let at-if2 = at-loop .before in
+    whole _ _ (at-loop .loop .i) (omega arith) (at-loop .loop .inv .1) (at-loop .loop .inv .2) (omega arith) (at-if2 .if2 .left) (omega
+    arith)
 
 pub spelled-number-spec : {M : Type 1} → statement M
 spelled-number-spec =

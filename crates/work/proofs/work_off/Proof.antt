@@ -3,7 +3,7 @@ use mathlib.Core.Path.{_≡_, refl}
 use Prim.Native.Nat.{_-_}
 use native.Mathlib.Omega.{arith}
 use lib.ListN.{length}
-use Rattle.gateway.proofs.Changing.{bytes-known}
+use Rattle.buffer.proofs.Lent.{bytes-known}
 use Rattle.work.proofs.SeveralEvents.{Going, at-first, ready, one-more, stops-early, ends}
 use borrow.Author.Needs.{needs}
 use Rattle.work.proofs.work_off.Statement.{statement}
@@ -17,13 +17,18 @@ abbrev μ-loop : tie.MeasureT-loop
 μ-loop memory₀ output₀ budget turn₀ count₀ memory output turn count = budget - count
 
 loop-holds : tie.Need-loop-holds Inv-loop μ-loop
-loop-holds c = (refl, refl, at-first (c .before .before .pre) (bytes-known (c .before .before .args .memory .now) (c .before .slice-known .given)) (c .before .before .args .budget))
+loop-holds c =
+    let at-slice-known = c .before in
+    let start = at-slice-known .before in
+    (refl, refl, at-first (start .pre) (bytes-known (start .args .memory .now) (at-slice-known .slice-known .given)) (start .args .budget))
 
 work-one-requires : tie.Need-work-one-requires Inv-loop μ-loop
 work-one-requires c κs = ready (c .before .before .before .loop .inv .2)
 
 finish-requires : tie.Need-finish-requires Inv-loop μ-loop
-finish-requires c κs = let z = ready (c .before .before .before .before .before .before .before .before .before .before .before .loop .inv .2) in omega (arith, z .long)
+finish-requires c κs =
+    let at-loop = c .before .before .before .before .before .before .before .before .before .before .before in
+    let z = ready (at-loop .loop .inv .2) in omega (arith, z .long)
 
 same-length : tie.Need-same-length Inv-loop μ-loop
 same-length c = omega arith
@@ -32,7 +37,15 @@ same-length-2 : tie.Need-same-length-2 Inv-loop μ-loop
 same-length-2 c = omega arith
 
 returns : tie.Need-returns Inv-loop μ-loop
-returns c = stops-early (c .before .before .before .before .before .before .before .before .before .before .before .before .before .before .loop .inv .2) (c .before .before .before .before .before .before .before .before .before .before .before .before .before .loop-test .taken) (c .before .before .before .before .before .before .before .before .before .before .work-one .ensures) (c .before .before .before .before .before .before .before .before .before .before .before .before .before .before .before .before .before .pre) (c .before .before .before .before .if1 .taken) (c .before .before .finish .ensures)
+returns c =
+    let at-finish = c .before .before in
+    let at-if1 = at-finish .before .before in
+    let at-work-one = at-if1 .before .before .before .before .before .before in
+    let at-loop-test = at-work-one .before .before .before in
+    let at-loop = at-loop-test .before in
+    let start = at-loop .before .before .before in
+    stops-early (at-loop .loop .inv .2) (at-loop-test .loop-test .taken) (at-work-one .work-one .ensures) (start .pre) (at-if1 .if1 .taken)
+    (at-finish .finish .ensures)
 
 add-count : tie.Need-add-count Inv-loop μ-loop
 add-count c = search needs
@@ -41,7 +54,15 @@ loop-less : tie.Need-loop-less Inv-loop μ-loop
 loop-less c = search needs
 
 loop-again : tie.Need-loop-again Inv-loop μ-loop
-loop-again c = (omega arith, omega arith, one-more (c .before .before .before .before .before .before .before .before .before .before .loop .inv .2) (c .before .before .before .before .before .before .before .before .before .loop-test .taken) (c .before .before .before .before .before .before .work-one .ensures) (c .if1 .left))
+loop-again c =
+    let at-work-one = c .before .before .before .before .before .before in
+    let at-loop-test = at-work-one .before .before .before in
+    let at-loop = at-loop-test .before in (
+      omega arith,
+      omega arith,
+      one-more (at-loop .loop .inv .2) (at-loop-test .loop-test .taken) (at-work-one .work-one .ensures)
+          (c .if1 .left),
+    )
 
 finish-requires-2 : tie.Need-finish-requires-2 Inv-loop μ-loop
 finish-requires-2 c κs = let z = ready (c .before .before .loop .inv .2) in omega (arith, z .long)
@@ -53,7 +74,12 @@ same-length-4 : tie.Need-same-length-4 Inv-loop μ-loop
 same-length-4 c = omega arith
 
 returns-2 : tie.Need-returns-2 Inv-loop μ-loop
-returns-2 c = ends (c .before .before .before .before .before .loop .inv .2) (c .before .before .before .before .before .before .before .before .pre) (c .before .before .before .before .loop-test .left) (c .before .before .finish2 .ensures)
+returns-2 c =
+    let at-finish2 = c .before .before in
+    let at-loop-test = at-finish2 .before .before in
+    let at-loop = at-loop-test .before in
+    let start = at-loop .before .before .before in
+    ends (at-loop .loop .inv .2) (start .pre) (at-loop-test .loop-test .left) (at-finish2 .finish2 .ensures)
 
 pub work-off-spec : {M : Type 1} → statement M
 work-off-spec =

@@ -1,6 +1,6 @@
 -- `opening::set_up::set_up` meets its contract.
 use native.Mathlib.Omega.{arith}
-use Rattle.gateway.proofs.Changing.{bytes-known}
+use Rattle.buffer.proofs.Lent.{bytes-known}
 use Rattle.opening.proofs.SetUpBranches.{not-valid, valid-settings, frame-refused, too-many, list-room, few-enough, set-up-done}
 use borrow.Author.Needs.{needs}
 use Rattle.opening.proofs.set_up.set_up.Statement.{statement}
@@ -16,7 +16,11 @@ returns : tie.Need-returns
 returns c = search not-valid
 
 settings-of-requires : tie.Need-settings-of-requires
-settings-of-requires c κs = valid-settings (c .before .before .before .before .args .opening) (c .before .before .before .before .args .list .now) (c .before .before .before .before .args .memory .now) (c .before .opening-valid .ensures) (c .if1 .left) .settings
+settings-of-requires c κs =
+    let at-opening-valid = c .before in
+    let start = at-opening-valid .before .before .before in
+    valid-settings (start .args .opening) (start .args .list .now) (start .args .memory .now) (at-opening-valid .opening-valid .ensures)
+    (c .if1 .left) .settings
 
 check-list-requires : tie.Need-check-list-requires
 check-list-requires c κs = search needs
@@ -40,16 +44,51 @@ enter-list-requires : tie.Need-enter-list-requires
 enter-list-requires c κs = search list-room
 
 opened-header-requires : tie.Need-opened-header-requires
-opened-header-requires c κs = let v = valid-settings (c .before .before .before .before .before .before .before .before .before .before .before .before .before .before .before .before .args .opening) (c .before .before .before .before .before .before .before .before .before .before .before .before .before .before .before .before .args .list .now) (c .before .before .before .before .before .before .before .before .before .before .before .before .before .before .before .before .args .memory .now) (c .before .before .before .before .before .before .before .before .before .before .before .before .before .opening-valid .ensures) (c .before .before .before .before .before .before .before .before .before .before .before .before .if1 .left) in let f = few-enough (c .before .before .before .before .before .before .before .before .before .before .before .before .before .before .before .before .args .opening) (c .before .before .before .before .before .before .before .before .before .before .before .before .before .before .before .before .args .list .now) (c .before .before .before .before .before .before .before .before .before .before .before .before .before .before .before .before .args .memory .now) (c .before .before .before .before .before .before .before .before .before .before .before .before .before .opening-valid .ensures) (c .before .before .before .before .before .before .before .before .before .before .before .before .if1 .left) (c .before .before .before .before .before .before .before .before .before .before .before .settings-of .ensures) (c .before .before .before .before .before .before .before .before .before .before .check-list .ensures) (c .before .before .before .before .before .before .before .before .if2 .left) (c .before .before .before .before .before .if3 .left) in (c .before .before .before .before .before .before .before .before .before .before .before .settings-of .ensures, omega arith, omega arith)
+opened-header-requires c κs =
+    let at-if3 = c .before .before .before .before .before in
+    let at-if2 = at-if3 .before .before .before in
+    let at-check-list = at-if2 .before .before in
+    let at-settings-of = at-check-list .before in
+    let at-if1 = at-settings-of .before in
+    let at-opening-valid = at-if1 .before in
+    let start = at-opening-valid .before .before .before in
+    let v = valid-settings (start .args .opening) (start .args .list .now) (start .args .memory .now)
+    (at-opening-valid .opening-valid .ensures) (at-if1 .if1 .left) in let f = few-enough (start .args .opening) (start .args .list .now)
+    (start .args .memory .now) (at-opening-valid .opening-valid .ensures) (at-if1 .if1 .left) (at-settings-of .settings-of .ensures)
+    (at-check-list .check-list .ensures) (at-if2 .if2 .left) (at-if3 .if3 .left) in (
+      at-settings-of .settings-of .ensures,
+      omega arith,
+      omega arith,
+    )
 
 write-header-requires : tie.Need-write-header-requires
-write-header-requires c κs = let v = valid-settings (c .before .before .before .before .before .before .before .before .before .before .before .before .before .before .before .before .before .args .opening) (c .before .before .before .before .before .before .before .before .before .before .before .before .before .before .before .before .before .args .list .now) (c .before .before .before .before .before .before .before .before .before .before .before .before .before .before .before .before .before .args .memory .now) (c .before .before .before .before .before .before .before .before .before .before .before .before .before .before .opening-valid .ensures) (c .before .before .before .before .before .before .before .before .before .before .before .before .before .if1 .left) in search needs
+write-header-requires c κs =
+    let at-if1 = c .before .before .before .before .before .before .before .before .before .before .before .before .before in
+    let at-opening-valid = at-if1 .before in
+    let start = at-opening-valid .before .before .before in
+    let v = valid-settings (start .args .opening) (start .args .list .now) (start .args .memory .now)
+    (at-opening-valid .opening-valid .ensures) (at-if1 .if1 .left) in search needs
 
 same-length : tie.Need-same-length
 same-length c = search needs
 
 returns-4 : tie.Need-returns-4
-returns-4 c = set-up-done _ _ _ (c .before .before .before .before .before .before .before .before .before .before .before .before .before .before .before .before .before .opening-valid .ensures) (c .before .before .before .before .before .before .before .before .before .before .before .before .before .before .before .before .if1 .left) (c .before .before .before .before .before .before .before .before .before .before .before .before .before .before .before .settings-of .ensures) (c .before .before .before .before .before .before .before .before .before .before .before .before .before .before .check-list .ensures) (c .before .before .before .before .before .before .before .before .before .before .before .before .if2 .left) (c .before .before .before .before .before .before .before .before .before .if3 .left) (bytes-known (c .before .before .before .before .before .before .before .before .before .before .before .before .before .before .before .before .before .before .before .before .args .list .now) (c .before .before .before .before .before .before .before .before .before .before .before .before .before .before .before .before .before .before .shared-slice-known .given)) (c .before .before .before .before .before .before .before .enter-list .ensures) (c .before .before .before .opened-header .ensures) (c .before .before .write-header .ensures)
+returns-4 c =
+    let at-write-header = c .before .before in
+    let at-opened-header = at-write-header .before in
+    let at-enter-list = at-opened-header .before .before .before .before in
+    let at-if3 = at-enter-list .before .before in
+    let at-if2 = at-if3 .before .before .before in
+    let at-check-list = at-if2 .before .before in
+    let at-settings-of = at-check-list .before in
+    let at-if1 = at-settings-of .before in
+    let at-opening-valid = at-if1 .before in
+    let at-shared-slice-known = at-opening-valid .before in
+    let start = at-shared-slice-known .before .before in
+    set-up-done _ _ _ (at-opening-valid .opening-valid .ensures) (at-if1 .if1 .left) (at-settings-of .settings-of .ensures)
+    (at-check-list .check-list .ensures) (at-if2 .if2 .left) (at-if3 .if3 .left) (bytes-known (start .args .list .now)
+    (at-shared-slice-known .shared-slice-known .given)) (at-enter-list .enter-list .ensures) (at-opened-header .opened-header .ensures)
+    (at-write-header .write-header .ensures)
 
 pub set-up-spec : {M : Type 1} → statement M
 set-up-spec =

@@ -1,7 +1,7 @@
 -- `opening::settings::in_range` meets its contract.
 use borrow.Author.Tests.{lt-leb, le-leb, le-ltb}
 use Rattle.memory.specs.Validity.{settingsValid}
-use Rattle.memory.proofs.Validated.{and-both}
+use Rattle.lists.proofs.BoolLaws.{and-both}
 use Rattle.memory.proofs.Chains.{left-fails, right-fails, last-decides, fails}
 use Rattle.opening.proofs.settings.in_range.Statement.{statement}
 use Rattle.opening.proofs.settings.in_range.Tie as tie

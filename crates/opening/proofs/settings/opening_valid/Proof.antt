@@ -1,7 +1,7 @@
 -- `opening::settings::opening_valid` meets its contract.
 use borrow.Author.Tests.{lt-leb, le-leb}
 use Rattle.gateway.specs.SettingUp.{openingValid}
-use Rattle.memory.proofs.Validated.{and-both}
+use Rattle.lists.proofs.BoolLaws.{and-both}
 use Rattle.memory.proofs.Chains.{left-fails, right-fails, last-decides, fails, refuted, granted}
 use borrow.Author.Needs.{needs}
 use Rattle.opening.proofs.settings.opening_valid.Statement.{statement}

@@ -1,0 +1,2 @@
+-- Laws of commit.
+pub mod Recording

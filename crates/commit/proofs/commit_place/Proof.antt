@@ -1,0 +1,88 @@
+-- `commit::commit_place` meets its contract.
+use native.Mathlib.Omega.{arith}
+use Rattle.commit.proofs.Recording.{record-size-small, record-room, no-record, record-done}
+use borrow.Author.Needs.{needs}
+use Rattle.commit.proofs.commit_place.Statement.{statement}
+use Rattle.commit.proofs.commit_place.Tie as tie
+
+frame-if-requires : tie.Need-frame-if-requires
+frame-if-requires c κs = search needs
+
+map-of-requires : tie.Need-map-of-requires
+map-of-requires c κs = search needs
+
+whole-length-requires : tie.Need-whole-length-requires
+whole-length-requires c κs = search needs
+
+add-size : tie.Need-add-size
+add-size c =
+    let at-map-of = c .before in
+    let at-frame-if = at-map-of .before in
+    let start = at-frame-if .before .before .before .before in
+    omega (
+      arith,
+      record-size-small (start .args .entry) (start .pre .2) (at-frame-if .frame-if .ensures) (at-map-of .map-of .ensures)
+          (c .whole-length .ensures),
+    )
+
+refused-requires : tie.Need-refused-requires
+refused-requires c κs = search needs
+
+returns : tie.Need-returns
+returns c =
+    let at-if1 = c .before in
+    let at-whole-length = at-if1 .before in
+    let at-map-of = at-whole-length .before in
+    let at-frame-if = at-map-of .before in
+    let start = at-frame-if .before .before .before .before in
+    no-record (start .args .entry) (start .pre .2) (start .args .memory .now) (start .args .output .now) (start .args .k)
+    (at-frame-if .frame-if .ensures) (at-map-of .map-of .ensures) (at-whole-length .whole-length .ensures) (at-if1 .if1 .taken)
+    (c .refused .ensures)
+
+put-record-requires : tie.Need-put-record-requires
+put-record-requires c κs =
+    let at-if1 = c .before in
+    let at-whole-length = at-if1 .before in
+    let at-map-of = at-whole-length .before in
+    let at-frame-if = at-map-of .before in
+    let start = at-frame-if .before .before .before .before in
+    record-room (start .args .entry) (start .pre .2) (start .args .memory .now) (start .args .output .now) (start .args .k)
+    (at-frame-if .frame-if .ensures) (at-map-of .map-of .ensures) (at-whole-length .whole-length .ensures) (at-if1 .if1 .left)
+
+remove-entry-requires : tie.Need-remove-entry-requires
+remove-entry-requires c κs = search needs
+
+same-length : tie.Need-same-length
+same-length c = search needs
+
+same-length-2 : tie.Need-same-length-2
+same-length-2 c = search needs
+
+returns-2 : tie.Need-returns-2
+returns-2 c =
+    let at-remove-entry = c .before .before in
+    let at-put-record = at-remove-entry .before .before .before .before in
+    let at-if1 = at-put-record .before .before in
+    let at-whole-length = at-if1 .before in
+    let at-map-of = at-whole-length .before in
+    let at-frame-if = at-map-of .before in
+    let start = at-frame-if .before .before .before .before in
+    record-done (start .args .entry) (start .pre .2) (start .args .memory .now) (start .args .output .now) (start .args .k)
+    (at-frame-if .frame-if .ensures) (at-map-of .map-of .ensures) (at-whole-length .whole-length .ensures) (at-if1 .if1 .left)
+    (at-put-record .put-record .ensures) (at-remove-entry .remove-entry .ensures)
+
+pub commit-place-spec : {M : Type 1} → statement M
+commit-place-spec =
+    tie.close
+    (tie.spec
+    frame-if-requires
+    map-of-requires
+    whole-length-requires
+    add-size
+    refused-requires
+    returns
+    put-record-requires
+    remove-entry-requires
+    same-length
+    same-length-2
+    returns-2)

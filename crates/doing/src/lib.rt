@@ -1,0 +1,129 @@
+// Doing a message: the state after it, and what it sends.
+use model::Kind;
+use model::Message;
+use model::Site;
+use model::State;
+use model::event::Reply;
+ghost use mathlib.Core.Path.{_≡_};
+ghost use mathlib.Core.List.{[]};
+ghost use Rattle.model.specs.Doing.{after, counted, shelved, notPast, reply, requestHours, sent, sentBy};
+
+// The hours from a message to the one that it sends.
+const REQUEST_HOURS: u32 = 1;
+
+const DELIVERY_HOURS: u32 = 24;
+
+const LIFE_HOURS: u32 = 43800;
+
+// The state after a message of that kind: every kind, in every state.
+pub fn state_after(state: State, kind: Kind) -> State
+    ensures { λ r. ⌜ r ≡ after state kind ⌝ }
+{
+    let mut next = state;
+    match kind {
+        Kind::Failure { origin: _ } => {
+            next.failed = count(state.failed);
+        }
+        Kind::Request { origin: _ } => {
+            if 0 < state.stock {
+                next.stock = state.stock - 1;
+            } else {
+                next.short = count(state.short);
+            }
+        }
+        Kind::Delivery { origin: _ } => {
+            next.fitted = count(state.fitted);
+        }
+        Kind::Restock { quantity } => {
+            next.stock = shelve(state.stock, quantity);
+        }
+        Kind::Start => {}
+        Kind::Lvt => {}
+        Kind::Update => {}
+    }
+    next
+}
+
+// What doing a message sends: every kind, in every state.
+pub fn reply_to(site: Site, state: State, message: Message) -> Reply
+    ensures { λ r. ⌜ sentBy r ≡ sent site state message ⌝ }
+{
+    let kind = message.kind;
+    match kind {
+        Kind::Failure { origin: _ } => request_for(site, message, site.own),
+        Kind::Request { origin } => {
+            if 0 < state.stock {
+                let delivery = Kind::Delivery { origin };
+                return sending(site, message, DELIVERY_HOURS, origin, delivery);
+            }
+            request_for(site, message, origin)
+        }
+        Kind::Delivery { origin: _ } => {
+            let failure = Kind::Failure { origin: site.own };
+            sending(site, message, LIFE_HOURS, site.own, failure)
+        }
+        Kind::Restock { quantity: _ } => silent(message),
+        Kind::Start => silent(message),
+        Kind::Lvt => silent(message),
+        Kind::Update => silent(message),
+    }
+}
+
+// The Request to the supplier for that origin.
+fn request_for(site: Site, cause: Message, origin: u8) -> Reply
+    ensures { λ r. ⌜ sentBy r ≡ notPast (site .last) (reply site cause requestHours (site .supplier) (Kind.Request origin)) ⌝ }
+{
+    let request = Kind::Request { origin };
+    sending(site, cause, REQUEST_HOURS, site.supplier, request)
+}
+
+// The shelf with the quantity added, which stops at its largest value.
+fn shelve(stock: u16, quantity: u16) -> u16
+    ensures { λ r. ⌜ r ≡ shelved stock quantity ⌝ }
+{
+    if quantity < 65535 - stock {
+        stock + quantity
+    } else {
+        65535
+    }
+}
+
+// A counter with one more, which stops at its largest value.
+fn count(counter: u32) -> u32
+    ensures { λ r. ⌜ r ≡ counted counter ⌝ }
+{
+    if counter < 4294967295 {
+        counter + 1
+    } else {
+        4294967295
+    }
+}
+
+// No message is sent.
+fn silent(message: Message) -> Reply
+    ensures { λ r. ⌜ sentBy r ≡ [] ⌝ }
+{
+    Reply {
+        sends: false,
+        sent: message,
+    }
+}
+
+// A message is sent so many hours after its cause, unless that is past the last hour.
+fn sending(site: Site, cause: Message, hours: u32, to: u8, kind: Kind) -> Reply
+    ensures { λ r. ⌜ sentBy r ≡ notPast (site .last) (reply site cause hours to kind) ⌝ }
+{
+    let hour = (cause.hour as u64) + (hours as u64);
+    if (site.last as u64) < hour {
+        return silent(cause);
+    }
+    let lamp = cause.lamp;
+    let sent = Message {
+        hour: hour as u32,
+        from: site.own,
+        to,
+        kind,
+        lamp,
+    };
+    Reply { sends: true, sent }
+}

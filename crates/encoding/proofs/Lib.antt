@@ -1,0 +1,2 @@
+-- Laws of writing a place.
+pub mod Lamps

@@ -1,0 +1,25 @@
+-- `encoding::write_state` meets its contract.
+use borrow.Author.Needs.{needs}
+use Rattle.memory.proofs.Stored.{state-stored}
+use Rattle.encoding.proofs.write_state.Statement.{statement}
+use Rattle.encoding.proofs.write_state.Tie as tie
+
+write16-requires : tie.Need-write16-requires
+write16-requires c κs = search needs
+
+add-write-counters : tie.Need-add-write-counters
+add-write-counters c = search needs
+
+write-counters-requires : tie.Need-write-counters-requires
+write-counters-requires c κs = search needs
+
+same-length : tie.Need-same-length
+same-length c = search needs
+
+returns : tie.Need-returns
+returns c = search state-stored
+
+pub write-state-spec : {M : Type 1} → statement M
+write-state-spec =
+    tie.close
+    (tie.spec write16-requires add-write-counters write-counters-requires same-length returns)

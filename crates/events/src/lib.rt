@@ -1,0 +1,73 @@
+// One event of work: 6 where no plain message is unprocessed, 5 where there is no room for what the next one sends, else it is done.
+use decoding::read_entry;
+use doing::reply_to;
+use doing::state_after;
+use encoding::write_entry;
+use memory::Entry;
+use memory::HEADER_SIZE;
+use memory::Mark;
+use memory::QUEUE_SIZE;
+use places::search::next_marked;
+use replies::Turn;
+use replies::has_room;
+use replies::send_reply;
+use replies::sending_after;
+use validity::site_of;
+ghost use mathlib.Core.Path.{_≡_};
+ghost use Prim.Native.Nat.{_<_};
+ghost use Rattle.replies.specs.inside.Turns.{Ready, Turns, TurnsAt, stoppedWith};
+
+pub fn work_one(memory: &mut [u8], output: &mut [u8], turn: Turn) -> Turn
+    requires { ⌜ Ready (now memory) (now output) turn ⌝ }
+    ensures { λ r. ⌜ Turns (now (memory .entry)) (now (output .entry)) (now (memory .exit)) (now (output .exit)) turn r ⌝ }
+{
+    let header = turn.header;
+    let queued = header.queued as usize;
+    let k = next_marked(memory, turn.place, queued, Mark::Pending);
+    if k == queued {
+        return stopped(turn, 6);
+    }
+    work_at(memory, output, turn, k)
+}
+
+// Does the message in queue place k.
+fn work_at(memory: &mut [u8], output: &mut [u8], turn: Turn, k: usize) -> Turn
+    requires { ⌜ Ready (now memory) (now output) turn × (k < turn .header .queued) ⌝ }
+    ensures { λ r. ⌜ TurnsAt k (now (memory .entry)) (now (output .entry)) (now (memory .exit)) (now (output .exit)) turn r ⌝ }
+{
+    let header = turn.header;
+    let settings = header.settings;
+    let state = header.state;
+    let at = HEADER_SIZE + QUEUE_SIZE * k;
+    let entry = read_entry(memory, at);
+    let message = entry.message;
+    let reply = reply_to(site_of(settings), state, message);
+    if !has_room(header, output.len() - turn.written, reply) {
+        return stopped(turn, 5);
+    }
+    let done = Entry {
+        message,
+        mark: Mark::Processed,
+        before: state,
+    };
+    write_entry(memory, at, done);
+    let kind = message.kind;
+    let after = state_after(state, kind);
+    let sending = send_reply(memory, output, sending_after(turn, after), reply);
+    let next = sending.header;
+    Turn {
+        header: next,
+        written: sending.written,
+        place: k + 1,
+        why: 0,
+    }
+}
+
+// Work that stops, with that number.
+fn stopped(turn: Turn, why: u8) -> Turn
+    ensures { λ r. ⌜ r ≡ stoppedWith why turn ⌝ }
+{
+    let mut next = turn;
+    next.why = why;
+    next
+}

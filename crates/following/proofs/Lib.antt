@@ -1,0 +1,2 @@
+-- Laws of the test of neighbours.
+pub mod Following

@@ -1,0 +1,19 @@
+// The bytes of a lamp.
+ghost use mathlib.Core.Path.{_≡_};
+ghost use Prim.Native.Nat.{_+_, _≤_};
+ghost use lib.ListN.{length};
+ghost use Rattle.buffer.specs.Slice.{part};
+
+// The eighteen bytes from a position on.
+pub fn read_lamp(bytes: &[u8], at: usize) -> [u8; 18]
+    requires { ⌜ at + 18 ≤ length (now bytes) ⌝ }
+    ensures { λ r. ⌜ r ≡ part (now (bytes .entry)) at 18 ⌝ }
+{
+    let mut lamp = [0; 18];
+    let mut i = 0;
+    while i < 18 {
+        lamp[i] = bytes[at + i];
+        i += 1;
+    }
+    lamp
+}

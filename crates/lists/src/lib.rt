@@ -1,0 +1,1 @@
+// Lists and families: definitions and laws alone, for the crates above.

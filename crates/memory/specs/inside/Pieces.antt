@@ -1,0 +1,29 @@
+-- Stretches of the memory's bytes that one function writes.
+use mathlib.Core.List.{List, _++_}
+use Prim.Native.Nat.{ℕ}
+use Rattle.buffer.specs.Slice.{write}
+use Rattle.buffer.specs.Number.{bytesOf}
+use Rattle.model.specs.declared.State.{State}
+use Rattle.memory.specs.Layout.{backAt}
+use Rattle.memory.specs.Codec.{phaseNumber, headerFront, headerBack}
+use Rattle.memory.specs.declared.Settings.{Settings}
+use Rattle.memory.specs.declared.Round.{Round}
+use Rattle.memory.specs.declared.Header.{Header}
+
+-- failed, fitted and short
+abbrev pub counterBytes : State → List ℕ
+counterBytes s = bytesOf 4 (s .failed) ++ (bytesOf 4 (s .fitted) ++ bytesOf 4 (s .short))
+
+-- the header's numbers of one byte
+abbrev pub smallBytes : Settings → Round → List ℕ
+smallBytes s r =
+    bytesOf 1 (s .n) ++ (bytesOf 1 (s .own) ++ (bytesOf 1 (s .supplier) ++ (bytesOf 1 (phaseNumber (r .phase)) ++ bytesOf 1 (r .arrived))))
+
+-- its numbers of two bytes
+abbrev pub countBytes : Settings → ℕ → ℕ → ℕ → List ℕ
+countBytes s queued outstanding stock =
+    bytesOf 2 (s .q) ++ (bytesOf 2 (s .u) ++ (bytesOf 2 queued ++ (bytesOf 2 outstanding ++ bytesOf 2 stock)))
+
+-- the memory with a header written over it
+abbrev pub headerWritten : Header → List ℕ → List ℕ
+headerWritten h m = write backAt (headerBack h) (write 0 (headerFront h) m)

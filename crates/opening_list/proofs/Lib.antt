@@ -1,0 +1,4 @@
+-- Laws and proofs of the opening list.
+pub mod Checking
+pub mod Entering
+pub mod FramePositions

@@ -1,0 +1,48 @@
+-- What the functions inside set up are told and promise: the frames of the opening list by their positions, a message entered, the header.
+-- The call's own contract does not cite this file.
+use mathlib.Core.Path.{_≡_}
+use Prim.Native.Nat.{ℕ, _+_, min}
+use mathlib.Core.List.{List}
+use lib.ListN.{length, drop, getD}
+use Rattle.lists.specs.inside.Positions.{firstWhere}
+use Rattle.model.specs.declared.Message.{Message}
+use Rattle.frame.specs.Layout.{wholeLength}
+use Rattle.memory.specs.declared.Settings.{Settings}
+use Rattle.memory.specs.declared.Header.{Header}
+use Rattle.gateway.specs.Undoing.{pendingEntry}
+use Rattle.gateway.specs.Rounds.{idle}
+use Rattle.gateway.specs.SettingUp.{settingsOf, cutFrames, firstRefusal}
+use Rattle.places.specs.inside.Searching.{passes, entriesIn}
+use Rattle.gateway.specs.declared.Opening.{Opening}
+use Rattle.places.specs.declared.search.Search.the-variants.{Later}
+use Rattle.effects.specs.inside.Placed.{entryInserted}
+use Rattle.opening_list.specs.declared.Checked.{Checked}
+
+-- the frames of the list from a position on
+unfoldable pub framesFrom : List ℕ → ℕ → List (List ℕ)
+framesFrom list at = cutFrames (length (drop at list)) (drop at list)
+
+-- the position behind the frame that begins at a position: by the length of its map, or the list's end where that is nearer
+unfoldable pub frameEnd : List ℕ → ℕ → ℕ
+frameEnd list at = min (length list) (at + wholeLength (getD list at 0))
+
+-- what the pass over the frames finds: the first refusal; and where there is none, how many they are
+pub record Checks (s : Settings) (frames : List (List ℕ)) (r : Checked) : Type 0 where
+  pub number : r .number ≡ firstRefusal s frames
+  pub count : r .number ≡ 0 → r .count ≡ length frames
+
+-- the memory after a message has entered the first count queue places, behind those that are not later
+unfoldable pub memoryEntered : ℕ → Message → List ℕ → List ℕ
+memoryEntered count m memory =
+    entryInserted count (firstWhere (passes Later m) (entriesIn memory count)) (pendingEntry m) memory
+
+-- the header of a gateway just set up, with so many messages in its queue
+abbrev pub openedHeader : Opening → ℕ → Header
+openedHeader o count = record {
+  settings = settingsOf o;
+  state = record { stock = o .stock; failed = 0; fitted = 0; short = 0 };
+  agreed = 0;
+  round = idle;
+  queued = count;
+  outstanding = 0;
+}

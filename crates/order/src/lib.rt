@@ -1,0 +1,108 @@
+// The event order: two messages compared by hour, kind, origin, lamp, quantity, from and to.
+use model::Message;
+use model::kind_number;
+use model::order::Comparison;
+use model::origin_of;
+use model::quantity_of;
+ghost use mathlib.Core.Path.{_≡_};
+ghost use mathlib.Core.List.{[], _∷_};
+ghost use Rattle.model.specs.Messages.{kindNumber, originOf, quantityOf};
+ghost use Rattle.model.specs.EventOrder.{key, compared, orElse, numbers, different};
+
+// The event order of two messages. The lamps are looked at only where what comes before them is equal.
+pub fn compare(a: Message, b: Message) -> Comparison
+    ensures { λ r. ⌜ r ≡ compared (key a) (key b) ⌝ }
+{
+    let first = before_lamp(a, b);
+    if differs(first) {
+        return first;
+    }
+    let left = a.lamp;
+    let right = b.lamp;
+    let middle = lamps(left, right);
+    if differs(middle) {
+        return middle;
+    }
+    after_lamp(a, b)
+}
+
+// By hour, kind and origin.
+fn before_lamp(a: Message, b: Message) -> Comparison
+    ensures { λ r. ⌜ r ≡ compared
+        (a .hour ∷ kindNumber (a .kind) ∷ originOf (a .kind) ∷ [])
+        (b .hour ∷ kindNumber (b .kind) ∷ originOf (b .kind) ∷ []) ⌝ }
+{
+    let left = a.kind;
+    let right = b.kind;
+    let origins = bytes(origin_of(left), origin_of(right));
+    let kinds = bytes(kind_number(left), kind_number(right));
+    or_else(numbers(a.hour, b.hour), or_else(kinds, origins))
+}
+
+// By quantity, from and to.
+fn after_lamp(a: Message, b: Message) -> Comparison
+    ensures { λ r. ⌜ r ≡ compared (quantityOf (a .kind) ∷ a .from ∷ a .to ∷ []) (quantityOf (b .kind) ∷ b .from ∷ b .to ∷ []) ⌝ }
+{
+    let left = a.kind;
+    let right = b.kind;
+    let quantities = numbers(quantity_of(left) as u32, quantity_of(right) as u32);
+    or_else(
+        quantities,
+        or_else(bytes(a.from, b.from), bytes(a.to, b.to)),
+    )
+}
+
+// By all eighteen bytes of the lamp, the first first.
+fn lamps(a: [u8; 18], b: [u8; 18]) -> Comparison
+    ensures { λ r. ⌜ r ≡ compared a b ⌝ }
+{
+    let mut i = 0;
+    while i < 18 {
+        let here = bytes(a[i], b[i]);
+        if differs(here) {
+            return here;
+        }
+        i += 1;
+    }
+    Comparison::Same
+}
+
+fn numbers(a: u32, b: u32) -> Comparison
+    ensures { λ r. ⌜ r ≡ numbers a b ⌝ }
+{
+    if a < b {
+        return Comparison::Before;
+    }
+    if b < a {
+        return Comparison::After;
+    }
+    Comparison::Same
+}
+
+fn bytes(a: u8, b: u8) -> Comparison
+    ensures { λ r. ⌜ r ≡ numbers a b ⌝ }
+{
+    numbers(a as u32, b as u32)
+}
+
+// Whether a comparison found a difference.
+fn differs(found: Comparison) -> bool
+    ensures { λ r. ⌜ r ≡ different found ⌝ }
+{
+    match found {
+        Comparison::Before => true,
+        Comparison::Same => false,
+        Comparison::After => true,
+    }
+}
+
+// The first comparison decides unless it finds no difference.
+fn or_else(first: Comparison, rest: Comparison) -> Comparison
+    ensures { λ r. ⌜ r ≡ orElse first rest ⌝ }
+{
+    match first {
+        Comparison::Before => Comparison::Before,
+        Comparison::Same => rest,
+        Comparison::After => Comparison::After,
+    }
+}

@@ -1,0 +1,238 @@
+// What a byte string is: a frame, or refused for the first reason that holds.
+use buffer::read16;
+use buffer::read32;
+use frame::Fields;
+use frame::Form;
+use frame::Frame;
+use frame::Reading;
+use frame::Sense;
+use frame::lamps::read_lamp;
+use frame::tables::map_of_kind;
+use frame::tables::sense_of;
+use frame::tables::whole_length;
+use frame::tables::width_of;
+use model::Kind;
+use model::Message;
+use model::kind_number;
+use model::kind_of;
+use rules::gateways_agree;
+use rules::lamp_fits;
+ghost use mathlib.Core.Path.{_≡_};
+ghost use Prim.Native.Nat.{_+_, _<_, _≤_};
+ghost use lib.ListN.{length, getD};
+ghost use Rattle.buffer.specs.Slice.{part};
+ghost use Rattle.buffer.specs.Number.{numberOf};
+ghost use Rattle.frame.specs.Layout.{widths, wholeLength};
+ghost use Rattle.frame.specs.Reasons.{reading, readAs, refusedAs, fieldsForm, fieldsOf, frameOf, mapFits, senseFits};
+ghost use Rattle.frame.specs.Lamps.{isGood, carriesLamp, IsLamp};
+ghost use Rattle.frame.specs.inside.Steps.{stored, noFields};
+
+// Reads a byte string.
+pub fn read(bytes: &[u8]) -> Reading
+    ensures { λ r. ⌜ r ≡ reading (now (bytes .entry)) ⌝ }
+{
+    if bytes.len() < 2 {
+        return refused(Form::TooShort);
+    }
+    let map = bytes[0];
+    let kind = bytes[1];
+    if !map_fits(map, kind) {
+        return refused(Form::WrongMap);
+    }
+    if bytes.len() != whole_length(map) {
+        return refused(Form::WrongLength);
+    }
+    judge(map, walk(bytes, map))
+}
+
+// The eighteen bytes of a frame's lamp, as the part of the frame that holds them. The empty part stands for 1: no frame, or
+// a frame without a lamp.
+pub fn lamp(frame: &[u8]) -> &[u8]
+    ensures { λ r. ⌜ IsLamp (frame .entry) r ⌝ }
+{
+    if carries_lamp(read(frame)) {
+        return &frame[9..27];
+    }
+    &frame[0..0]
+}
+
+fn carries_lamp(reading: Reading) -> bool
+    ensures { λ r. ⌜ r ≡ carriesLamp reading ⌝ }
+{
+    let form = reading.form;
+    let frame = reading.frame;
+    let message = frame.message;
+    let kind = message.kind;
+    if !is_good(form) {
+        return false;
+    }
+    kind_number(kind) <= 2
+}
+
+pub fn is_good(form: Form) -> bool
+    ensures { λ r. ⌜ r ≡ isGood form ⌝ }
+{
+    match form {
+        Form::Good => true,
+        Form::TooShort => false,
+        Form::WrongMap => false,
+        Form::WrongLength => false,
+        Form::WrongSense => false,
+        Form::WrongLamp => false,
+        Form::WrongGateways => false,
+    }
+}
+
+// The last three reasons.
+fn judge(map: u8, fields: Fields) -> Reading
+    ensures { λ r. ⌜ r ≡ readAs (fieldsForm map fields) (frameOf fields) ⌝ }
+{
+    if !sense_fits(map, fields.sense) {
+        return refused(Form::WrongSense);
+    }
+    let frame = frame_of(fields);
+    let message = frame.message;
+    if !lamp_fits(message) {
+        return refused(Form::WrongLamp);
+    }
+    let kind = message.kind;
+    if !gateways_agree(message.from, message.to, kind) {
+        return refused(Form::WrongGateways);
+    }
+    Reading {
+        form: Form::Good,
+        frame,
+    }
+}
+
+// Reads as many fields as the map has one bits, in bit order.
+fn walk(bytes: &[u8], map: u8) -> Fields
+    requires { ⌜ (map ≡ getD (now bytes) 0 0) × (length (now bytes) ≡ wholeLength map) ⌝ }
+    ensures { λ r. ⌜ r ≡ fieldsOf (now (bytes .entry)) ⌝ }
+{
+    let mut fields = no_fields();
+    let mut left = u8::count_ones(map);
+    let mut rest = map;
+    let mut bit = 0;
+    let mut at = 1;
+    while left > 0 {
+        if rest % 2 == 1 {
+            fields = store(bytes, at, bit, fields);
+            at += width_of(bit);
+            left -= 1;
+        }
+        rest = rest / 2;
+        bit += 1;
+    }
+    fields
+}
+
+fn no_fields() -> Fields
+    ensures { λ r. ⌜ r ≡ noFields ⌝ }
+{
+    Fields {
+        kind: 0,
+        from: 0,
+        to: 0,
+        hour: 0,
+        origin: 0,
+        lamp: [0; 18],
+        quantity: 0,
+        sense: 0,
+    }
+}
+
+// The fields with the one of that bit read at a position.
+fn store(bytes: &[u8], at: usize, bit: usize, fields: Fields) -> Fields
+    requires { ⌜ (bit < 8) × (at + getD widths bit 0 ≤ length (now bytes)) ⌝ }
+    ensures { λ r. ⌜ r ≡ stored bit (part (now (bytes .entry)) at (getD widths bit 0)) fields ⌝ }
+{
+    let mut next = fields;
+    match bit {
+        0 => next.kind = read8(bytes, at),
+        1 => next.from = read8(bytes, at),
+        2 => next.to = read8(bytes, at),
+        3 => next.hour = read32(bytes, at),
+        4 => next.origin = read8(bytes, at),
+        5 => {
+            let lamp = read_lamp(bytes, at);
+            next.lamp = lamp;
+        }
+        6 => next.quantity = read16(bytes, at),
+        _ => next.sense = read8(bytes, at),
+    }
+    next
+}
+
+// The number in the byte at a position.
+fn read8(bytes: &[u8], at: usize) -> u8
+    requires { ⌜ at + 1 ≤ length (now bytes) ⌝ }
+    ensures { λ r. ⌜ r ≡ numberOf (part (now (bytes .entry)) at 1) ⌝ }
+{
+    bytes[at]
+}
+
+fn frame_of(fields: Fields) -> Frame
+    ensures { λ r. ⌜ r ≡ frameOf fields ⌝ }
+{
+    let kind = kind_of(fields.kind, fields.origin, fields.quantity);
+    let lamp = fields.lamp;
+    let message = Message {
+        hour: fields.hour,
+        from: fields.from,
+        to: fields.to,
+        kind,
+        lamp,
+    };
+    let sense = sense_of(fields.sense);
+    Frame { message, sense }
+}
+
+// Whether the map is that of the kind, with bit 7 only for a kind with a lamp.
+fn map_fits(map: u8, kind: u8) -> bool
+    ensures { λ r. ⌜ r ≡ mapFits map kind ⌝ }
+{
+    if kind >= 7 {
+        return false;
+    }
+    let plain = map_of_kind(kind);
+    if map == plain {
+        return true;
+    }
+    if kind > 2 {
+        return false;
+    }
+    map == plain + 128
+}
+
+// Whether the sense is 1 to 3 where bit 7 stands.
+fn sense_fits(map: u8, sense: u8) -> bool
+    ensures { λ r. ⌜ r ≡ senseFits map sense ⌝ }
+{
+    if map < 128 {
+        return true;
+    }
+    if sense < 1 {
+        return false;
+    }
+    sense <= 3
+}
+
+fn refused(form: Form) -> Reading
+    ensures { λ r. ⌜ r ≡ refusedAs form ⌝ }
+{
+    let message = Message {
+        hour: 0,
+        from: 0,
+        to: 0,
+        kind: Kind::Start,
+        lamp: [0; 18],
+    };
+    Reading {
+        form,
+        frame: Frame {
+            message,
+            sense: Sense::Plain,
+        },
+    }
+}

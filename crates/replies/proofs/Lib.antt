@@ -1,0 +1,2 @@
+-- Laws of what an event sends.
+pub mod SendingRoom

@@ -1,0 +1,6 @@
+-- Laws of undoing.
+pub mod RollbackLaws
+pub mod SentMessages
+pub mod RoomLaws
+pub mod UndoLaws
+pub mod Settling

@@ -1,0 +1,2 @@
+-- Laws of the round at a gateway.
+pub mod Stepping

@@ -1,0 +1,3 @@
+-- Laws of the rules of each kind.
+pub mod Between
+pub mod Agreement

@@ -1,0 +1,92 @@
+// What a message of each kind has to keep to, for the reader and the writer.
+use frame::Frame;
+use frame::tables::sense_number;
+use model::Kind;
+use model::Message;
+use model::kind_number;
+ghost use mathlib.Core.Path.{_≡_};
+ghost use mathlib.Core.Bool.{_&&_};
+ghost use Rattle.frame.specs.Writing.{allBetween, lampFits, gatewaysAgree, senseAllowed, hourFits, wellFormed};
+
+// Whether a lamp's bytes are 33 to 126, or zero where the kind has no lamp.
+pub fn lamp_fits(message: Message) -> bool
+    ensures { λ r. ⌜ r ≡ lampFits message ⌝ }
+{
+    let lamp = message.lamp;
+    let kind = message.kind;
+    if kind_number(kind) <= 2 {
+        return all_between(lamp, 33, 126);
+    }
+    all_between(lamp, 0, 0)
+}
+
+// Whether from, to and origin agree as the kind asks.
+pub fn gateways_agree(from: u8, to: u8, kind: Kind) -> bool
+    ensures { λ r. ⌜ r ≡ gatewaysAgree from to kind ⌝ }
+{
+    match kind {
+        Kind::Failure { origin } => {
+            if from != to {
+                return false;
+            }
+            to == origin
+        }
+        Kind::Request { origin: _ } => true,
+        Kind::Delivery { origin } => to == origin,
+        Kind::Restock { quantity: _ } => from == to,
+        Kind::Start => true,
+        Kind::Lvt => true,
+        Kind::Update => true,
+    }
+}
+
+// Looks at every byte and keeps whether all so far were between: an early return would be a branch for each byte.
+fn all_between(lamp: [u8; 18], low: u8, high: u8) -> bool
+    ensures { λ r. ⌜ r ≡ allBetween low high lamp ⌝ }
+{
+    let mut i = 0;
+    let mut fine = true;
+    while i < 18 {
+        let byte = lamp[i];
+        if byte < low {
+            fine = false;
+        }
+        if byte > high {
+            fine = false;
+        }
+        i += 1;
+    }
+    fine
+}
+
+// Whether a value is one of the forms of a frame.
+pub fn well_formed(frame: Frame) -> bool
+    ensures { λ r. ⌜ r ≡ wellFormed frame ⌝ }
+{
+    let message = frame.message;
+    let kind = message.kind;
+    let sense = frame.sense;
+    if !header_fits(kind_number(kind), sense_number(sense), message.hour) {
+        return false;
+    }
+    if !lamp_fits(message) {
+        return false;
+    }
+    gateways_agree(message.from, message.to, kind)
+}
+
+// Whether a kind may have that sense and that hour.
+fn header_fits(kind: u8, sense: u8, hour: u32) -> bool
+    ensures { λ r. ⌜ r ≡ (senseAllowed kind sense && hourFits kind hour) ⌝ }
+{
+    if kind <= 2 {
+        return true;
+    }
+    if sense != 0 {
+        return false;
+    }
+    if kind == 4 {
+        return hour == 0;
+    }
+    true
+}

@@ -1,0 +1,3 @@
+-- Laws of the test of soundness.
+pub mod Passing
+pub mod ByParts

@@ -1,0 +1,50 @@
+-- `take::take_bytes` meets its contract.
+use Rattle.buffer.proofs.Lent.{bytes-known}
+use Rattle.gateway.proofs.Dispatching.{not-usable, is-usable, read-fits}
+use borrow.Author.Needs.{needs}
+use Rattle.take.proofs.take_bytes.Statement.{statement}
+use Rattle.take.proofs.take_bytes.Tie as tie
+
+read-requires : tie.Need-read-requires
+read-requires c κs = search needs
+
+is-usable-requires : tie.Need-is-usable-requires
+is-usable-requires c κs = search needs
+
+refused-requires : tie.Need-refused-requires
+refused-requires c κs = search needs
+
+returns : tie.Need-returns
+returns c = search not-usable
+
+take-checked-requires : tie.Need-take-checked-requires
+take-checked-requires c κs =
+    let at-read = c .before .before .before .before in
+    let at-shared-slice-known = at-read .before .before in
+    let start = at-shared-slice-known .before .before in (
+      start .pre,
+      read-fits _ (bytes-known (start .args .frame .now) (at-shared-slice-known .shared-slice-known .given))
+          (at-read .read .ensures),
+    )
+
+same-length : tie.Need-same-length
+same-length c = search needs
+
+same-length-2 : tie.Need-same-length-2
+same-length-2 c = search needs
+
+returns-2 : tie.Need-returns-2
+returns-2 c = search is-usable
+
+pub take-bytes-spec : {M : Type 1} → statement M
+take-bytes-spec =
+    tie.close
+    (tie.spec
+    read-requires
+    is-usable-requires
+    refused-requires
+    returns
+    take-checked-requires
+    same-length
+    same-length-2
+    returns-2)

@@ -1,0 +1,4 @@
+-- Laws of taking a cancel.
+pub mod CancelTakings
+pub mod LastPositions
+pub mod TakingOut

@@ -1,0 +1,135 @@
+-- `take_cancel::enter_cancel` meets its contract.
+use native.Mathlib.Omega.{arith}
+use Rattle.buffer.proofs.Lent.{bytes-known}
+use Rattle.take_cancel.proofs.CancelTakings.{waits-without-room, waits-bytes, may-wait, waits-done}
+use borrow.Author.Needs.{needs}
+use Rattle.gateway.proofs.Knowing.{sizes}
+use Rattle.take_cancel.proofs.enter_cancel.Statement.{statement}
+use Rattle.take_cancel.proofs.enter_cancel.Tie as tie
+
+cast-queued : tie.Need-cast-queued
+cast-queued c = search needs
+
+find-requires : tie.Need-find-requires
+find-requires c κs = let z = sizes _ _ (c .before .before .before .before .pre .0) in omega arith
+
+acknowledgment-requires : tie.Need-acknowledgment-requires
+acknowledgment-requires c κs = search needs
+
+add-has-room : tie.Need-add-has-room
+add-has-room c = search needs
+
+map-of-requires : tie.Need-map-of-requires
+map-of-requires c κs = search needs
+
+whole-length-requires : tie.Need-whole-length-requires
+whole-length-requires c κs = search needs
+
+has-room-requires : tie.Need-has-room-requires
+has-room-requires c κs = search needs
+
+refused-requires : tie.Need-refused-requires
+refused-requires c κs = search needs
+
+same-length : tie.Need-same-length
+same-length c = search needs
+
+returns : tie.Need-returns
+returns c =
+    let at-if1 = c .before in
+    let at-has-room = at-if1 .before in
+    let at-whole-length = at-has-room .before in
+    let at-map-of = at-whole-length .before in
+    let at-acknowledgment = at-map-of .before in
+    let at-find = at-acknowledgment .before in
+    let at-slice-known = at-find .before .before .before .before in
+    let start = at-slice-known .before in
+    let b = bytes-known (start .args .memory .now) (at-slice-known .slice-known .given) in
+    waits-without-room (start .args .memory .now) (start .args .output .now) _ (start .pre .0) b _ (start .pre .1) _
+    (at-find .find .ensures) (at-acknowledgment .acknowledgment .ensures) (at-map-of .map-of .ensures)
+    (at-whole-length .whole-length .ensures) (at-has-room .has-room .ensures) (at-if1 .if1 .taken) (c .refused .ensures)
+
+put-frame-requires : tie.Need-put-frame-requires
+put-frame-requires c κs =
+    let at-if1 = c .before in
+    let at-has-room = at-if1 .before in
+    let at-whole-length = at-has-room .before in
+    let at-map-of = at-whole-length .before in
+    let at-acknowledgment = at-map-of .before in
+    let at-find = at-acknowledgment .before in
+    let at-slice-known = at-find .before .before .before .before in
+    let start = at-slice-known .before in
+    let b = bytes-known (start .args .memory .now) (at-slice-known .slice-known .given) in
+    waits-bytes (start .args .memory .now) (start .args .output .now) _ (start .pre .0) b _ (start .pre .1) _ (at-find .find .ensures)
+    (at-acknowledgment .acknowledgment .ensures) (at-map-of .map-of .ensures) (at-whole-length .whole-length .ensures)
+    (at-has-room .has-room .ensures) (at-if1 .if1 .left)
+
+waiting-requires : tie.Need-waiting-requires
+waiting-requires c κs = search needs
+
+enter-requires : tie.Need-enter-requires
+enter-requires c κs =
+    let at-if1 = c .before .before .before .before .before .before in
+    let at-has-room = at-if1 .before in
+    let at-whole-length = at-has-room .before in
+    let at-map-of = at-whole-length .before in
+    let at-acknowledgment = at-map-of .before in
+    let at-find = at-acknowledgment .before in
+    let at-slice-known = at-find .before .before .before .before in
+    let start = at-slice-known .before in
+    let b = bytes-known (start .args .memory .now) (at-slice-known .slice-known .given) in (
+      _,
+      _,
+      may-wait (start .args .memory .now) (start .args .output .now) _ (start .pre .0) b _ (start .pre .1) _ (at-find .find .ensures)
+          (at-acknowledgment .acknowledgment .ensures) (at-map-of .map-of .ensures) (at-whole-length .whole-length .ensures)
+          (at-has-room .has-room .ensures) (at-if1 .if1 .left) (c .waiting .ensures),
+    )
+
+same-length-2 : tie.Need-same-length-2
+same-length-2 c = search needs
+
+same-length-3 : tie.Need-same-length-3
+same-length-3 c = search needs
+
+returns-2 : tie.Need-returns-2
+returns-2 c =
+    let at-enter = c .before .before in
+    let at-waiting = at-enter .before in
+    let at-put-frame = at-waiting .before .before .before .before in
+    let at-if1 = at-put-frame .before .before in
+    let at-has-room = at-if1 .before in
+    let at-whole-length = at-has-room .before in
+    let at-map-of = at-whole-length .before in
+    let at-acknowledgment = at-map-of .before in
+    let at-find = at-acknowledgment .before in
+    let at-slice-known = at-find .before .before .before .before in
+    let start = at-slice-known .before in
+    let b = bytes-known (start .args .memory .now) (at-slice-known .slice-known .given) in
+    let w = may-wait (start .args .memory .now) (start .args .output .now) _ (start .pre .0) b _ (start .pre .1) _ (at-find .find .ensures)
+    (at-acknowledgment .acknowledgment .ensures) (at-map-of .map-of .ensures) (at-whole-length .whole-length .ensures)
+    (at-has-room .has-room .ensures) (at-if1 .if1 .left) (at-waiting .waiting .ensures) in
+    waits-done (start .args .memory .now) (start .args .output .now) _ (start .pre .0) b _ (start .pre .1) _ (at-find .find .ensures)
+    (at-acknowledgment .acknowledgment .ensures) (at-map-of .map-of .ensures) (at-whole-length .whole-length .ensures)
+    (at-has-room .has-room .ensures) (at-if1 .if1 .left) (at-waiting .waiting .ensures) (at-put-frame .put-frame .ensures)
+    (at-enter .enter .ensures _ _ w)
+
+pub enter-cancel-spec : {M : Type 1} → statement M
+enter-cancel-spec =
+    tie.close
+    (tie.spec
+    cast-queued
+    find-requires
+    acknowledgment-requires
+    add-has-room
+    map-of-requires
+    whole-length-requires
+    has-room-requires
+    refused-requires
+    same-length
+    returns
+    put-frame-requires
+    waiting-requires
+    enter-requires
+    same-length-2
+    same-length-3
+    returns-2)

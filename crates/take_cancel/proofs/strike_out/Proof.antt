@@ -1,0 +1,163 @@
+-- `take_cancel::strike_out` meets its contract.
+use mathlib.Core.Bool.{true}
+use native.Mathlib.Omega.{arith}
+use Rattle.buffer.proofs.Lent.{bytes-known}
+use Rattle.take_plain.proofs.PlainTakings.{reply-small}
+use Rattle.take_cancel.proofs.CancelTakings.{struck-below, struck-without-room, struck-bytes, may-strike, struck-done}
+use borrow.Author.Needs.{needs}
+use Rattle.gateway.proofs.Knowing.{sizes}
+use Rattle.take_cancel.proofs.strike_out.Statement.{statement}
+use Rattle.take_cancel.proofs.strike_out.Tie as tie
+
+count-sent-requires : tie.Need-count-sent-requires
+count-sent-requires c κs =
+    let start = c .before .before .before in
+    let z = sizes _ _ (start .pre .0) in (omega (arith, start .pre .1), omega (arith, z .long, z .queued))
+
+acknowledgment-requires : tie.Need-acknowledgment-requires
+acknowledgment-requires c κs = search needs
+
+map-of-requires : tie.Need-map-of-requires
+map-of-requires c κs = search needs
+
+whole-length-requires : tie.Need-whole-length-requires
+whole-length-requires c κs = search needs
+
+mul-bytes : tie.Need-mul-bytes
+mul-bytes c =
+    let at-count-sent = c .before .before .before in
+    let start = at-count-sent .before .before .before .before in
+    let z = sizes _ _ (start .pre .0) in record { fits = omega (arith, z .queued, z .settings .q, at-count-sent .count-sent .ensures .1) }
+
+add-bytes : tie.Need-add-bytes
+add-bytes c =
+    let at-map-of = c .before in
+    let at-acknowledgment = at-map-of .before in
+    let at-count-sent = at-acknowledgment .before in
+    let start = at-count-sent .before .before .before .before in
+    record {
+      fits = reply-small true _ (start .pre .2 .lamp) (at-acknowledgment .acknowledgment .ensures) (at-map-of .map-of .ensures)
+          (c .whole-length .ensures) _ _ (at-count-sent .count-sent .ensures .1) (sizes _ _ (start .pre .0));
+    }
+
+has-room-requires : tie.Need-has-room-requires
+has-room-requires c κs =
+    let at-count-sent = c .before .before .before in
+    let start = at-count-sent .before .before .before .before in
+    let z = sizes _ _ (start .pre .0) in omega (arith, z .queued, z .settings .q, at-count-sent .count-sent .ensures .1)
+
+refused-requires : tie.Need-refused-requires
+refused-requires c κs = search needs
+
+same-length : tie.Need-same-length
+same-length c = search needs
+
+returns : tie.Need-returns
+returns c =
+    let at-if1 = c .before in
+    let at-has-room = at-if1 .before in
+    let at-whole-length = at-has-room .before in
+    let at-map-of = at-whole-length .before in
+    let at-acknowledgment = at-map-of .before in
+    let at-count-sent = at-acknowledgment .before in
+    let at-slice-known = at-count-sent .before .before .before in
+    let start = at-slice-known .before in
+    let b = bytes-known (start .args .memory .now) (at-slice-known .slice-known .given) in
+    struck-without-room (start .args .memory .now) (start .args .output .now) _ (start .pre .0) b _ (start .pre .2) _ (start .pre .1) _
+    (at-count-sent .count-sent .ensures .0) (at-acknowledgment .acknowledgment .ensures) (at-map-of .map-of .ensures)
+    (at-whole-length .whole-length .ensures) (at-has-room .has-room .ensures) (at-if1 .if1 .taken) (c .refused .ensures)
+
+put-frame-requires : tie.Need-put-frame-requires
+put-frame-requires c κs =
+    let at-if1 = c .before in
+    let at-has-room = at-if1 .before in
+    let at-whole-length = at-has-room .before in
+    let at-map-of = at-whole-length .before in
+    let at-acknowledgment = at-map-of .before in
+    let at-count-sent = at-acknowledgment .before in
+    let at-slice-known = at-count-sent .before .before .before in
+    let start = at-slice-known .before in
+    let b = bytes-known (start .args .memory .now) (at-slice-known .slice-known .given) in
+    struck-bytes (start .args .memory .now) (start .args .output .now) _ (start .pre .0) b _ (start .pre .2) _ (start .pre .1) _
+    (at-count-sent .count-sent .ensures .0) (at-acknowledgment .acknowledgment .ensures) (at-map-of .map-of .ensures)
+    (at-whole-length .whole-length .ensures) (at-has-room .has-room .ensures) (at-if1 .if1 .left)
+
+take-out-requires : tie.Need-take-out-requires
+take-out-requires c κs =
+    let at-put-frame = c .before .before .before .before in
+    let at-if1 = at-put-frame .before .before in
+    let at-has-room = at-if1 .before in
+    let at-whole-length = at-has-room .before in
+    let at-map-of = at-whole-length .before in
+    let at-acknowledgment = at-map-of .before in
+    let at-count-sent = at-acknowledgment .before in
+    let at-slice-known = at-count-sent .before .before .before in
+    let start = at-slice-known .before in
+    let b = bytes-known (start .args .memory .now) (at-slice-known .slice-known .given) in (
+      _,
+      struck-below (start .args .memory .now) (start .args .output .now) _ (start .pre .0) b _ (start .pre .2) _ (start .pre .1) _
+          (at-count-sent .count-sent .ensures .0) (at-acknowledgment .acknowledgment .ensures) (at-map-of .map-of .ensures)
+          (at-whole-length .whole-length .ensures),
+      may-strike (start .args .memory .now) (start .args .output .now) _ (start .pre .0) b _
+          (start .pre .2) _ (start .pre .1) _ (at-count-sent .count-sent .ensures .0) (at-acknowledgment .acknowledgment .ensures)
+          (at-map-of .map-of .ensures) (at-whole-length .whole-length .ensures) (at-has-room .has-room .ensures) (at-if1 .if1 .left)
+          (at-put-frame .put-frame .ensures),
+    )
+
+write-header-requires : tie.Need-write-header-requires
+write-header-requires c κs =
+    let start =
+    c .before .before .before .before .before .before .before .before .before .before .before .before .before .before .before .before
+    .before .before .before .before .before .before in
+    let z = sizes _ _ (start .pre .0) in omega arith
+
+same-length-2 : tie.Need-same-length-2
+same-length-2 c = search needs
+
+same-length-3 : tie.Need-same-length-3
+same-length-3 c = search needs
+
+returns-2 : tie.Need-returns-2
+returns-2 c =
+    let at-write-header = c .before .before in
+    let at-take-out = at-write-header .before .before .before .before .before .before .before in
+    let at-put-frame = at-take-out .before .before .before .before .before in
+    let at-if1 = at-put-frame .before .before in
+    let at-has-room = at-if1 .before in
+    let at-whole-length = at-has-room .before in
+    let at-map-of = at-whole-length .before in
+    let at-acknowledgment = at-map-of .before in
+    let at-count-sent = at-acknowledgment .before in
+    let at-slice-known = at-count-sent .before .before .before in
+    let start = at-slice-known .before in
+    let b = bytes-known (start .args .memory .now) (at-slice-known .slice-known .given) in
+    let w = may-strike (start .args .memory .now) (start .args .output .now) _ (start .pre .0) b _ (start .pre .2) _ (start .pre .1) _
+    (at-count-sent .count-sent .ensures .0) (at-acknowledgment .acknowledgment .ensures) (at-map-of .map-of .ensures)
+    (at-whole-length .whole-length .ensures) (at-has-room .has-room .ensures) (at-if1 .if1 .left) (at-put-frame .put-frame .ensures) in
+    struck-done (start .args .memory .now) (start .args .output .now) _ (start .pre .0) b _ (start .pre .2) _ (start .pre .1) _
+    (at-count-sent .count-sent .ensures .0) (at-acknowledgment .acknowledgment .ensures) (at-map-of .map-of .ensures)
+    (at-whole-length .whole-length .ensures) (at-has-room .has-room .ensures) (at-if1 .if1 .left) (at-put-frame .put-frame .ensures)
+    (at-take-out .take-out .ensures _ (struck-below (start .args .memory .now) (start .args .output .now) _ (start .pre .0) b _
+    (start .pre .2) _ (start .pre .1) _ (at-count-sent .count-sent .ensures .0) (at-acknowledgment .acknowledgment .ensures)
+    (at-map-of .map-of .ensures) (at-whole-length .whole-length .ensures)) w) (at-write-header .write-header .ensures)
+
+pub strike-out-spec : {M : Type 1} → statement M
+strike-out-spec =
+    tie.close
+    (tie.spec
+    count-sent-requires
+    acknowledgment-requires
+    map-of-requires
+    whole-length-requires
+    mul-bytes
+    add-bytes
+    has-room-requires
+    refused-requires
+    same-length
+    returns
+    put-frame-requires
+    take-out-requires
+    write-header-requires
+    same-length-2
+    same-length-3
+    returns-2)

@@ -1,0 +1,2 @@
+-- Laws of taking an Lvt.
+pub mod Arriving

@@ -1,0 +1,2 @@
+-- Laws of taking a plain message.
+pub mod PlainTakings

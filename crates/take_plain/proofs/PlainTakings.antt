@@ -1,0 +1,295 @@
+-- A law for each branch of taking a plain message.
+use mathlib.Core.Path.{_≡_, sym, _∙_}
+use mathlib.Core.Bool.{Bool, true, false, cond, not, _&&_}
+use mathlib.Core.List.{List, [], _∷_, _++_, map, append-nil}
+use Prim.Native.Nat.{ℕ, _+_, _-_, _*_, _^_, _≤_, _<_}
+use native.Mathlib.Omega.{arith}
+use lib.Dec.{leb, lit<}
+use lib.ListN.{length, take, drop, length-append, length-take, length-drop, length-map, take-append-drop}
+use lib.Seq.{take-at, drop-at}
+use borrow.Author.Tests.{le-leb, lt-leb, leb-true, not-true, not-false}
+use Rattle.lists.specs.Lists.{joined}
+use Rattle.lists.specs.inside.Positions.{firstWhere, without}
+use Rattle.lists.proofs.PositionLaws.{first-bound, any-found, any-none, without-first, before-first, from-first}
+use Rattle.lists.proofs.ListLaws.{all-right}
+use Rattle.buffer.proofs.Writes.{length-write, write-join}
+use Rattle.buffer.specs.Slice.{Bytes, Puts}
+use Rattle.model.specs.declared.Kind.{Kind}
+use Rattle.model.specs.declared.Message.{Message}
+use Rattle.frame.specs.Layout.{wholeLength}
+use Rattle.frame.specs.Kinds.{mapOf}
+use Rattle.frame.specs.Writing.{written}
+use Rattle.frame.specs.declared.Frame.{Frame}
+use Rattle.frame.specs.declared.Sense.the-variants.{Acknowledgment, CancelAcknowledgment}
+use Rattle.frame.proofs.Output.{whole-size}
+use Rattle.memory.specs.Layout.{queueAt, queueSize}
+use Rattle.memory.specs.Records.{Gateway, siteOf}
+use Rattle.memory.specs.Codec.{placesAt, entryOf, decode, encode}
+use Rattle.memory.specs.inside.Fits.{MessageFits}
+use Rattle.memory.specs.declared.Entry.{Entry}
+use Rattle.memory.specs.declared.Header.{Header}
+use Rattle.gateway.specs.Effects.{Effect, bytesOfFrames, fits, settled, withQueue, framesFor}
+use Rattle.gateway.specs.Undoing.{processedOf, pendingEntry, undone, sentBack, rolledBack}
+use Rattle.gateway.specs.Taking.{acknowledgment, isCancelOf, takePlain, entered, isLater}
+use Rattle.gateway.specs.Calls.{CallResult, leaving}
+use Rattle.gateway.specs.inside.Premises.{Known}
+use Rattle.places.specs.inside.Searching.{passes, entriesIn}
+use Rattle.gateway.specs.declared.Answer.{Answer}
+use Rattle.places.specs.declared.search.Search.the-variants.{CancelOf, Later}
+use Rattle.lists.proofs.BoolLaws.{and-left, and-right}
+use Rattle.places.proofs.Changing.{length-without}
+use Rattle.effects.specs.inside.Placed.{Placed}
+use Rattle.effects.proofs.PlacedLaws.{placed-first, placed-rest}
+use Rattle.effects.specs.declared.Sending.{Sending}
+use Rattle.rollback.specs.inside.Undone.{sentByEntries, MaySendBack, AfterCancels, undoneFrom}
+use Rattle.rollback.specs.inside.Entering.{MayEnter}
+use Rattle.rollback.proofs.SentMessages.{back-cancelled, cancels-size}
+use Rattle.frame.proofs.Sizes.{sense-small}
+use Rattle.rollback.proofs.RollbackLaws.{rolled-settings, rolled-outstanding}
+use Rattle.rollback.proofs.Settling.{fits-by, no-room, with-room}
+use Rattle.gateway.proofs.Knowing.{Sizes, outstanding-count, queue-count, queue-places, settings-are, sizes}
+
+-- whether an equal cancel waits
+module _ (m output : List ℕ) (h : Header) (known : Known m h) (x : Message) (k : ℕ) (found : k ≡ firstWhere (passes CancelOf x) (entriesIn m (h .queued))) where
+  position : k ≡ firstWhere (isCancelOf x) (decode m .queue)
+  position = rw (queue-places m h known) found
+
+  pub meets : k < h .queued → {l : CallResult Answer}
+      → l ≡ leaving (settled (length output) (decode m) (record {
+        gateway = withQueue (without k (decode m .queue)) (decode m);
+        frames =
+            acknowledgment false x ∷ [];
+      })) m output
+      → l ≡ leaving (settled (length output) (decode m) (takePlain x (decode m))) m output
+  unfolding takePlain
+  meets b p =
+      p ∙ rw (
+        any-found (isCancelOf x) (decode m .queue) (omega (arith, position, queue-count m h known)),
+        without-first (isCancelOf x)
+            (decode m .queue),
+        ← position,
+      )
+
+  pub enters : h .queued ≤ k → {l : CallResult Answer} → l ≡ leaving (settled (length output) (decode m) (entered x (decode m))) m output →
+      l ≡ leaving (settled (length output) (decode m) (takePlain x (decode m))) m output
+  unfolding takePlain
+  enters b p = p ∙ rw (any-none (isCancelOf x) (decode m .queue) (omega (arith, position, queue-count m h known)))
+
+-- the acknowledgment and its size as the code finds it
+module _ (cancel : Bool) (x : Message) (lamp : length (x .lamp) ≡ 18) {reply : Frame} {map size : ℕ} (r : reply ≡ acknowledgment cancel x)
+    (e : map ≡ mapOf reply) (s : size ≡ wholeLength map) where
+  pub reply-size : size ≡ length (written (acknowledgment cancel x))
+  reply-size = s ∙ rw (e, r) (sym (whole-size (acknowledgment cancel x) lamp))
+
+  pub reply-room : {n : ℕ} → size ≤ n → 0 + length (written reply) ≤ n
+  reply-room l = rw (r, ← reply-size) (omega arith)
+
+  -- with so many cancels of 28 bytes it is still small
+  pub reply-small : (sent queued : ℕ) → {m : List ℕ} {h : Header} → sent ≤ h .queued - queued → Sizes m h → size + 28 * sent < 2 ^ 64
+  unfolding mapOf
+  reply-small sent queued l z =
+      let b : size ≤ 28 = rw (reply-size, whole-size (acknowledgment cancel x) lamp) (small cancel (x .kind)) in
+      omega (arith, z .queued, z .settings .q, b, l)
+    where
+      small : (cancel : Bool) (kind : Kind) → wholeLength (mapOf (record {
+        message = record {
+          hour = x .hour;
+          from = x .from;
+          to = x .to;
+          kind = kind;
+          lamp = x .lamp;
+        };
+        sense = cond cancel CancelAcknowledgment Acknowledgment;
+      })) ≤ 28
+      small true kind = sense-small kind
+      small false kind = sense-small kind
+
+-- where a message enters
+pub later-bound : (m : List ℕ) (h : Header) (known : Known m h) (x : Message) (k : ℕ) → k ≡ firstWhere (passes Later x) (entriesIn m
+    (h .queued)) → k ≤ h .queued
+later-bound m h known x k found =
+    let place : k ≡ firstWhere (passes Later x) (decode m .queue) = rw (queue-places m h known) found in
+    omega (arith, place, first-bound (passes Later x) (decode m .queue), queue-count m h known)
+
+-- the message and its cancel vanish
+module _ (m output : List ℕ) (h : Header) (known : Known m h) (k : ℕ) (below : k < h .queued) (x : Message) (lamp : length (x .lamp) ≡ 18)
+    {reply : Frame} {map size : ℕ} (r : reply ≡ acknowledgment false x) (e : map ≡ mapOf reply) (s : size ≡ wholeLength map) where
+  abbrev met : Effect
+  met = record { gateway = withQueue (without k (decode m .queue)) (decode m); frames = acknowledgment false x ∷ [] }
+
+  bytes-met : length (bytesOfFrames (met .frames)) ≡ size
+  unfolding joined
+  bytes-met = rw append-nil (sym (reply-size false x lamp r e s))
+
+  needs-met : fits (length output) met ≡ leb size (length output)
+  needs-met =
+      let z = sizes m h known in
+      fits-by (length output) met (length-without (decode m .queue) k (omega (arith, queue-count m h known))) (outstanding-count m h known) bytes-met
+      ∙ rw (
+        ← settings-are m h known,
+        queue-count m h known,
+        le-leb (h .queued - 1) (h .settings .q) (omega (arith, z .queued)),
+        le-leb
+            (h .outstanding) (h .settings .u) (z .outstanding),
+      )
+
+  pub met-without-room : length output < size → {a : Answer} → (a .number ≡ 5) × (a .written ≡ 0) → record {
+    answer = a;
+    memory = m;
+    output
+        = output;
+  } ≡ leaving (settled (length output) (decode m) met) m output
+  met-without-room l p = no-room m output (decode m) met (needs-met ∙ lt-leb size (length output) l) p
+
+  pub met-done : size ≤ length output → {out after : List ℕ} {next : ℕ} → Puts 0 (written reply) output out next → after ≡ encode (met .gateway) m
+      → record { answer = record { number = 0; written = next }; memory = after; output = out } ≡ leaving (settled (length output) (decode m) met) m output
+  unfolding joined
+  met-done l p q =
+      with-room m output (decode m) met (needs-met ∙ le-leb size (length output) l) q
+      (p .output ∙ rw (r, append-nil))
+      (p .position ∙ rw (r, append-nil) (omega arith))
+
+-- a plain message enters the queue before place k: what the code counts is what it comes to
+module _ (m output : List ℕ) (h : Header) (known : Known m h) (bytes : Bytes m) (x : Message) (fits-x : MessageFits x) (k : ℕ) (found : k ≡
+    firstWhere (passes Later x) (entriesIn m (h .queued)))
+    (sent : ℕ) (counted : sent ≡ length (sentBack (siteOf (h .settings)) (processedOf (placesAt entryOf queueSize m (queueAt k) (h .queued - k)))))
+    {reply : Frame} {map′ size : ℕ} (r : reply ≡ acknowledgment false x) (e : map′ ≡ mapOf reply) (s : size ≡ wholeLength map′) where
+  abbrev g : Gateway
+  g = decode m
+
+  abbrev ms : List Message
+  ms = sentByEntries g (drop k (g .queue))
+
+  first : Placed m m h g
+  first = placed-first m h bytes known
+
+  place : k ≡ firstWhere (passes Later x) (g .queue)
+  place = rw (queue-places m h known) found
+
+  pub place-bound : k ≤ length (g .queue)
+  place-bound = omega (arith, place, first-bound (passes Later x) (g .queue))
+
+  sent-is : sent ≡ length ms
+  sent-is = counted ∙ rw (placed-rest first k (omega (arith, place-bound, queue-count m h known)), settings-are m h known)
+
+  entered-is : entered x g ≡ record {
+    gateway = withQueue (take k (g .queue) ++ (pendingEntry x ∷ map undone (drop k (g .queue))))
+        (rolledBack (processedOf (drop k (g .queue))) g);
+    frames = acknowledgment false x ∷ framesFor true ms;
+  }
+  entered-is = rw (before-first (isLater x) (g .queue), from-first (isLater x) (g .queue), ← place)
+
+  -- what the code compares
+  abbrev queue-enough : Bool
+  queue-enough = leb (h .queued + 1) (h .settings .q)
+
+  abbrev places-enough : Bool
+  places-enough = leb (h .outstanding + sent) (h .settings .u)
+
+  abbrev bytes-enough : Bool
+  bytes-enough = leb (size + 28 * sent) (length output)
+
+  abbrev enough : Bool
+  enough = queue-enough && places-enough && bytes-enough
+
+  cancels : length (bytesOfFrames (framesFor true ms)) ≡ 28 * sent
+  cancels = cancels-size (back-cancelled (g .settings) (first .fits .header .settings) (all-right (take k (g .queue)) (drop k (g .queue))
+      (rw (take-append-drop k (g .queue)) (first .fits .queue)))) ∙ rw (← sent-is)
+
+  pub needs : fits (length output) (entered x g) ≡ enough
+  unfolding joined
+  needs =
+      rw entered-is
+      (fits-by (length output) (record {
+        gateway = withQueue (take k (g .queue) ++ (pendingEntry x ∷ map undone (drop k (g .queue))))
+            (rolledBack (processedOf (drop k (g .queue))) g);
+        frames = acknowledgment false x ∷ framesFor true ms;
+      })
+      {a = h .queued + 1}
+      {b = h .outstanding + sent}
+      {d = size + 28 * sent}
+      (rw (length-append, length-take, length-map, length-drop) (omega (arith, place-bound, queue-count m h known)))
+      (rolled-outstanding (processedOf (drop k (g .queue))) g ∙ rw (outstanding-count m h known, ← sent-is))
+      (rw (length-append, ← reply-size false x (fits-x .lamp) r e s, cancels))
+      ∙ rw (rolled-settings (processedOf (drop k (g .queue))) g, ← settings-are m h known))
+
+  pub entered-without-room : {ok : Bool} → ok ≡ enough → not ok ≡ true → {a : Answer} → (a .number ≡ 5) × (a .written ≡ 0) → record {
+    answer
+        = a;
+    memory = m;
+    output = output;
+  } ≡ leaving (settled (length output) g (entered x g)) m output
+  entered-without-room {ok} p n q = no-room m output g (entered x g) (needs ∙ sym p ∙ not-true ok n) q
+
+  module _ {ok : Bool} (p : ok ≡ enough) (n : not ok ≡ false) where
+    room : enough ≡ true
+    room = sym p ∙ not-false ok n
+
+    pub bytes-room : size + 28 * sent ≤ length output
+    bytes-room = leb-true (size + 28 * sent) (length output) (and-right (queue-enough && places-enough) bytes-enough room)
+
+    places-room : h .outstanding + sent ≤ h .settings .u
+    places-room = leb-true (h .outstanding + sent) (h .settings .u) (and-right queue-enough places-enough (and-left (queue-enough &&
+        places-enough) bytes-enough room))
+
+    queue-room : h .queued + 1 ≤ h .settings .q
+    queue-room = leb-true (h .queued + 1) (h .settings .q) (and-left queue-enough places-enough (and-left (queue-enough && places-enough) bytes-enough room))
+
+    module _ {out : List ℕ} {next : ℕ} (put : Puts 0 (written reply) output out next) where
+      next-is : next ≡ size
+      next-is = put .position ∙ rw (r, ← reply-size false x (fits-x .lamp) r e s) (omega arith)
+
+      pub may-send : MaySendBack m g m out (record { header = h; written = next }) ms
+      may-send = record {
+        placed = first;
+        places = rw (outstanding-count m h known, ← sent-is, ← settings-are m h known) places-room;
+        bytes = rw (
+          next-is,
+          cancels,
+          put .output,
+          length-write 0 (written reply) output (reply-room false x (fits-x .lamp) r e s (omega
+              (arith, bytes-room))),
+        ) bytes-room;
+      }
+
+      module _ {memory out′ : List ℕ} {so-far : Sending} (b : AfterCancels m (undoneFrom k g) memory out out′ (record {
+        header = h;
+        written
+            = next;
+      }) ms so-far) where
+        pub may-enter : {entry : Entry} → entry ≡ pendingEntry x → MayEnter m (undoneFrom k g) memory (so-far .header) k entry
+        unfolding undoneFrom
+        may-enter is = rw is (record {
+          placed = b .placed;
+          entry = record { message = fits-x; before = record { stock = lit< tt; failed = lit< tt; fitted = lit< tt; short = lit< tt } };
+          place = rw (length-append, length-take, length-map, length-drop) (omega (arith, place-bound));
+          room =
+              rw (rolled-settings (processedOf (drop k (g .queue))) g, ← settings-are m h known, length-append, length-take, length-map, length-drop)
+              (omega (arith, place-bound, queue-count m h known, queue-room));
+        })
+
+        pub entered-done : {entry : Entry} {after : List ℕ} → entry ≡ pendingEntry x → after ≡ encode (withQueue (take k (undoneFrom k
+            g .queue) ++ (entry ∷ drop k (undoneFrom k g .queue))) (undoneFrom k g)) m
+            → record { answer = record { number = 0; written = so-far .written }; memory = after; output = out′ } ≡ leaving (settled (length
+            output) g (entered x g)) m output
+        unfolding undoneFrom joined
+        entered-done is q =
+            with-room m output g (entered x g) (needs ∙ room)
+            (q ∙ rw (
+              is,
+              before-first (isLater x) (g .queue),
+              from-first (isLater x) (g .queue),
+              ← place,
+              take-at (take k (g .queue)) (map
+                  undone (drop k (g .queue))) k front,
+              drop-at (take k (g .queue)) (map undone (drop k (g .queue))) k front,
+            ))
+            (rw (from-first (isLater x) (g .queue), ← place)
+            (b .put
+            ∙ rw (put .output, put .position, r)
+            (write-join 0 (written (acknowledgment false x)) (bytesOfFrames (framesFor true ms)) output (rw r at (reply-room false x
+            (fits-x .lamp) r e s {n = length output} (omega (arith, bytes-room)))))))
+            (rw (from-first (isLater x) (g .queue), ← place) (b .position ∙ rw (put .position, r, length-append) (omega arith)))
+          where
+            front : length (take k (g .queue)) ≡ k
+            front = rw length-take (omega (arith, place-bound))

@@ -1,0 +1,3 @@
+-- Laws of a writer that holds its output.
+pub mod HeldWriter
+pub mod LendingAgain
