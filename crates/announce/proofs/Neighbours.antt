@@ -102,3 +102,8 @@ module _ (n own : ℕ) (r : Few) where
   two-children e f g h =
       let s : 2 * own + 1 + 1 ≡ 2 * own + 2 = omega arith in
       rw (e, f, g, lt-ltb (2 * own + 1) n (omega arith), lt-ltb (2 * own + 2) n (omega arith), s)
+
+-- nobody is told
+pub none-listed : {r : Few} → (r .count ≡ 0) × (r .first ≡ 0) × (r .second ≡ 0) → listed r ≡ []
+unfolding listed
+none-listed (a, b, d) = rw a

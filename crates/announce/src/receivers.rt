@@ -1,6 +1,6 @@
 // The round at a gateway: whom it hears and tells.
+use neighbours::neighbours_of;
 use routing::Gateways;
-use routing::neighbours_of;
 ghost use mathlib.Core.Path.{_≡_};
 ghost use Prim.Native.Nat.{_≤_, _<_};
 ghost use lib.ListN.{getD};

@@ -21,7 +21,6 @@ pub fn bring_all(
     first: &mut [u8],
     second: &mut [u8],
     line: &mut [u8],
-    output: &mut [u8],
     oldest: usize,
     end: usize,
 ) -> UnderWay
@@ -32,7 +31,7 @@ pub fn bring_all(
     let mut last = end;
     while at < end {
         let size = size_at(line, at);
-        last = bring(first, second, line, output, at, size, last);
+        last = bring(first, second, line, at, size, last);
         at += size;
     }
     UnderWay {
@@ -47,7 +46,6 @@ fn bring(
     first: &mut [u8],
     second: &mut [u8],
     line: &mut [u8],
-    output: &mut [u8],
     at: usize,
     size: usize,
     end: usize,
@@ -56,11 +54,12 @@ fn bring(
     ensures { λ r. ⌜ (end ≤ r) × (r ≤ length (now (line .entry))) ⌝ }
 {
     let behind = at + size;
-    let answer = take_at(first, second, &line[at..behind], output);
+    let mut output = io::buffer();
+    let answer = take_at(first, second, &line[at..behind], &mut output);
     if answer.number != 0 {
         return put_again(line, at, size, end);
     }
-    append(line, end, output, answer.written)
+    append(line, end, &output, answer.written)
 }
 
 // The gateway that the frame is addressed to takes it.

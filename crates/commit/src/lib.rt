@@ -2,6 +2,7 @@
 use decoding::read_entry;
 use doing::state_after;
 use encoding::write_state;
+use entries::frame_if;
 use frame::tables::map_of;
 use frame::tables::whole_length;
 use gateway::Answer;
@@ -15,7 +16,6 @@ use memory::STATE_SIZE;
 use places::changes::remove_entry;
 use places::search::next_marked;
 use soundness::checked;
-use validity::frame_if;
 use writer::outgoing::put_frame;
 ghost use mathlib.Core.Path.{_≡_};
 ghost use Prim.Native.Nat.{_≤_, _<_};

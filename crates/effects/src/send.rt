@@ -1,5 +1,6 @@
 // Sending a message or a cancel: it takes an outstanding place, its frame goes to the output, and it lowers the note.
 use encoding::write_sent;
+use entries::frame_if;
 use memory::HEADER_SIZE;
 use memory::Header;
 use memory::OUTSTANDING_SIZE;
@@ -8,7 +9,6 @@ use memory::QUEUE_SIZE;
 use memory::Round;
 use memory::Sent;
 use model::Message;
-use validity::frame_if;
 use writer::outgoing::put_frame;
 ghost use mathlib.Core.Path.{_≡_};
 ghost use Prim.Native.Nat.{_+_, _≤_, _<_};

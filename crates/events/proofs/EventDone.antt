@@ -32,7 +32,7 @@ use Rattle.lists.proofs.BoolLaws.{and-left, and-right}
 use Rattle.memory.proofs.Places.{length-read}
 use Rattle.memory.proofs.Fitting.{valid-fits}
 use Rattle.gateway.specs.Effects.{bytesOfFrames, fits, withQueue, withState, sentOne, sentAll, framesFor}
-use Rattle.gateway.specs.Working.{pendingOf, processedNext, done, Progress, stopped, worked}
+use Rattle.gateway.specs.Working.{pendingOf, processedNext, done, Progress, noneDone, worked}
 use Rattle.places.specs.inside.Searching.{hasMark}
 use Rattle.gateway.proofs.Maintaining.{Proper}
 use Rattle.gateway.proofs.Keeps.{work-keeps}
@@ -47,7 +47,7 @@ use Rattle.events.proofs.WorkedLaws.{worked-none, worked-full, doneBy, 
 
 -- work that stops before an event
 pub turn-stopped : {before memory : List ℕ} (output : List ℕ) {t : Turn} {g : Gateway} → Reached before memory t g → (why : ℕ) → {w :
-    Progress} → w ≡ stopped why g
+    Progress} → w ≡ noneDone why g
     → {r : Turn} → r ≡ stoppedWith why t → Turned w before output memory output t r
 turn-stopped output {t = t} reached why e i =
     rw (i, e)

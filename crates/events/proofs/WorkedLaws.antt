@@ -11,11 +11,11 @@ use Rattle.model.specs.declared.Message.{Message}
 use Rattle.memory.specs.Records.{Gateway}
 use Rattle.lists.proofs.BoolLaws.{and-left, and-right}
 use Rattle.gateway.specs.Effects.{Effect, bytesOfFrames, fits}
-use Rattle.gateway.specs.Working.{pendingOf, done, Progress, stopped, onceMore, worked}
+use Rattle.gateway.specs.Working.{pendingOf, done, Progress, noneDone, onceMore, worked}
 
 -- the first event, whatever the budget behind it: work stops before it, or it is done
 pub data First (room : ℕ) (g : Gateway) : Type 0 where
-  stops : (why : ℕ) → (why ≡ 0 → ⊥) → ((b : ℕ) → worked (suc b) room g ≡ stopped why g) → First room g
+  stops : (why : ℕ) → (why ≡ 0 → ⊥) → ((b : ℕ) → worked (suc b) room g ≡ noneDone why g) → First room g
   does : (output : List ℕ) (h : Gateway) → length output ≤ room → ((b : ℕ) → worked (suc b) room g ≡ onceMore output (worked b (room -
       length output) h)) → First room g
 
@@ -25,13 +25,13 @@ doneBy x = record { count = 1; why = 0; gateway = x .gateway; output = bytesOfFr
 
 module _ (room : ℕ) (g : Gateway) where
   -- no unprocessed message
-  pub worked-none : (b : ℕ) → pendingOf (g .queue) ≡ [] → worked (suc b) room g ≡ stopped 6 g
+  pub worked-none : (b : ℕ) → pendingOf (g .queue) ≡ [] → worked (suc b) room g ≡ noneDone 6 g
   unfolding worked
   worked-none b e = rw e
 
   module _ (m : Message) (ms : List Message) (e : pendingOf (g .queue) ≡ m ∷ ms) where
     -- no room for what the next one does
-    pub worked-full : (b : ℕ) → fits room (done m g) ≡ false → worked (suc b) room g ≡ stopped 5 g
+    pub worked-full : (b : ℕ) → fits room (done m g) ≡ false → worked (suc b) room g ≡ noneDone 5 g
     unfolding worked
     worked-full b f = rw (e, f)
 

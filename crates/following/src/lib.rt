@@ -1,11 +1,11 @@
 // Whether a queue entry may stand behind the one before it.
+use entries::is_pending;
+use entries::is_processed;
+use entries::one_waits;
 use memory::Entry;
 use memory::Mark;
 use model::order::Comparison;
 use order::compare;
-use validity::is_pending;
-use validity::is_processed;
-use validity::one_waits;
 ghost use mathlib.Core.Path.{_≡_};
 ghost use mathlib.Core.Bool.{true, _&&_, _||_};
 ghost use Rattle.memory.specs.Validity.{pendingMark, processedMark};

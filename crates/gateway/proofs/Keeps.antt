@@ -31,7 +31,7 @@ use Rattle.lists.proofs.BoolLaws.{and-left, and-right}
 use Rattle.gateway.specs.Effects.{Outcome, bytesOfFrames, fits, refused, settled, withQueue}
 use Rattle.gateway.specs.Undoing.{processedOf}
 use Rattle.gateway.specs.Taking.{takePlain, takeCancel, isSent, takeAcknowledgment}
-use Rattle.gateway.specs.Working.{pendingOf, done, Progress, stopped, onceMore, workedBy, worked}
+use Rattle.gateway.specs.Working.{pendingOf, done, Progress, noneDone, onceMore, workedBy, worked}
 use Rattle.gateway.specs.Rounds.{begun, isIdle, start, awaited, takeStart, takeLvt, takeUpdate}
 use Rattle.gateway.specs.Committing.{recordOf, commitOldest, commit}
 use Rattle.gateway.specs.Calls.{unlessBelow, takeByKind, takeBySense, takeFrame, takeBytes}
@@ -192,7 +192,7 @@ work-keeps (suc b) room {g} p = next (pendingOf (g .queue)) refl (λ room′ h q
 
     one : (m : Message) (t : Bool) → fits room (done m g) ≡ t → Standing (g .settings) (done m g .gateway) → ((room′ : ℕ) (h : Gateway) →
         Proper h → WorkEnds (h .settings) (worked b room′ h))
-        → WorkEnds (g .settings) (cond t (rest m) (stopped 5 g))
+        → WorkEnds (g .settings) (cond t (rest m) (noneDone 5 g))
     one m true e k again =
         let now = fitting room (done m g) k e in
         let then = again (room - length (bytesOfFrames (done m g .frames))) (done m g .gateway) (now .proper) in
@@ -200,7 +200,7 @@ work-keeps (suc b) room {g} p = next (pendingOf (g .queue)) refl (λ room′ h q
     one m false e k again = record { gateway = unchanged p; why = omega arith }
 
     next : (ms : List Message) → pendingOf (g .queue) ≡ ms → ((room′ : ℕ) (h : Gateway) → Proper h → WorkEnds (h .settings) (worked b room′ h))
-        → WorkEnds (g .settings) (workedBy ms (stopped 6 g) (λ m. cond (fits room (done m g)) (rest m) (stopped 5 g)))
+        → WorkEnds (g .settings) (workedBy ms (noneDone 6 g) (λ m. cond (fits room (done m g)) (rest m) (noneDone 5 g)))
     next [] e again = record { gateway = unchanged p; why = omega arith }
     next (m ∷ ms) e again =
         let r = pending-member (g .queue) m (rw e (here refl)) in

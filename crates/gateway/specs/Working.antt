@@ -42,8 +42,8 @@ pub record Progress : Type 0 where
   pub output : List ℕ
 
 -- work that did no event
-abbrev pub stopped : ℕ → Gateway → Progress
-stopped why g = record { count = 0; why = why; gateway = g; output = [] }
+abbrev pub noneDone : ℕ → Gateway → Progress
+noneDone why g = record { count = 0; why = why; gateway = g; output = [] }
 
 -- one event more, before what the rest of the work comes to
 abbrev pub onceMore : List ℕ → Progress → Progress
@@ -57,10 +57,10 @@ workedBy (m ∷ ms) none next = next m
 -- up to b events: stops with 0 for b done, else with 6 or 5, looked for in that order before each event
 unfoldable pub worked : ℕ → ℕ → Gateway → Progress
 unfolding pendingOf done fits
-worked zero room g = stopped 0 g
+worked zero room g = noneDone 0 g
 worked (suc b) room g =
-    workedBy (pendingOf (g .queue)) (stopped 6 g) λ m.
+    workedBy (pendingOf (g .queue)) (noneDone 6 g) λ m.
     let e = done m g in
     let output = bytesOfFrames (e .frames) in
     let rest = onceMore output (worked b (room - length output) (e .gateway)) in
-    cond (fits room e) rest (stopped 5 g)
+    cond (fits room e) rest (noneDone 5 g)

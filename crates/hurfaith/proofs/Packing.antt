@@ -1,26 +1,17 @@
--- Laws of packed answers: the parts fit, each is read back, and what a call leaves is what its packed answer says.
-use mathlib.Core.Path.{_≡_, refl, _∙_, ap}
+-- Laws of packed answers: the parts fit, and what a call leaves is what its packed answer says.
+use mathlib.Core.Path.{_≡_, _∙_, ap}
 use mathlib.Core.List.{List}
-use Prim.Native.Nat.{ℕ, _+_, _*_, _<_}
+use Prim.Native.Nat.{ℕ, _<_}
 use native.Mathlib.Omega.{arith}
 use Rattle.buffer.specs.Slice.{Bytes}
 use Rattle.gateway.specs.Calls.{CallResult, workedOff, taken, started, committed}
 use Rattle.gateway.specs.declared.Answer.{Answer}
 use Rattle.gateway.specs.declared.Worked.{Worked}
 use Rattle.gateway.specs.declared.AgreedTime.{AgreedTime}
-use Rattle.hurfaith.specs.Exported.{packed, ReadBack, packedAnswer, packedWork, numberAlone, packedTime}
+use Rattle.packing.specs.Packed.{packed}
+use Rattle.hurfaith.specs.Exported.{packedAnswer, packedWork, numberAlone, packedTime}
 use Rattle.hurfaith.proofs.WrittenSizes.{started-small, committed-small, worked-small}
 use Rattle.hurfaith.proofs.TakenSizes.{taken-small}
-
--- the sum
-pub packed-sum : (number written count : ℕ) → number + 256 * written + 4294967296 * count ≡ packed number written count
-unfolding packed
-packed-sum number written count = refl
-
--- the parts are read back
-pub read-back : (number written count : ℕ) → number < 256 → written < 16777216 → ReadBack number written count
-unfolding packed
-read-back number written count h k = record { number = omega arith; written = omega arith; count = omega arith }
 
 -- an answer packed, and its number alone
 pub answer-packed : {l : CallResult Answer} {r : Answer} {v : ℕ} {memory output : List ℕ} → record { answer = r; memory = memory; output = output } ≡ l

@@ -21,7 +21,7 @@ use Rattle.gateway.proofs.Keeps.{start-keeps, commit-keeps, bytes-keep, work-ke
 use Rattle.hurfaith.specs.Exported.{AnswersReadBack}
 use Rattle.hurfaith.proofs.WrittenSizes.{held, started-small, committed-small, worked-small}
 use Rattle.hurfaith.proofs.TakenSizes.{taken-small}
-use Rattle.hurfaith.proofs.Packing.{read-back}
+use Rattle.packing.proofs.Packing.{read-back}
 
 module _ (memory output : List ℕ) (bytes : Bytes memory) where
   left-number : (r : Outcome) → r .number < 10 → leaving r memory output .answer .number < 256

@@ -1,26 +1,19 @@
 -- A law for each branch of the call of routing.
 use mathlib.Core.Path.{_≡_, refl}
 use mathlib.Core.Bool.{Bool, true, false, cond, _&&_}
-use mathlib.Core.List.{List, [], _∷_}
+use mathlib.Core.List.{List, _∷_}
 use Prim.Native.Nat.{ℕ, _≤_, _<_}
 use native.Mathlib.Omega.{arith}
 use lib.Dec.{leb, ltb}
-use lib.ListN.{length, getD, set, drop}
-use borrow.Author.Tests.{lt-ltb, le-ltb, ltb-true, le-leb, lt-leb, leb-true, eq-eqb, ne-eqb}
+use lib.ListN.{length, getD, drop}
+use borrow.Author.Tests.{ltb-true, le-leb, lt-leb, leb-true, eq-eqb, ne-eqb}
 use Rattle.routing.specs.Arcs.{from, to}
 use Rattle.routing.specs.Answers.{gateways, inRange, noNeighbours, neighboursOf}
-use Rattle.routing.specs.declared.Gateways.{Gateways}
 use Rattle.routing.specs.declared.Neighbours.{Neighbours}
 use Rattle.lists.proofs.BoolLaws.{and-left, and-right}
 use Rattle.routing.proofs.FewArcs.{from-few, to-few}
-use Rattle.hurfaith.specs.Exported.{numberAt, routed}
-
--- one of at most two
-pub number-none : (g : Gateways) (i : ℕ) → g .count ≤ i → 65535 ≡ numberAt g i
-number-none g i h = rw (le-ltb i (g .count) h)
-
-pub number-some : (g : Gateways) (i : ℕ) → i < g .count → getD (g .number) i 0 ≡ numberAt g i
-number-some g i h = rw (lt-ltb i (g .count) h)
+use Rattle.packing.specs.Packed.{numberAt}
+use Rattle.hurfaith.specs.Exported.{routed}
 
 -- every number fits sixteen bits
 record Small (r : Neighbours) : Type 0 where
@@ -58,14 +51,6 @@ module _ (N own : ℕ) {r : Neighbours} (e : r ≡ neighboursOf N own) where
 
   pub to-second-fits : (1 < 2) × (getD (r .to .number) 1 0 < 65536)
   to-second-fits = (omega arith, small .to-second)
-
--- the array's front
-pub four-set : (l : List ℕ) (a b c d : ℕ) → 4 ≤ length l → set (set (set (set l 0 a) 1 b) 2 c) 3 d ≡ a ∷ b ∷ c ∷ d ∷ drop 4 l
-four-set [] a b c d h = absurd (omega arith)
-four-set (w ∷ []) a b c d h = absurd (omega arith)
-four-set (w ∷ x ∷ []) a b c d h = absurd (omega arith)
-four-set (w ∷ x ∷ y ∷ []) a b c d h = absurd (omega arith)
-four-set (w ∷ x ∷ y ∷ z ∷ l) a b c d h = refl
 
 -- the branches
 module _ (N own : ℕ) (l : List ℕ) {r : Neighbours} (e : r ≡ neighboursOf N own) where

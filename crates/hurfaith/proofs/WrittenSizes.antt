@@ -25,7 +25,7 @@ use Rattle.gateway.specs.Effects.{Effect, Outcome, bytesOfFrames, fits, settled
 use Rattle.gateway.specs.Rounds.{finished, valueAt, leastOutstanding, begun, isIdle, start}
 use Rattle.gateway.specs.Undoing.{processedOf}
 use Rattle.gateway.specs.Committing.{recordFor, recordOf, commitOldest, commit}
-use Rattle.gateway.specs.Working.{pendingOf, processedNext, done, Progress, stopped, onceMore, workedBy, worked}
+use Rattle.gateway.specs.Working.{pendingOf, processedNext, done, Progress, noneDone, onceMore, workedBy, worked}
 use Rattle.gateway.specs.Calls.{CallResult, refusedWith, leaving, onSound, started, committed, workedOff}
 use Rattle.gateway.specs.declared.Answer.{Answer}
 use Rattle.gateway.proofs.Searches.{pending-member, processed-member}
@@ -128,15 +128,15 @@ work-places (suc b) room {g} p = next (pendingOf (g .queue)) refl (λ room′ h 
         let small = messages-small false ms (λ x n. sent-good (g .settings) (standing p .settings) m good false (g .state) x n .ranged .lamp) in
         omega arith
 
-    one : (m : Message) {cancel : Bool} → Good (g .settings) cancel m → (t : Bool) → fits room (done m g) ≡ t → Again → Places (cond t (rest m) (stopped 5 g))
+    one : (m : Message) {cancel : Bool} → Good (g .settings) cancel m → (t : Bool) → fits room (done m g) ≡ t → Again → Places (cond t (rest m) (noneDone 5 g))
     one m good true e again =
         let now = fitting room (done m g) (done-stands p m good) e in
         let then = again (room - length (bytesOfFrames (done m g .frames))) (done m g .gateway) (now .proper) in
         rw length-append (omega (arith, then, event m good))
     one m good false e again = omega arith
 
-    next : (ms : List Message) → pendingOf (g .queue) ≡ ms → Again → Places (workedBy ms (stopped 6 g) (λ m. cond (fits room (done m g))
-        (rest m) (stopped 5 g)))
+    next : (ms : List Message) → pendingOf (g .queue) ≡ ms → Again → Places (workedBy ms (noneDone 6 g) (λ m. cond (fits room (done m g))
+        (rest m) (noneDone 5 g)))
     next [] e again = omega arith
     next (m ∷ ms) e again =
         let r = pending-member (g .queue) m (rw e (here refl)) in

@@ -1,28 +1,17 @@
--- The answers of the exported functions: the numbers of an answer packed into one, and a gateway's neighbours in an array.
-use mathlib.Core.Path.{_≡_}
-use Prim.Native.Nat.{ℕ, _+_, _*_, _/_, _%_}
+-- The answers of the exported functions: what a call leaves, with the numbers of its answer packed into one.
+use Prim.Native.Nat.{ℕ}
 use mathlib.Core.Bool.{cond}
 use mathlib.Core.List.{List, _∷_}
-use lib.Dec.{leb, ltb, eqb}
-use lib.ListN.{length, getD, drop}
+use lib.Dec.{leb, eqb}
+use lib.ListN.{length, drop}
 use Rattle.routing.specs.Answers.{neighboursOf}
-use Rattle.routing.specs.declared.Gateways.{Gateways}
+use Rattle.packing.specs.Packed.{packed, ReadBack, numberAt}
 use Rattle.buffer.specs.Slice.{Bytes}
 use Rattle.gateway.specs.Calls.{CallResult, taken, started, committed, workedOff}
 use Rattle.gateway.specs.declared.Answer.{Answer}
 use Rattle.gateway.specs.declared.Worked.{Worked}
 use Rattle.gateway.specs.declared.AgreedTime.{AgreedTime}
 use Rattle.gateway.specs.declared.Opening.{Opening}
-
--- a number below 256, the bytes written, below 16,777,216, and a count below 4,294,967,296 in one number of 64 bits
-unfoldable pub packed : ℕ → ℕ → ℕ → ℕ
-packed number written count = number + 256 * written + 4294967296 * count
-
--- each part is read back from a packed answer, as a C program does it
-pub record ReadBack (n w c : ℕ) : Type 0 where
-  pub number : packed n w c % 256 ≡ n
-  pub written : packed n w c / 256 % 16777216 ≡ w
-  pub count : packed n w c / 4294967296 ≡ c
 
 -- what taking a frame, the start call and commit leave, with the answer packed: the count is 0
 abbrev pub packedAnswer : CallResult Answer → CallResult ℕ
@@ -43,10 +32,6 @@ numberAlone l = record { answer = l .answer .number; memory = l .memory; output 
 -- the agreed time's number and hour
 abbrev pub packedTime : AgreedTime → ℕ
 packedTime t = packed (t .number) 0 (t .hour)
-
--- the gateway of that index, 65,535 where there is none
-abbrev pub numberAt : Gateways → ℕ → ℕ
-numberAt g i = cond (ltb i (g .count)) (getD (g .number) i 0) 65535
 
 -- what the call of routing leaves: its number, and the array
 pub record RouteResult : Type 0 where

@@ -2,20 +2,19 @@
 // comes packed into one. include/hurfaith.h is their C side.
 use commit::commit;
 use gateway::Opening;
+use neighbours::neighbours_of;
 use opening::set_up::set_up;
+use packing::number_at;
+use packing::packed;
+use packing::put_four;
 use round::agreed::agreed_time;
 use round::start::start;
-use routing::Gateways;
-use routing::neighbours_of;
 use take::take;
 use work::work;
 ghost use mathlib.Core.Path.{_≡_};
-ghost use mathlib.Core.List.{[], _∷_};
-ghost use Prim.Native.Nat.{_<_, _≤_};
-ghost use lib.ListN.{getD, length, drop};
+ghost use mathlib.Core.List.{[]};
 ghost use Rattle.gateway.specs.Calls.{left, workedOff, started, committed, agreedTime, taken, setUp};
-ghost use Rattle.hurfaith.specs.Exported as Exported;
-ghost use Rattle.hurfaith.specs.Exported.{packedAnswer, packedWork, packedTime, numberAt, routed, numberAlone, settingsGiven};
+ghost use Rattle.hurfaith.specs.Exported.{packedAnswer, packedWork, packedTime, routed, numberAlone, settingsGiven};
 
 // The neighbours of a gateway: the two that it hears from and the two that it tells, 65,535 where there is none.
 #[no_mangle]
@@ -39,28 +38,6 @@ pub extern "C" fn hurfaith_route(gateways: u32, own: u32, neighbours: &mut [u16]
         number_at(to, 1),
     );
     0
-}
-
-// The gateway of that index, 65,535 where there is none.
-fn number_at(among: Gateways, i: usize) -> u16
-    requires { ⌜ (i < 2) × (getD (among .number) i 0 < 65536) ⌝ }
-    ensures { λ r. ⌜ r ≡ numberAt among i ⌝ }
-{
-    if i >= among.count {
-        return 65535;
-    }
-    let number = among.number;
-    number[i] as u16
-}
-
-fn put_four(neighbours: &mut [u16], first: u16, second: u16, third: u16, fourth: u16)
-    requires { ⌜ 4 ≤ length (now neighbours) ⌝ }
-    ensures { λ _. ⌜ now (neighbours .exit) ≡ first ∷ second ∷ third ∷ fourth ∷ drop 4 (now (neighbours .entry)) ⌝ }
-{
-    neighbours[0] = first;
-    neighbours[1] = second;
-    neighbours[2] = third;
-    neighbours[3] = fourth;
 }
 
 // Set up.
@@ -138,12 +115,4 @@ pub extern "C" fn hurfaith_agreed_time(memory: &[u8]) -> u64
 {
     let time = agreed_time(memory);
     packed(time.number, 0, time.hour)
-}
-
-// A number, the bytes written and a count in one number.
-fn packed(number: u8, written: usize, count: u32) -> u64
-    requires { ⌜ written < 16777216 ⌝ }
-    ensures { λ r. ⌜ r ≡ Exported.packed number written count ⌝ }
-{
-    number as u64 + 256 * (written as u64) + 4294967296 * (count as u64)
 }

@@ -10,7 +10,6 @@ use lib.Seq.{take-all, take-append-seam, getD-append-seam, take-suc, length-take
 use borrow.Author.Tests.{eq-eqb, ne-eqb}
 use Rattle.lists.specs.Lists.{_∈_, joined}
 use Rattle.routing.specs.Arcs.{Arc, arcs, arcCount, roundMessages}
-use Rattle.routing.specs.Arcs as Arcs
 use Rattle.routing.proofs.Reading.{mids}
 use Rattle.routing.proofs.Theorems.{count-is, laws as arc-laws}
 use Rattle.text.specs.declared.Spelled.{Spelled}

@@ -9,6 +9,7 @@ ghost use Rattle.text.specs.Decimal.{decimal};
 ghost use Rattle.routing.specs.Arcs.{arcs};
 ghost use Rattle.routing.specs.Answers.{midsOf};
 ghost use Rattle.listing.specs.Output.{firstLine, arcLine, linesFrom};
+use neighbours::to_of;
 use routing::Gateways;
 use routing::Middles;
 
@@ -55,7 +56,7 @@ pub fn arcs_length(n: u32, m: Middles) -> usize
     let mut total: usize = 0;
     let mut i: u32 = 0;
     while i < n {
-        total += lines_length(i, routing::to_of(m, n, i));
+        total += lines_length(i, to_of(m, n, i));
         i += 1;
     }
     total
@@ -117,7 +118,7 @@ fn put_arcs(out: &mut [u8], at: usize, n: u32, m: Middles)
     let mut next = at;
     let mut i: u32 = 0;
     while i < n {
-        next = put_lines(out, next, i, routing::to_of(m, n, i));
+        next = put_lines(out, next, i, to_of(m, n, i));
         i += 1;
     }
 }

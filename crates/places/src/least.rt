@@ -1,11 +1,11 @@
 // The least hours in a gateway's memory.
 use decoding::read_entry;
 use decoding::read_sent;
+use entries::is_processed;
 use memory::Entry;
 use memory::HEADER_SIZE;
 use memory::OUTSTANDING_SIZE;
 use memory::QUEUE_SIZE;
-use validity::is_processed;
 ghost use mathlib.Core.Path.{_≡_};
 ghost use Prim.Native.Nat.{_≤_, min};
 ghost use lib.ListN.{length};

@@ -1,6 +1,11 @@
 // Looking through the places of a gateway's memory.
 use decoding::read_entry;
 use decoding::read_sent;
+use entries::equal;
+use entries::is_pending;
+use entries::is_processed;
+use entries::is_waiting;
+use entries::later;
 use memory::Entry;
 use memory::HEADER_SIZE;
 use memory::Mark;
@@ -8,11 +13,6 @@ use memory::OUTSTANDING_SIZE;
 use memory::QUEUE_SIZE;
 use memory::Sent;
 use model::Message;
-use validity::equal;
-use validity::is_pending;
-use validity::is_processed;
-use validity::is_waiting;
-use validity::later;
 ghost use mathlib.Core.Path.{_≡_};
 ghost use Prim.Native.Nat.{_+_, _≤_};
 ghost use lib.ListN.{length};

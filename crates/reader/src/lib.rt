@@ -7,24 +7,24 @@ use frame::Frame;
 use frame::Reading;
 use frame::Sense;
 use frame::lamps::read_lamp;
-use frame::tables::map_of_kind;
 use frame::tables::sense_of;
 use frame::tables::whole_length;
 use frame::tables::width_of;
 use model::Kind;
 use model::Message;
-use model::kind_number;
 use model::kind_of;
 use rules::gateways_agree;
 use rules::lamp_fits;
+use rules::map_fits;
+use rules::sense_fits;
 ghost use mathlib.Core.Path.{_≡_};
 ghost use Prim.Native.Nat.{_+_, _<_, _≤_};
 ghost use lib.ListN.{length, getD};
 ghost use Rattle.buffer.specs.Slice.{part};
 ghost use Rattle.buffer.specs.Number.{numberOf};
 ghost use Rattle.frame.specs.Layout.{widths, wholeLength};
-ghost use Rattle.frame.specs.Reasons.{reading, readAs, refusedAs, fieldsForm, fieldsOf, frameOf, mapFits, senseFits};
-ghost use Rattle.frame.specs.Lamps.{isGood, carriesLamp, IsLamp};
+ghost use Rattle.frame.specs.Reasons.{reading, readAs, refusedAs, fieldsForm, fieldsOf, frameOf};
+ghost use Rattle.frame.specs.Lamps.{isGood};
 ghost use Rattle.frame.specs.inside.Steps.{stored, noFields};
 
 // Reads a byte string.
@@ -43,30 +43,6 @@ pub fn read(bytes: &[u8]) -> Reading
         return refused(Form::WrongLength);
     }
     judge(map, walk(bytes, map))
-}
-
-// The eighteen bytes of a frame's lamp, as the part of the frame that holds them. The empty part stands for 1: no frame, or
-// a frame without a lamp.
-pub fn lamp(frame: &[u8]) -> &[u8]
-    ensures { λ r. ⌜ IsLamp (frame .entry) r ⌝ }
-{
-    if carries_lamp(read(frame)) {
-        return &frame[9..27];
-    }
-    &frame[0..0]
-}
-
-fn carries_lamp(reading: Reading) -> bool
-    ensures { λ r. ⌜ r ≡ carriesLamp reading ⌝ }
-{
-    let form = reading.form;
-    let frame = reading.frame;
-    let message = frame.message;
-    let kind = message.kind;
-    if !is_good(form) {
-        return false;
-    }
-    kind_number(kind) <= 2
 }
 
 pub fn is_good(form: Form) -> bool
@@ -186,36 +162,6 @@ fn frame_of(fields: Fields) -> Frame
     };
     let sense = sense_of(fields.sense);
     Frame { message, sense }
-}
-
-// Whether the map is that of the kind, with bit 7 only for a kind with a lamp.
-fn map_fits(map: u8, kind: u8) -> bool
-    ensures { λ r. ⌜ r ≡ mapFits map kind ⌝ }
-{
-    if kind >= 7 {
-        return false;
-    }
-    let plain = map_of_kind(kind);
-    if map == plain {
-        return true;
-    }
-    if kind > 2 {
-        return false;
-    }
-    map == plain + 128
-}
-
-// Whether the sense is 1 to 3 where bit 7 stands.
-fn sense_fits(map: u8, sense: u8) -> bool
-    ensures { λ r. ⌜ r ≡ senseFits map sense ⌝ }
-{
-    if map < 128 {
-        return true;
-    }
-    if sense < 1 {
-        return false;
-    }
-    sense <= 3
 }
 
 fn refused(form: Form) -> Reading

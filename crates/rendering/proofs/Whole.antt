@@ -11,7 +11,7 @@ use Rattle.buffer.specs.Slice.{write}
 use Rattle.routing.specs.declared.Totals.{Totals}
 use Rattle.routing.specs.Arcs.{arcs, arcCount, roundMessages}
 use Rattle.routing.specs.Answers.{totalsOf}
-use Rattle.routing.proofs.Branches.{totals-are}
+use Rattle.neighbours.proofs.Branches.{totals-are}
 use Rattle.listing.specs.declared.Rendered.{Rendered}
 use Rattle.listing.specs.Output.{firstLine, listing, numberIn, printed, RenderResult, rendered, rendering, arcLine}
 use Rattle.buffer.proofs.Putting.{puts-byte, puts-more}

@@ -8,6 +8,8 @@ use listing::Rendered;
 use listing::arcs_length;
 use listing::first_length;
 use listing::put_listing;
+use neighbours::mids_of;
+use neighbours::totals_of;
 use text::Spelled;
 
 // Where the text ends: before the line end that may stand last.
@@ -57,8 +59,8 @@ fn render_listing(out: &mut [u8], n: u32) -> Rendered
     requires { ⌜ (1 ≤ n) × (n ≤ 65535) ⌝ }
     ensures { λ r. ⌜ record { answer = r; out = now (out .exit) } ≡ rendered (listing n) (now (out .entry)) ⌝ }
 {
-    let m = routing::mids_of(n);
-    let t = routing::totals_of(n);
+    let m = mids_of(n);
+    let t = totals_of(n);
     let length = first_length(n, t.arcs, t.messages) + arcs_length(n, m);
     if out.len() < length {
         return Rendered {

@@ -2,6 +2,8 @@
 use decoding::read_entry;
 use doing::reply_to;
 use effects::insert::insert_place;
+use entries::is_processed;
+use entries::site_of;
 use frame::Frame;
 use frame::Sense;
 use header::write_header;
@@ -10,8 +12,6 @@ use memory::HEADER_SIZE;
 use memory::Header;
 use memory::QUEUE_SIZE;
 use model::Message;
-use validity::is_processed;
-use validity::site_of;
 ghost use mathlib.Core.Path.{_≡_};
 ghost use mathlib.Core.Bool.{_&&_};
 ghost use mathlib.Core.List.{[], _∷_};

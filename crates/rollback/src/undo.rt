@@ -7,11 +7,11 @@ use effects::send::header_sent;
 use effects::send::outstanding_at;
 use effects::send::put_sent;
 use encoding::write_entry;
+use entries::is_processed;
+use entries::site_of;
 use memory::Entry;
 use memory::HEADER_SIZE;
 use memory::QUEUE_SIZE;
-use validity::is_processed;
-use validity::site_of;
 ghost use Rattle.rollback.specs.inside.Undone.{CanUndo, Undoes, CanUndoPlace, UndoesPlace, CanUndoEntry, UndoesEntry};
 
 // Undoes the processed events in the queue places from place k on.

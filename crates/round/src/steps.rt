@@ -6,16 +6,17 @@ use announce::receivers::told;
 use gateway::Answer;
 use gateway::refused;
 use memory::Header;
-use memory::Phase;
-use memory::Round;
 use model::Kind;
+use phases::changed;
+use phases::counting;
+use phases::is_idle;
+use phases::no_round;
 use places::least::least_outstanding;
 use places::least::least_queued;
 use places::least::lesser;
-ghost use mathlib.Core.Path.{_≡_};
 ghost use Rattle.gateway.specs.Effects.{settling};
-ghost use Rattle.gateway.specs.Rounds.{idle, isIdle, finished, begun, start};
-ghost use Rattle.gateway.specs.inside.Premises.{Known, Leaves, changedTo};
+ghost use Rattle.gateway.specs.Rounds.{finished, begun, start};
+ghost use Rattle.gateway.specs.inside.Premises.{Known, Leaves};
 
 // With all Lvts in: gateway 0 closes the round and sends Updates, another sends its Lvt along from.
 pub fn finish(memory: &mut [u8], output: &mut [u8], header: Header, value: u32) -> Answer
@@ -82,50 +83,4 @@ pub fn start_round(memory: &mut [u8], output: &mut [u8], header: Header) -> Answ
         return refused(4);
     }
     begin(memory, output, header)
-}
-
-// The header with another agreed time and round.
-pub fn changed(header: Header, agreed: u32, round: Round) -> Header
-    ensures { λ r. ⌜ r ≡ changedTo header agreed round ⌝ }
-{
-    let settings = header.settings;
-    let state = header.state;
-    Header {
-        settings,
-        state,
-        agreed,
-        round,
-        queued: header.queued,
-        outstanding: header.outstanding,
-    }
-}
-
-fn no_round() -> Round
-    ensures { λ r. ⌜ r ≡ idle ⌝ }
-{
-    Round {
-        phase: Phase::Idle,
-        arrived: 0,
-        note: 0,
-    }
-}
-
-fn counting(note: u32) -> Round
-    ensures { λ r. ⌜ r ≡ record { phase = Phase.Counting; arrived = 0; note = note } ⌝ }
-{
-    Round {
-        phase: Phase::Counting,
-        arrived: 0,
-        note,
-    }
-}
-
-pub fn is_idle(phase: Phase) -> bool
-    ensures { λ r. ⌜ r ≡ isIdle phase ⌝ }
-{
-    match phase {
-        Phase::Idle => true,
-        Phase::Counting => false,
-        Phase::Stopped => false,
-    }
 }

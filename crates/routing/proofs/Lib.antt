@@ -3,6 +3,5 @@ pub mod Theorems
 pub mod Difference
 pub mod Shape
 pub mod Counting
-pub mod Branches
 pub mod Reading
 pub mod FewArcs

@@ -1,11 +1,13 @@
-// What a message of each kind has to keep to, for the reader and the writer.
+// What a frame of each kind has to keep to, for the reader and the writer.
 use frame::Frame;
+use frame::tables::map_of_kind;
 use frame::tables::sense_number;
 use model::Kind;
 use model::Message;
 use model::kind_number;
 ghost use mathlib.Core.Path.{_≡_};
 ghost use mathlib.Core.Bool.{_&&_};
+ghost use Rattle.frame.specs.Reasons.{mapFits, senseFits};
 ghost use Rattle.frame.specs.Writing.{allBetween, lampFits, gatewaysAgree, senseAllowed, hourFits, wellFormed};
 
 // Whether a lamp's bytes are 33 to 126, or zero where the kind has no lamp.
@@ -89,4 +91,34 @@ fn header_fits(kind: u8, sense: u8, hour: u32) -> bool
         return hour == 0;
     }
     true
+}
+
+// Whether the map is that of the kind, with bit 7 only for a kind with a lamp.
+pub fn map_fits(map: u8, kind: u8) -> bool
+    ensures { λ r. ⌜ r ≡ mapFits map kind ⌝ }
+{
+    if kind >= 7 {
+        return false;
+    }
+    let plain = map_of_kind(kind);
+    if map == plain {
+        return true;
+    }
+    if kind > 2 {
+        return false;
+    }
+    map == plain + 128
+}
+
+// Whether the sense is 1 to 3 where bit 7 stands.
+pub fn sense_fits(map: u8, sense: u8) -> bool
+    ensures { λ r. ⌜ r ≡ senseFits map sense ⌝ }
+{
+    if map < 128 {
+        return true;
+    }
+    if sense < 1 {
+        return false;
+    }
+    sense <= 3
 }

@@ -12,7 +12,7 @@ use Rattle.lists.specs.Lists.{All, nil, cons, count, tally}
 use Rattle.lists.proofs.ListLaws.{matches-equal, matches-other}
 use Rattle.lists.proofs.FamilyLaws.{Same, same, other, same?}
 use Rattle.gateway.specs.Rounds.{bitOf, allBits, awaited}
-use Rattle.timewarp.specs.Arcs.{times}
+use Rattle.round_steps.specs.Arcs.{times}
 
 -- 1 for what passes
 abbrev pub oneIf : Bool → ℕ

@@ -10,7 +10,7 @@ use Rattle.model.specs.declared.Message.{Message}
 use Rattle.memory.specs.Codec.{decode}
 use Rattle.memory.specs.Soundness.{sound}
 use Rattle.gateway.specs.Calls.{agreedTime}
-use Rattle.timewarp.specs.Arcs.{Graph}
+use Rattle.round_steps.specs.Arcs.{Graph}
 use Rattle.timewarp.specs.Worlds as Worlds
 use Rattle.timewarp.proofs.CallChains.{steps-join}
 use Rattle.run.specs.SingleQueue.{SetUpInput}

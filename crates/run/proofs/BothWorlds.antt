@@ -6,7 +6,7 @@ use Rattle.memory.specs.Records.{Gateway}
 use Rattle.memory.specs.Codec.{decode}
 use Rattle.gateway.specs.Claims.{SoundBytes}
 use Rattle.gateway.proofs.Maintaining.{Proper}
-use Rattle.timewarp.specs.Models.{Model}
+use Rattle.event_steps.specs.Models.{Model}
 use Rattle.timewarp.specs.Worlds as Worlds
 use Rattle.timewarp.proofs.Joined.{Good, good}
 use Rattle.run.specs.SingleQueue.{SetUpInput}

@@ -15,10 +15,10 @@ use Rattle.memory.specs.Soundness.{sound}
 use Rattle.gateway.specs.Committing.{commit}
 use Rattle.gateway.specs.Working.{pendingOf}
 use Rattle.gateway.specs.Calls.{committed}
-use Rattle.timewarp.specs.Models.{hour, first}
-use Rattle.timewarp.specs.Gateways.{Event, message, Gateway as View, Network}
-use Rattle.timewarp.specs.SingleQueue as Theory
-use Rattle.timewarp.specs.Arcs.{Graph}
+use Rattle.event_steps.specs.Models.{hour, first}
+use Rattle.event_steps.specs.Gateways.{Event, message, Gateway as View, Network}
+use Rattle.event_steps.specs.SingleQueue as Theory
+use Rattle.round_steps.specs.Arcs.{Graph}
 use Rattle.timewarp.specs.Worlds as Worlds
 use Rattle.timewarp.proofs.Theorem.{claim-holds}
 use Rattle.run.specs.SingleQueue.{SetUpInput, wholeRecord}

@@ -20,8 +20,8 @@ use Rattle.gateway.specs.Effects.{refused, withQueue}
 use Rattle.gateway.specs.Undoing.{processedOf}
 use Rattle.gateway.specs.Committing as Committing
 use Rattle.gateway.specs.Committing.{commit, commitOldest}
-use Rattle.timewarp.specs.Models.{stateAfter}
-use Rattle.timewarp.specs.SingleQueue as Theory
+use Rattle.event_steps.specs.Models.{stateAfter}
+use Rattle.event_steps.specs.SingleQueue as Theory
 use Rattle.gateway.specs.Committing.{recordFor}
 use Rattle.run.specs.SingleQueue.{SetUpInput, wholeRecord}
 use Rattle.run.proofs.ForecastModel.{forecastModel}

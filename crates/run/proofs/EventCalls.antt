@@ -29,9 +29,9 @@ use Rattle.gateway.specs.Working.{pendingOf, processedNext, done}
 use Rattle.lists.specs.Lists.{beforeFirst, fromFirst}
 use Rattle.gateway.specs.Taking.{isLater, isCancelOf, isPlain, isSent, waitingEntry, takePlain, takeCancel}
 use Rattle.gateway.proofs.Searches.{pending-member, behind-later}
-use Rattle.timewarp.specs.Models.{Model, NotLater, hour, first, sentBy}
-use Rattle.timewarp.specs.Gateways.{Event, plain, cancel, message, history, gatewayOf, networkOf, Network, Gateway as View}
-use Rattle.timewarp.specs.EventSteps.{does, takes, takesAcknowledgment, commits, becomesPending, meetsCancel, strikesOut, waits}
+use Rattle.event_steps.specs.Models.{Model, NotLater, hour, first, sentBy}
+use Rattle.event_steps.specs.Gateways.{Event, plain, cancel, message, history, gatewayOf, networkOf, Network, Gateway as View}
+use Rattle.event_steps.specs.EventSteps.{does, takes, takesAcknowledgment, commits, becomesPending, meetsCancel, strikesOut, waits}
 use Rattle.timewarp.proofs.CallChains.{insert-append}
 use Rattle.run.specs.SingleQueue.{SetUpInput}
 use Rattle.run.proofs.EventOrders.{not-later-keys, later-keys}

@@ -11,9 +11,9 @@ use Rattle.model.specs.EventOrder.{key, compared, orElse, numbers}
 use Rattle.model.specs.declared.Message.{Message}
 use Rattle.memory.specs.Validity.{isAfter, later}
 use Rattle.memory.proofs.EventLaws.{later-flip}
-use Rattle.timewarp.specs.Models.{KeyNotLater}
-use Rattle.timewarp.specs.SingleQueue.{isNotLater}
-use Rattle.timewarp.proofs.OrderLaws.{Compared, sooner, later as behind, compared as comparedKeys}
+use Rattle.event_steps.specs.Models.{KeyNotLater}
+use Rattle.event_steps.specs.SingleQueue.{isNotLater}
+use Rattle.event_steps.proofs.OrderLaws.{Compared, sooner, later as behind, compared as comparedKeys}
 
 -- the two tests of two keys agree
 pub keys-agree : (k l : List ℕ) → isNotLater k l ≡ not (isAfter (compared k l))

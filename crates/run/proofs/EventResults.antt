@@ -8,7 +8,7 @@ use Rattle.frame.specs.Writing.{written}
 use Rattle.frame.specs.declared.Frame.{Frame}
 use Rattle.memory.specs.Records.{Gateway}
 use Rattle.gateway.specs.Effects.{bytesOfFrames}
-use Rattle.timewarp.specs.Arcs.{Graph}
+use Rattle.round_steps.specs.Arcs.{Graph}
 use Rattle.timewarp.specs.Worlds.{World}
 use Rattle.run.specs.SingleQueue.{SetUpInput}
 use Rattle.run.specs.Ledger as Ledger

@@ -29,7 +29,7 @@ use Rattle.gateway.proofs.Replies.{Good}
 use Rattle.gateway.proofs.Accepting as Accepting
 use Rattle.gateway.proofs.Accepting.{Passes, accepted-good}
 use Rattle.gateway.proofs.Searches.{processed-member}
-use Rattle.timewarp.specs.Arcs.{Graph}
+use Rattle.round_steps.specs.Arcs.{Graph}
 use Rattle.timewarp.specs.Worlds.{World}
 use Rattle.run.specs.SingleQueue.{SetUpInput}
 use Rattle.run.specs.Ledger as Ledger

@@ -17,8 +17,8 @@ use Rattle.gateway.specs.Effects.{framesFor, withQueue, withOutstanding}
 use Rattle.gateway.specs.Undoing.{processedOf}
 use Rattle.gateway.specs.Working.{pendingOf, done}
 use Rattle.gateway.specs.Taking.{isCancelOf, isPlain, isSent, acknowledgment, takePlain, takeCancel}
-use Rattle.timewarp.specs.Gateways.{Event, plain, cancel, Network, networkOf, Gateway as View}
-use Rattle.timewarp.specs.Arcs.{Graph}
+use Rattle.event_steps.specs.Gateways.{Event, plain, cancel, Network, networkOf, Gateway as View}
+use Rattle.round_steps.specs.Arcs.{Graph}
 use Rattle.timewarp.specs.Worlds.{Setting, World}
 use Rattle.run.specs.SingleQueue.{SetUpInput}
 use Rattle.run.specs.World.{Carried, isFrame, carry}

@@ -18,8 +18,8 @@ use Rattle.memory.specs.Codec.{decode, encode}
 use Rattle.gateway.specs.Effects.{withRound}
 use Rattle.gateway.specs.Claims.{SoundBytes}
 use Rattle.gateway.proofs.Maintaining.{Kept}
-use Rattle.timewarp.specs.RoundSteps as RoundSteps
-use Rattle.timewarp.specs.RoundSteps.{RoundFrame}
+use Rattle.round_steps.specs.RoundSteps as RoundSteps
+use Rattle.round_steps.specs.RoundSteps.{RoundFrame}
 use Rattle.timewarp.specs.Worlds as Worlds
 use Rattle.run.specs.SingleQueue.{SetUpInput}
 use Rattle.run.specs.Ledger as Ledger

@@ -23,7 +23,7 @@ use Rattle.frame.specs.declared.Sense.the-variants.{Plain, Cancel, Acknowledgme
 use Rattle.buffer.proofs.Equality.{same-bytes}
 use Rattle.gateway.specs.Effects.{framesFor}
 use Rattle.gateway.specs.Taking.{acknowledgment}
-use Rattle.timewarp.specs.Gateways.{Event, plain, cancel, message}
+use Rattle.event_steps.specs.Gateways.{Event, plain, cancel, message}
 use Rattle.run.specs.World.{Carried, isFrame, carry, kindIn}
 use Rattle.run.proofs.QueueViews.{eventIf}
 

@@ -14,7 +14,7 @@ use Rattle.lists.proofs.ListLaws.{matches-equal, matches-other}
 use Rattle.routing.specs.Arcs.{from, to, Laws}
 use Rattle.routing.specs.Arcs
 use Rattle.routing.proofs.Theorems.{laws}
-use Rattle.timewarp.specs.Arcs.{Graph, times, arcCount, roundMessages}
+use Rattle.round_steps.specs.Arcs.{Graph, times, arcCount, roundMessages}
 
 -- how often a number stands in a list, and that it is an element
 pub times-member : (k : ℕ) (l : List ℕ) → 1 ≤ times k l → k ∈ l

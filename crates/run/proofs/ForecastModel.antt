@@ -23,7 +23,7 @@ use Rattle.frame.specs.Limits.{nothingDue}
 use Rattle.lists.proofs.BoolLaws.{and-left, and-right, and-both}
 use Rattle.gateway.specs.SettingUp.{cutFrames, queued}
 use Rattle.gateway.specs.Working.{pendingOf}
-use Rattle.timewarp.specs.Models.{Model, first}
+use Rattle.event_steps.specs.Models.{Model, first}
 use Rattle.run.specs.SingleQueue.{SetUpInput}
 
 -- the elements that pass the test

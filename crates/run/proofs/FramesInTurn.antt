@@ -31,13 +31,13 @@ use Rattle.gateway.specs.Taking.{isSent, takePlain, takeCancel, takeAcknowledgm
 use Rattle.gateway.specs.Rounds.{isIdle, awaited, takeStart, takeLvt, takeUpdate}
 use Rattle.gateway.specs.Calls.{taken, unlessBelow, takeByKind, takeBySense, takeFrame, takeBytes}
 use Rattle.routing.proofs.FewArcs.{from-few, to-few}
-use Rattle.timewarp.specs.Models.{hour, first}
-use Rattle.timewarp.specs.Gateways.{Event, plain, cancel, message, Network, Gateway as View}
-use Rattle.timewarp.specs.Arcs.{times}
-use Rattle.timewarp.specs.RoundSteps.{RoundFrame, start, lvt, update, InTurn, start-in-turn, lvt-in-turn, update-in-turn}
+use Rattle.event_steps.specs.Models.{hour, first}
+use Rattle.event_steps.specs.Gateways.{Event, plain, cancel, message, Network, Gateway as View}
+use Rattle.round_steps.specs.Arcs.{times}
+use Rattle.round_steps.specs.RoundSteps.{RoundFrame, start, lvt, update, InTurn, start-in-turn, lvt-in-turn, update-in-turn}
 use Rattle.timewarp.specs.Claims.{IsOutstanding}
 use Rattle.timewarp.specs.Worlds as Worlds
-use Rattle.timewarp.proofs.ArcLaws.{ChildOf, child, no-child, child?}
+use Rattle.round_steps.proofs.ArcLaws.{ChildOf, child, no-child, child?}
 use Rattle.timewarp.proofs.Theorem.{claim-holds}
 use Rattle.run.specs.SingleQueue.{SetUpInput}
 use Rattle.run.specs.World.{World, Carried}

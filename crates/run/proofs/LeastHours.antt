@@ -12,8 +12,8 @@ use Rattle.memory.specs.declared.Entry.{Entry}
 use Rattle.memory.specs.declared.Sent.{Sent}
 use Rattle.gateway.specs.Rounds.{leastOutstanding, leastQueued}
 use Rattle.gateway.specs.Working.{pendingOf}
-use Rattle.timewarp.specs.Models.{first}
-use Rattle.timewarp.specs.Gateways.{cancel, message}
+use Rattle.event_steps.specs.Models.{first}
+use Rattle.event_steps.specs.Gateways.{cancel, message}
 use Rattle.run.proofs.QueueViews.{eventIf, eventFor, waitingOf, Marked, pending, processed, waiting, marked}
 
 -- a message's hour, as the theory has it

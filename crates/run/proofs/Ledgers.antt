@@ -22,8 +22,8 @@ use Rattle.gateway.specs.Undoing.{undone, pendingEntry}
 use Rattle.gateway.specs.Working.{pendingOf, processedNext}
 use Rattle.lists.specs.Lists.{beforeFirst, fromFirst}
 use Rattle.gateway.specs.Taking.{isLater, isCancelOf, isPlain, waitingEntry, takePlain, takeCancel}
-use Rattle.timewarp.specs.Models.{Model}
-use Rattle.timewarp.proofs.OrderLaws.{message-eq}
+use Rattle.event_steps.specs.Models.{Model}
+use Rattle.event_steps.proofs.OrderLaws.{message-eq}
 use Rattle.run.specs.SingleQueue.{SetUpInput}
 use Rattle.run.specs.Ledger as Ledger
 use Rattle.run.specs.Ledger.{Item, notDone, afterPlain, isItem, undoneAfter, afterCancel, didOne, committedOne, notDoneOf}

@@ -4,10 +4,10 @@ use mathlib.Core.Logic.{_≢_}
 use Prim.Native.Nat.{ℕ, _≤_}
 use mathlib.Core.List.{List, [], _∷_, _++_, append-assoc, append-nil}
 use Rattle.lists.proofs.FamilyLaws.{change-at, change-off}
-use Rattle.timewarp.specs.Models.{Model}
-use Rattle.timewarp.specs.Gateways.{Gateway, Network, after}
-use Rattle.timewarp.specs.EventSteps.{EventStep}
-use Rattle.timewarp.specs.RoundSteps.{Rounds, lower}
+use Rattle.event_steps.specs.Models.{Model}
+use Rattle.event_steps.specs.Gateways.{Gateway, Network, after}
+use Rattle.event_steps.specs.EventSteps.{EventStep}
+use Rattle.round_steps.specs.RoundSteps.{Rounds, lower}
 use Rattle.timewarp.specs.Worlds.{Setting, World, event, Steps, none as noSteps, then as oneMore, lowerAll}
 use Rattle.timewarp.proofs.CallChains.{steps-join}
 

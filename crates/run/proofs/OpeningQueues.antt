@@ -30,10 +30,10 @@ use Rattle.lists.specs.Lists.{beforeFirst, fromFirst}
 use Rattle.gateway.specs.Taking.{isLater}
 use Rattle.gateway.specs.SettingUp.{cutFrames, queued}
 use Rattle.gateway.proofs.Searches.{pending-member, behind-later}
-use Rattle.timewarp.specs.Models.{Model, stateAfter}
-use Rattle.timewarp.specs.Gateways.{gatewayOf}
-use Rattle.timewarp.specs.SingleQueue as Theory
-use Rattle.timewarp.proofs.OrderLaws.{message-eq}
+use Rattle.event_steps.specs.Models.{Model, stateAfter}
+use Rattle.event_steps.specs.Gateways.{gatewayOf}
+use Rattle.event_steps.specs.SingleQueue as Theory
+use Rattle.event_steps.proofs.OrderLaws.{message-eq}
 use Rattle.run.specs.SingleQueue.{SetUpInput, openingMessages, openingQueue}
 use Rattle.run.specs.Ledger as Ledger
 use Rattle.run.specs.Ledger.{afterPlain}

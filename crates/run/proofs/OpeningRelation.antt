@@ -9,7 +9,7 @@ use Rattle.memory.proofs.Validated.{valid-facts}
 use Rattle.gateway.specs.SettingUp.{opened}
 use Rattle.gateway.specs.Claims.{SoundBytes}
 use Rattle.gateway.proofs.SoundAfter.{never-unsound}
-use Rattle.timewarp.specs.Models.{stateAfter}
+use Rattle.event_steps.specs.Models.{stateAfter}
 use Rattle.timewarp.specs.Worlds as Worlds
 use Rattle.run.specs.SingleQueue.{SetUpInput}
 use Rattle.run.specs.World.{openingWorld}

@@ -20,10 +20,10 @@ use Rattle.gateway.specs.Calls.{setUp, agreedTime}
 use Rattle.gateway.specs.declared.Opening.{Opening}
 use Rattle.gateway.proofs.Maintaining.{Kept}
 use Rattle.gateway.proofs.Openings.{opened-keeps, opening-long}
-use Rattle.timewarp.specs.Gateways.{openingData}
-use Rattle.timewarp.specs.Arcs.{Graph}
-use Rattle.timewarp.specs.RoundSteps as RoundSteps
-use Rattle.timewarp.specs.SingleQueue as Theory
+use Rattle.event_steps.specs.Gateways.{openingData}
+use Rattle.round_steps.specs.Arcs.{Graph}
+use Rattle.round_steps.specs.RoundSteps as RoundSteps
+use Rattle.event_steps.specs.SingleQueue as Theory
 use Rattle.timewarp.specs.Worlds as Worlds
 use Rattle.run.specs.SingleQueue.{SetUpInput, openingMessages, openingQueue, steps, turnsFor, wholeRecord}
 use Rattle.run.specs.World.{openingWorld}

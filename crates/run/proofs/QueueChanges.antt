@@ -18,8 +18,8 @@ use Rattle.lists.proofs.BoolLaws.{and-left, and-right}
 use Rattle.gateway.specs.Undoing.{processedOf}
 use Rattle.gateway.specs.Working.{pendingOf, processedNext}
 use Rattle.gateway.specs.Taking.{isCancelOf, isSent}
-use Rattle.timewarp.specs.Models.{stateAfter}
-use Rattle.timewarp.specs.Gateways.{plain, cancel}
+use Rattle.event_steps.specs.Models.{stateAfter}
+use Rattle.event_steps.specs.Gateways.{plain, cancel}
 use Rattle.run.specs.SingleQueue.{SetUpInput}
 use Rattle.run.proofs.QueueViews.{eventIf, eventFor, doneWith, doneAfter, waitingOf, Marked, marked, pending, processed, waiting}
 use Rattle.run.proofs.SavedStates.{Saved, at-end, entry, saved-more, saved-state, stateAt}

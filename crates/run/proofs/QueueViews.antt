@@ -10,7 +10,7 @@ use Rattle.memory.specs.declared.Mark.{Mark}
 use Rattle.memory.specs.declared.Mark.the-variants.{Pending, Processed, Waiting}
 use Rattle.gateway.specs.Undoing.{undone}
 use Rattle.gateway.specs.Working.{pendingOf}
-use Rattle.timewarp.specs.Gateways.{Event, plain, cancel, Gateway, gatewayOf}
+use Rattle.event_steps.specs.Gateways.{Event, plain, cancel, Gateway, gatewayOf}
 
 -- a message, or its cancel, as an event
 abbrev pub eventIf : Bool → Message → Event Message

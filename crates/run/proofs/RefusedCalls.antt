@@ -12,7 +12,7 @@ use Rattle.memory.specs.Records.{Gateway}
 use Rattle.memory.specs.Codec.{decode, encode}
 use Rattle.gateway.specs.SettingUp.{setUpRefusal, cutFrames}
 use Rattle.gateway.specs.Effects.{bytesOfFrames, fits}
-use Rattle.gateway.specs.Working.{Progress, stopped, onceMore, workedBy, worked, done, pendingOf}
+use Rattle.gateway.specs.Working.{Progress, noneDone, onceMore, workedBy, worked, done, pendingOf}
 use Rattle.gateway.specs.Claims.{SoundBytes}
 use Rattle.gateway.specs.Calls.{setUp, taken, started, committed, workedOff}
 use Rattle.gateway.specs.declared.Opening.{Opening}
@@ -66,12 +66,12 @@ no-event (suc b) room g h = next (pendingOf (g .queue)) h
     rest : Message → Progress
     rest m = onceMore (bytesOfFrames (done m g .frames)) (worked b (room - length (bytesOfFrames (done m g .frames))) (done m g .gateway))
 
-    once : (m : Message) (t : Bool) → cond t (rest m) (stopped 5 g) .count ≡ 0 → NoEvent g (cond t (rest m) (stopped 5 g))
+    once : (m : Message) (t : Bool) → cond t (rest m) (noneDone 5 g) .count ≡ 0 → NoEvent g (cond t (rest m) (noneDone 5 g))
     once m true k = absurd (omega arith)
     once m false k = record { gateway = refl; output = refl }
 
-    next : (ms : List Message) → workedBy ms (stopped 6 g) (λ m. cond (fits room (done m g)) (rest m) (stopped 5 g)) .count ≡ 0
-        → NoEvent g (workedBy ms (stopped 6 g) (λ m. cond (fits room (done m g)) (rest m) (stopped 5 g)))
+    next : (ms : List Message) → workedBy ms (noneDone 6 g) (λ m. cond (fits room (done m g)) (rest m) (noneDone 5 g)) .count ≡ 0
+        → NoEvent g (workedBy ms (noneDone 6 g) (λ m. cond (fits room (done m g)) (rest m) (noneDone 5 g)))
     next [] k = record { gateway = refl; output = refl }
     next (m ∷ ms) k = once m (fits room (done m g)) k
 

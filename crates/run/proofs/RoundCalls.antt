@@ -19,15 +19,15 @@ use Rattle.memory.specs.declared.Phase.the-variants.{Idle, Counting, Stopped}
 use Rattle.gateway.specs.Effects.{Effect, withRound, withAgreed}
 use Rattle.gateway.specs.Rounds.{leastOutstanding, leastQueued, framesInRound, finished, begun, oneStart, oneLvt, valueIn, valueAt, bitOf}
 use Rattle.gateway.specs.Rounds.{allBits, isIdle, idle}
-use Rattle.timewarp.specs.Arcs
-use Rattle.timewarp.specs.Models.{Model}
-use Rattle.timewarp.specs.RoundSteps
-use Rattle.timewarp.specs.RoundSteps.{RoundFrame, start, lvt, update}
+use Rattle.round_steps.specs.Arcs
+use Rattle.event_steps.specs.Models.{Model}
+use Rattle.round_steps.specs.RoundSteps
+use Rattle.round_steps.specs.RoundSteps.{RoundFrame, start, lvt, update}
 use Rattle.timewarp.specs.Worlds.{World}
 use Rattle.timewarp.specs.Worlds
 use Rattle.timewarp.proofs.Joined.{Good}
-use Rattle.timewarp.proofs.RoundCarried.{all-from, all-to}
-use Rattle.timewarp.proofs.RoundInvariants.{in-turn}
+use Rattle.round_steps.proofs.RoundCarried.{all-from, all-to}
+use Rattle.round_steps.proofs.RoundInvariants.{in-turn}
 use Rattle.run.specs.World
 use Rattle.run.proofs.FigureGraph.{figureGraph, arcLaws, tells-is, hears-is}
 use Rattle.run.proofs.ArrivalBits.{howMany, AllIn, all-in, not-all, all-in?}

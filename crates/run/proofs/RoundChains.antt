@@ -15,17 +15,17 @@ use Rattle.lists.proofs.FamilyLaws.{Same, same, other, same?, Changed, at, off,
 use Rattle.memory.specs.declared.Round.{Round}
 use Rattle.memory.specs.declared.Phase.the-variants.{Idle, Counting, Stopped}
 use Rattle.gateway.specs.Rounds.{bitOf}
-use Rattle.timewarp.specs.Arcs.{Graph, Arc, times}
-use Rattle.timewarp.specs.Models.{Model}
-use Rattle.timewarp.specs.RoundSteps.{Rounds, RoundFrame, start, lvt, update, idle, counting, stopped, finished, begin, hear, stop, takeLvt}
-use Rattle.timewarp.specs.RoundSteps.{finish, close, takeUpdate, Stops, begins, hears, stops, takes-lvt, finishes, closes, takes-update}
-use Rattle.timewarp.specs.RoundSteps.{InTurn, start-in-turn, lvt-in-turn}
+use Rattle.round_steps.specs.Arcs.{Graph, Arc, times}
+use Rattle.event_steps.specs.Models.{Model}
+use Rattle.round_steps.specs.RoundSteps.{Rounds, RoundFrame, start, lvt, update, idle, counting, stopped, finished, begin, hear, stop, takeLvt}
+use Rattle.round_steps.specs.RoundSteps.{finish, close, takeUpdate, Stops, begins, hears, stops, takes-lvt, finishes, closes, takes-update}
+use Rattle.round_steps.specs.RoundSteps.{InTurn, start-in-turn, lvt-in-turn}
 use Rattle.timewarp.specs.Worlds.{Setting, World, round, Steps, then, leastOutstanding, leastWaiting}
-use Rattle.timewarp.proofs.RoundArcs.{fresh, begun, back, StateOf, ArcStates}
-use Rattle.timewarp.proofs.RoundReach.{all-done}
-use Rattle.timewarp.proofs.RoundCarried.{of-lvt}
-use Rattle.timewarp.proofs.RoundInvariants.{RoundSound, in-turn}
-use Rattle.timewarp.proofs.Histories.{OutstandingFrom, WaitingFrom}
+use Rattle.round_steps.proofs.RoundArcs.{fresh, begun, back, StateOf, ArcStates}
+use Rattle.round_steps.proofs.RoundReach.{all-done}
+use Rattle.round_steps.proofs.RoundCarried.{of-lvt}
+use Rattle.round_steps.proofs.RoundInvariants.{RoundSound, in-turn}
+use Rattle.event_steps.proofs.Histories.{OutstandingFrom, WaitingFrom}
 use Rattle.timewarp.proofs.Joined.{Good, good-steps}
 use Rattle.run.specs.World
 use Rattle.run.proofs.FigureGraph.{figureGraph}

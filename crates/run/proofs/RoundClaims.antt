@@ -4,11 +4,11 @@ use Prim.Native.Nat.{ℕ, suc, _+_, _*_, _-_, _≤_, _<_}
 use mathlib.Core.Bool.{true}
 use native.Mathlib.Omega.{arith}
 use Rattle.routing.specs.Arcs.{arcCount}
-use Rattle.timewarp.specs.Models.{Model}
-use Rattle.timewarp.specs.RoundSteps
+use Rattle.event_steps.specs.Models.{Model}
+use Rattle.round_steps.specs.RoundSteps
 use Rattle.timewarp.specs.Worlds
 use Rattle.timewarp.proofs.Joined.{Good}
-use Rattle.timewarp.proofs.RoundInvariants.{round-count}
+use Rattle.round_steps.proofs.RoundInvariants.{round-count}
 use Rattle.run.specs.World
 use Rattle.run.specs.Demand3.{Completed}
 use Rattle.run.proofs.FigureGraph.{figureGraph, arcLaws, same-round-messages}

@@ -10,9 +10,9 @@ use lib.ListN.{length}
 use Rattle.routing.specs.Arcs.{children}
 use Rattle.lists.specs.Families.{change, put}
 use Rattle.lists.proofs.FamilyLaws.{Changed, at, off, change?, change-at, change-off, Put, put?}
-use Rattle.timewarp.specs.Arcs.{Graph, Arc}
-use Rattle.timewarp.specs.RoundSteps.{idle, counting, stopped, finished, RoundFrame, raise, lower, begin, hear, stop, takeLvt, finish, close, takeUpdate}
-use Rattle.timewarp.specs.RoundSteps
+use Rattle.round_steps.specs.Arcs.{Graph, Arc}
+use Rattle.round_steps.specs.RoundSteps.{idle, counting, stopped, finished, RoundFrame, raise, lower, begin, hear, stop, takeLvt, finish, close, takeUpdate}
+use Rattle.round_steps.specs.RoundSteps
 use Rattle.run.specs.World.{Rounds, tookMore, opens, closes, acceptsUpdate}
 use Rattle.run.proofs.ArrivalBits.{oneIf, howMany, alike, none-in}
 use Rattle.run.proofs.Standing.{lvtIn, lvts-after-start, lvts-elsewhere, lvts-here}

@@ -8,9 +8,9 @@ use Rattle.model.specs.EventOrder.{key}
 use Rattle.model.specs.declared.Message.{Message}
 use Rattle.memory.specs.Records.{Gateway}
 use Rattle.gateway.specs.Effects.{withRound, noted}
-use Rattle.timewarp.specs.Models.{hour, first}
-use Rattle.timewarp.specs.RoundSteps
-use Rattle.timewarp.specs.RoundSteps.{RoundFrame}
+use Rattle.event_steps.specs.Models.{hour, first}
+use Rattle.round_steps.specs.RoundSteps
+use Rattle.round_steps.specs.RoundSteps.{RoundFrame}
 use Rattle.timewarp.specs.Worlds.{lowerAll}
 use Rattle.run.specs.SingleQueue.{SetUpInput}
 use Rattle.run.specs.World

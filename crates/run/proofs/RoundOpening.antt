@@ -7,8 +7,8 @@ use native.Mathlib.Omega.{arith}
 use Rattle.memory.specs.Records.{Gateway}
 use Rattle.memory.specs.declared.Round.{Round}
 use Rattle.gateway.specs.Rounds.{idle}
-use Rattle.timewarp.specs.Models.{Model}
-use Rattle.timewarp.specs.RoundSteps
+use Rattle.event_steps.specs.Models.{Model}
+use Rattle.round_steps.specs.RoundSteps
 use Rattle.run.specs.World
 use Rattle.run.proofs.FigureGraph.{figureGraph}
 use Rattle.run.proofs.ArrivalBits.{none-in}

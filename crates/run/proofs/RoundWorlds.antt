@@ -16,15 +16,15 @@ use Rattle.gateway.specs.Effects.{Effect, withAgreed, withRound, noted}
 use Rattle.gateway.specs.Rounds.{allBits, begun, oneStart, oneLvt, bitOf, isIdle, valueIn, framesInRound}
 use Rattle.model.specs.declared.Kind.the-variants.{Update}
 use Rattle.routing.specs.Arcs.{from, to, children}
-use Rattle.timewarp.specs.Models.{Model}
-use Rattle.timewarp.specs.RoundSteps
-use Rattle.timewarp.specs.RoundSteps.{RoundFrame, start, lvt, update}
+use Rattle.event_steps.specs.Models.{Model}
+use Rattle.round_steps.specs.RoundSteps
+use Rattle.round_steps.specs.RoundSteps.{RoundFrame, start, lvt, update}
 use Rattle.timewarp.specs.Worlds
 use Rattle.timewarp.specs.Worlds.{Steps, none}
-use Rattle.timewarp.proofs.RoundFrames.{startOn, both-is}
-use Rattle.timewarp.proofs.RoundArcs.{StateOf}
-use Rattle.timewarp.proofs.RoundArcs
-use Rattle.timewarp.proofs.RoundCarried.{of-start, of-lvt}
+use Rattle.round_steps.proofs.RoundFrames.{startOn, both-is}
+use Rattle.round_steps.proofs.RoundArcs.{StateOf}
+use Rattle.round_steps.proofs.RoundArcs
+use Rattle.round_steps.proofs.RoundCarried.{of-start, of-lvt}
 use Rattle.timewarp.proofs.Joined.{Good}
 use Rattle.run.specs.World
 use Rattle.run.proofs.FigureGraph.{figureGraph}

@@ -26,7 +26,7 @@ use Rattle.gateway.specs.Rounds.{start}
 use Rattle.gateway.specs.Calls.{started, taken, takeBytes}
 use Rattle.gateway.specs.Claims.{SoundBytes}
 use Rattle.gateway.proofs.Keeps.{start-keeps, bytes-keep}
-use Rattle.timewarp.specs.Models.{hour}
+use Rattle.event_steps.specs.Models.{hour}
 use Rattle.timewarp.specs.Worlds as Worlds
 use Rattle.timewarp.proofs.CallChains.{steps-join}
 use Rattle.run.specs.SingleQueue.{SetUpInput}

@@ -27,10 +27,10 @@ use Rattle.gateway.specs.Effects.{Effect, Outcome, withAgreed}
 use Rattle.gateway.specs.Rounds.{allBits, start, begun, isIdle, oneStart, oneLvt, bitOf, valueIn, framesInRound}
 use Rattle.gateway.specs.Calls.{started, taken, takeBytes}
 use Rattle.gateway.proofs.Accepting.{not-refused}
-use Rattle.timewarp.specs.Models.{Model}
-use Rattle.timewarp.specs.Gateways.{Event, networkOf}
-use Rattle.timewarp.specs.RoundSteps
-use Rattle.timewarp.specs.RoundSteps.{RoundFrame}
+use Rattle.event_steps.specs.Models.{Model}
+use Rattle.event_steps.specs.Gateways.{Event, networkOf}
+use Rattle.round_steps.specs.RoundSteps
+use Rattle.round_steps.specs.RoundSteps.{RoundFrame}
 use Rattle.timewarp.specs.Worlds
 use Rattle.timewarp.proofs.Joined.{Good}
 use Rattle.run.specs.World

@@ -14,8 +14,8 @@ use Rattle.frame.specs.Writing.{written}
 use Rattle.frame.specs.declared.Frame.{Frame}
 use Rattle.buffer.proofs.Equality.{same-bytes}
 use Rattle.gateway.specs.Rounds.{framesInRound}
-use Rattle.timewarp.specs.Arcs
-use Rattle.timewarp.specs.RoundSteps.{RoundFrame, start, lvt, update}
+use Rattle.round_steps.specs.Arcs
+use Rattle.round_steps.specs.RoundSteps.{RoundFrame, start, lvt, update}
 use Rattle.run.specs.World.{Carried, isFrame, tagOf, carry, kindIn}
 
 -- a frame of round t as a frame of the theory, if it is one of a round

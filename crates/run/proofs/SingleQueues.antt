@@ -20,10 +20,10 @@ use Rattle.model.specs.declared.Site.{Site}
 use Rattle.model.proofs.Sending.{sending}
 use Rattle.frame.specs.Limits.{nothingDue}
 use Rattle.memory.specs.Validity.{later, isAfter}
-use Rattle.timewarp.specs.Models.{Model, NotLater, stateAfter, sentBy}
-use Rattle.timewarp.specs.SingleQueue as Theory
-use Rattle.timewarp.proofs.OrderLaws.{order-refl, order-antisym, message-eq}
-use Rattle.timewarp.proofs.QueueLaws.{first-taken, first-least, queue-ends}
+use Rattle.event_steps.specs.Models.{Model, NotLater, stateAfter, sentBy}
+use Rattle.event_steps.specs.SingleQueue as Theory
+use Rattle.event_steps.proofs.OrderLaws.{order-refl, order-antisym, message-eq}
+use Rattle.event_steps.proofs.QueueLaws.{first-taken, first-least, queue-ends}
 use Rattle.memory.specs.Records.{siteOf}
 use Rattle.gateway.specs.SettingUp.{settingsOf}
 use Rattle.gateway.specs.Committing.{recordFor}

@@ -12,8 +12,8 @@ use Rattle.memory.specs.declared.Phase.{Phase}
 use Rattle.memory.specs.declared.Phase.the-variants.{Idle, Counting, Stopped}
 use Rattle.gateway.specs.Rounds.{bitOf}
 use Rattle.gateway.specs.Effects.{loweredIn}
-use Rattle.timewarp.specs.Arcs.{Graph, Arc}
-use Rattle.timewarp.specs.RoundSteps.{idle, counting, stopped, finished, noted}
+use Rattle.round_steps.specs.Arcs.{Graph, Arc}
+use Rattle.round_steps.specs.RoundSteps.{idle, counting, stopped, finished, noted}
 use Rattle.run.proofs.ArrivalBits.{bitsOf, howMany, alike, one-more, none-in}
 
 -- the Starts that have come to i, and the Lvts

@@ -11,9 +11,9 @@ use Rattle.model.specs.declared.State.{State}
 use Rattle.memory.specs.declared.Entry.{Entry}
 use Rattle.gateway.specs.Undoing.{processedOf, undone, sentBack}
 use Rattle.gateway.specs.Working.{pendingOf}
-use Rattle.timewarp.specs.Models.{Model, NotLater, stateAfter, sentBy}
-use Rattle.timewarp.specs.Gateways.{Event, cancel, message, gatewayOf, networkOf}
-use Rattle.timewarp.specs.EventSteps.{undoes}
+use Rattle.event_steps.specs.Models.{Model, NotLater, stateAfter, sentBy}
+use Rattle.event_steps.specs.Gateways.{Event, cancel, message, gatewayOf, networkOf}
+use Rattle.event_steps.specs.EventSteps.{undoes}
 use Rattle.timewarp.proofs.CallChains.{insert-append}
 use Rattle.run.specs.SingleQueue.{SetUpInput}
 use Rattle.run.proofs.ForecastModel.{forecastModel, siteAt, sendsAt}

@@ -17,12 +17,12 @@ use Rattle.memory.specs.declared.Entry.{Entry}
 use Rattle.memory.specs.declared.Round.{Round}
 use Rattle.memory.proofs.Validated.{valid-facts}
 use Rattle.gateway.specs.Effects.{bytesOfFrames, fits, noted}
-use Rattle.gateway.specs.Working.{Progress, stopped, onceMore, workedBy, worked, done, pendingOf}
+use Rattle.gateway.specs.Working.{Progress, noneDone, onceMore, workedBy, worked, done, pendingOf}
 use Rattle.gateway.proofs.Maintaining.{Proper}
 use Rattle.gateway.proofs.Keeps.{work-keeps}
 use Rattle.gateway.proofs.Replies.{Good}
 use Rattle.gateway.proofs.Searches.{pending-member}
-use Rattle.timewarp.specs.Arcs.{Graph}
+use Rattle.round_steps.specs.Arcs.{Graph}
 use Rattle.timewarp.specs.Worlds.{World, none, lowerAll}
 use Rattle.run.specs.SingleQueue.{SetUpInput}
 use Rattle.run.specs.Ledger as Ledger
@@ -59,7 +59,7 @@ module _ (n last : ℕ) (setups : ℕ → SetUpInput) (G : Graph) (same : G .las
   module _ (w : World (settingOf n last setups G same)) (g : Gateway) (cs : List Carried) (l : Ledger.Ledger) (st : Stands n last setups i c
       g) (sees : Sees n last setups G same w i c g cs) (follows : Follows n last setups (g .queue) l) where
     -- no event is done
-    none-goes : (why : ℕ) → WorkGoes w g cs l (stopped why g)
+    none-goes : (why : ℕ) → WorkGoes w g cs l (noneDone why g)
     unfolding joined didSome notedAll lowerAll
     none-goes why =
         record {
@@ -172,7 +172,7 @@ module _ (n last : ℕ) (setups : ℕ → SetUpInput) (G : Graph) (same : G .las
       rest m = onceMore (bytesOfFrames (done m g .frames)) (worked b (room - length (bytesOfFrames (done m g .frames))) (done m g .gateway))
 
       once : (m : Message) (ms : List Message) → pendingOf (g .queue) ≡ m ∷ ms → (t : Bool) → fits room (done m g) ≡ t → Again → WorkGoes w
-          g cs l (cond t (rest m) (stopped 5 g))
+          g cs l (cond t (rest m) (noneDone 5 g))
       once m ms k true h again =
           let proper = done-proper g p m ms k room h in
           let are-events = done-frames g st p m ms k in
@@ -195,7 +195,7 @@ module _ (n last : ℕ) (setups : ℕ → SetUpInput) (G : Graph) (same : G .las
           h .queue) d)) (did-follows n last setups (g .state) (g .queue) l follows)))
       once m ms k false h again = none-goes w g cs l st sees follows 5
 
-      next : (ms : List Message) → pendingOf (g .queue) ≡ ms → Again → WorkGoes w g cs l (workedBy ms (stopped 6 g) (λ m. cond (fits room
-          (done m g)) (rest m) (stopped 5 g)))
+      next : (ms : List Message) → pendingOf (g .queue) ≡ ms → Again → WorkGoes w g cs l (workedBy ms (noneDone 6 g) (λ m. cond (fits room
+          (done m g)) (rest m) (noneDone 5 g)))
       next [] k again = none-goes w g cs l st sees follows 6
       next (m ∷ ms) k again = once m ms k (fits room (done m g)) refl again

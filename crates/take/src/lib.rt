@@ -1,8 +1,4 @@
 // The call take: a byte string that is no frame, or no frame for this gateway, is refused; the others go by sense and kind.
-pub mod acknowledgment; // acknowledgment.rt: taking an acknowledgment
-
-use crate::acknowledgment::take_acknowledgment;
-use arrivals::take_in_round;
 use frame::Frame;
 use frame::Reading;
 use frame::Sense;
@@ -15,14 +11,18 @@ use model::kind_number;
 use reader::is_good;
 use reader::read;
 use soundness::checked;
+use take_acknowledgment::take_acknowledgment;
 use take_cancel::take_cancel;
+use take_lvt::take_timely_lvt;
 use take_plain::take_plain;
+use take_start::take_start;
+use take_update::take_update;
 ghost use mathlib.Core.Path.{_≡_};
+ghost use Prim.Native.Nat.{_<_};
+ghost use Rattle.model.specs.Messages.{kindNumber};
 ghost use Rattle.memory.specs.inside.Fits.{MessageFits};
-ghost use Rattle.gateway.specs.Effects as Effects;
-ghost use Rattle.gateway.specs.Calls.{left, takeByKind, takeFor, takeFrame, takeBytes, taken};
+ghost use Rattle.gateway.specs.Calls.{left, usable, takeByKind, takeFor, takeFrame, takeBytes, taken};
 ghost use Rattle.gateway.specs.inside.Premises.{Known, Leaves};
-ghost use Rattle.gateway.specs.Calls.{usable};
 
 pub fn take(memory: &mut [u8], frame: &[u8], output: &mut [u8]) -> Answer
     ensures { λ r. ⌜ left r (now (memory .exit)) (now (output .exit)) ≡ taken (now (memory .entry)) (now (frame .entry)) (now (output .entry)) ⌝ }
@@ -97,4 +97,19 @@ fn take_by_kind(memory: &mut [u8], output: &mut [u8], header: Header, message: M
         return take_plain(memory, output, header, message);
     }
     take_in_round(memory, output, header, message)
+}
+
+// A message of the round. A Restock is 1.
+fn take_in_round(memory: &mut [u8], output: &mut [u8], header: Header, message: Message) -> Answer
+    requires { ⌜ Known (now memory) header × (2 < kindNumber (message .kind)) ⌝ }
+    ensures { λ r. ⌜ Leaves r memory output (λ room g. takeByKind room message g (message .kind)) ⌝ }
+{
+    let kind = message.kind;
+    let number = kind_number(kind);
+    match number {
+        4 => take_start(memory, output, header, message.from),
+        5 => take_timely_lvt(memory, output, header, message),
+        6 => take_update(memory, output, header, message.from, message.hour),
+        _ => refused(1),
+    }
 }

@@ -8,21 +8,19 @@ use gateway::Answer;
 use gateway::refused;
 use memory::Header;
 use memory::Phase;
-use memory::Round;
 use model::Kind;
 use model::Message;
+use phases::awaited;
+use phases::changed;
+use phases::is_idle;
+use phases::stopped;
 use places::least::least_queued;
 use places::least::lesser;
-use round::steps::changed;
 use round::steps::finish;
-use round::steps::is_idle;
 ghost use mathlib.Core.Path.{_≡_};
-ghost use mathlib.Core.Bool.{not, _&&_};
-ghost use Prim.Native.Nat.{_<_};
-ghost use lib.Dec.{leb};
 ghost use Rattle.memory.specs.Codec.{decode};
 ghost use Rattle.gateway.specs.Effects.{settling};
-ghost use Rattle.gateway.specs.Rounds.{stands, oneLvt, takeLvt, valueIn};
+ghost use Rattle.gateway.specs.Rounds.{oneLvt, takeLvt, valueIn};
 ghost use Rattle.gateway.specs.Calls.{unlessBelow};
 ghost use Rattle.gateway.specs.inside.Premises.{Known, Leaves};
 
@@ -99,35 +97,5 @@ fn value_in(memory: &[u8], header: Header) -> u32
         Phase::Idle => 0,
         Phase::Counting => lesser(round.note, least_queued(memory, header.queued as usize)),
         Phase::Stopped => round.note,
-    }
-}
-
-// Whether a bit stands for a gateway, and has not yet arrived.
-pub fn awaited(bit: u8, arrived: u8) -> bool
-    ensures { λ r. ⌜ r ≡ (leb 1 bit && not (stands bit arrived)) ⌝ }
-{
-    if bit == 0 {
-        return false;
-    }
-    arrived / bit % 2 != 1
-}
-
-pub fn waiting(arrived: u8, note: u32) -> Round
-    ensures { λ r. ⌜ r ≡ record { phase = Phase.Idle; arrived = arrived; note = note } ⌝ }
-{
-    Round {
-        phase: Phase::Idle,
-        arrived,
-        note,
-    }
-}
-
-fn stopped(arrived: u8, value: u32) -> Round
-    ensures { λ r. ⌜ r ≡ record { phase = Phase.Stopped; arrived = arrived; note = value } ⌝ }
-{
-    Round {
-        phase: Phase::Stopped,
-        arrived,
-        note: value,
     }
 }

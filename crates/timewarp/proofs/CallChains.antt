@@ -8,17 +8,17 @@ use lib.Dec.{ltb, ltb→lt}
 use Rattle.lists.specs.Lists.{All, nil, cons, Insert, here, there, any, withoutFirst}
 use Rattle.lists.proofs.ListLaws.{insert-last, inserts-back, all-taken, all-map, all-left}
 use Rattle.lists.proofs.FamilyLaws.{change-at}
-use Rattle.timewarp.specs.Models.{Model, hour, NotLater, sentBy}
-use Rattle.timewarp.specs.SingleQueue.{isNotLater, earliest, others}
-use Rattle.timewarp.specs.Gateways.{Event, plain, cancel, message, Gateway, history, after}
-use Rattle.timewarp.specs.EventSteps.{does, undoes, takes, takesAcknowledgment, commits, Taking, becomesPending, meetsCancel, strikesOut, waits}
+use Rattle.event_steps.specs.Models.{Model, hour, NotLater, sentBy}
+use Rattle.event_steps.specs.SingleQueue.{isNotLater, earliest, others}
+use Rattle.event_steps.specs.Gateways.{Event, plain, cancel, message, Gateway, history, after}
+use Rattle.event_steps.specs.EventSteps.{does, undoes, takes, takesAcknowledgment, commits, Taking, becomesPending, meetsCancel, strikesOut, waits}
 use Rattle.timewarp.specs.Worlds.{Setting, World, Step, event, Steps, none, then}
 use Rattle.timewarp.proofs.ExampleCalls.{same, sameEvent, enqueue, becomes, doMessage, doEarliest, work, undoMessage, undoLater}
 use Rattle.timewarp.proofs.ExampleCalls.{undoBackTo, accept, acceptMet, acceptPending, acceptStriking, acceptWaiting, takePlain}
 use Rattle.timewarp.proofs.ExampleCalls.{takeCancel, takeAcknowledgment, oldest, newerOnes, commitOldest, commit}
-use Rattle.timewarp.proofs.OrderLaws.{Compared, sooner, later, compared, Sorted, empty, newest, order-refl, order-trans, order-antisym, not-later}
-use Rattle.timewarp.proofs.QueueLaws.{first-taken, first-least}
-use Rattle.timewarp.proofs.Histories.{bounds-events, acknowledgments-settle}
+use Rattle.event_steps.proofs.OrderLaws.{Compared, sooner, later, compared, Sorted, empty, newest, order-refl, order-trans, order-antisym, not-later}
+use Rattle.event_steps.proofs.QueueLaws.{first-taken, first-least}
+use Rattle.event_steps.proofs.Histories.{bounds-events, acknowledgments-settle}
 use Rattle.timewarp.proofs.Joined.{Good, good-steps}
 use Rattle.timewarp.proofs.Theorem.{bounds}
 

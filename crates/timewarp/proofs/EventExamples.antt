@@ -3,9 +3,9 @@ use mathlib.Core.List.{[], _∷_}
 use mathlib.Core.Path.{_≡_, refl}
 use Rattle.lists.specs.Lists.{any, withoutFirst}
 use Rattle.lists.specs.Families.{change, together}
-use Rattle.timewarp.specs.Models.{stateAfter, sentBy, first, hour}
-use Rattle.timewarp.specs.SingleQueue.{isNotLater, earliest, others, openingQueue, doNext, next, steps, measure, singleHistory}
-use Rattle.timewarp.specs.Gateways.{plain, cancel, history, gatewayOf, after, openingData}
+use Rattle.event_steps.specs.Models.{stateAfter, sentBy, first, hour}
+use Rattle.event_steps.specs.SingleQueue.{isNotLater, earliest, others, openingQueue, doNext, next, steps, measure, singleHistory}
+use Rattle.event_steps.specs.Gateways.{plain, cancel, history, gatewayOf, after, openingData}
 use Rattle.timewarp.specs.Worlds.{World, openingWorld}
 use Rattle.timewarp.proofs.ExampleCalls.{same, sameEvent, enqueue, becomes, doMessage, doEarliest, work, undoMessage, undoLater}
 use Rattle.timewarp.proofs.ExampleCalls.{undoBackTo, accept, acceptMet, acceptPending, acceptStriking, acceptWaiting, takePlain}

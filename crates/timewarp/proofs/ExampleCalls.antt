@@ -5,9 +5,9 @@ use mathlib.Core.List.{List, [], _∷_, _++_, map}
 use Prim.Native.Nat.{ℕ, zero, suc}
 use lib.Dec.{ltb}
 use Rattle.lists.specs.Lists.{any, withoutFirst}
-use Rattle.timewarp.specs.Models.{Model, hour, sentBy}
-use Rattle.timewarp.specs.SingleQueue.{isNotLater, earliest, others}
-use Rattle.timewarp.specs.Gateways.{Event, plain, cancel, Gateway, Network, history, gatewayOf, networkOf, after}
+use Rattle.event_steps.specs.Models.{Model, hour, sentBy}
+use Rattle.event_steps.specs.SingleQueue.{isNotLater, earliest, others}
+use Rattle.event_steps.specs.Gateways.{Event, plain, cancel, Gateway, Network, history, gatewayOf, networkOf, after}
 use Rattle.timewarp.specs.Worlds.{Setting, World, lowerAll}
 
 module _ (S : Setting) where

@@ -7,7 +7,7 @@ use native.Mathlib.Omega.{arith}
 use lib.Dec.{ltb, ltb→lt, lit<}
 use lib.ListN.{length}
 use Rattle.lists.specs.Lists.{All, nil, cons}
-use Rattle.timewarp.specs.Models.{Model, first}
+use Rattle.event_steps.specs.Models.{Model, first}
 use Rattle.timewarp.specs.Worlds.{Setting}
 use Rattle.timewarp.proofs.SmallGraphs.{two}
 

@@ -8,18 +8,18 @@ use native.Mathlib.Decide.{ℕ-discrete}
 use Rattle.lists.specs.Lists.{All, nil, Inserts, unchanged, one-more}
 use Rattle.lists.proofs.ListLaws.{all-map, all-every, all-insert, all-rest, all-before, all-head, all-tail, least-never, least-bounds, bounds-least}
 use Rattle.lists.proofs.FamilyLaws.{change-at, change-off, change-each}
-use Rattle.timewarp.specs.Models.{Model, hour}
-use Rattle.timewarp.specs.Gateways.{Event, message, Gateway, Network, Data, after, openingData}
-use Rattle.timewarp.specs.RoundSteps.{Rounds, opening, lower}
+use Rattle.event_steps.specs.Models.{Model, hour}
+use Rattle.event_steps.specs.Gateways.{Event, message, Gateway, Network, Data, after, openingData}
+use Rattle.round_steps.specs.RoundSteps.{Rounds, opening, lower}
 use Rattle.timewarp.specs.Worlds.{Setting, World, openingWorld, leastOutstanding, leastWaiting, lowerAll, Step, event, round, Steps}
 use Rattle.timewarp.specs.Worlds.{none, then, Reachable}
-use Rattle.timewarp.proofs.Invariants.{Sound, sound-step, sound-later}
-use Rattle.timewarp.proofs.Invariants as Invariants
-use Rattle.timewarp.proofs.Histories.{OutstandingFrom, WaitingFrom}
-use Rattle.timewarp.proofs.Effects.{Effect, effect}
-use Rattle.timewarp.proofs.RoundQueues.{Downward, Reading, Sends}
-use Rattle.timewarp.proofs.RoundInvariants.{RoundSound, sound-round, agreed-rises, sound-arrives, sound-sends}
-use Rattle.timewarp.proofs.RoundInvariants
+use Rattle.event_steps.proofs.Invariants.{Sound, sound-step, sound-later}
+use Rattle.event_steps.proofs.Invariants as Invariants
+use Rattle.event_steps.proofs.Histories.{OutstandingFrom, WaitingFrom}
+use Rattle.event_steps.proofs.Effects.{Effect, effect}
+use Rattle.round_steps.proofs.RoundQueues.{Downward, Reading, Sends}
+use Rattle.round_steps.proofs.RoundInvariants.{RoundSound, sound-round, agreed-rises, sound-arrives, sound-sends}
+use Rattle.round_steps.proofs.RoundInvariants
 
 module _ (S : Setting) where
   open Setting S using (model, graph, same-gateways)

@@ -1,26 +1,4 @@
 -- The laws and proofs of the theory.
-pub mod Acknowledging
-pub mod OrderLaws
-pub mod StepLaws
-pub mod EventCounts
-pub mod Conservation
-pub mod Ordering
-pub mod Addressing
-pub mod Invariants
-pub mod Uniqueness
-pub mod QueueLaws
-pub mod Histories
-pub mod Effects
-pub mod RoundQueues
-pub mod RoundArcs
-pub mod RoundFrames
-pub mod RoundReach
-pub mod RoundCarried
-pub mod RoundCut
-pub mod RoundFloor
-pub mod ArcLaws
-pub mod RoundCounts
-pub mod RoundInvariants
 pub mod Joined
 pub mod Theorem
 pub mod ExampleCalls

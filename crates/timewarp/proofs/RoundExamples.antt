@@ -7,12 +7,12 @@ use native.Mathlib.Omega.{arith}
 use Rattle.routing.specs.Arcs.{children}
 use Rattle.lists.specs.Lists.{nil, cons, here, there, tally, matches, count}
 use Rattle.lists.specs.Families.{change, put}
-use Rattle.timewarp.specs.Arcs.{Graph}
-use Rattle.timewarp.specs.RoundSteps.{Rounds, opening, raise, noted, lower, begin, hear, stop, takeLvt, finish, close, takeUpdate}
-use Rattle.timewarp.specs.RoundSteps.{as-it-starts, at-an-lvt, RoundStep, begins, hears, stops, takes-lvt, finishes, closes}
-use Rattle.timewarp.specs.RoundSteps.{takes-update, Completed}
+use Rattle.round_steps.specs.Arcs.{Graph}
+use Rattle.round_steps.specs.RoundSteps.{Rounds, opening, raise, noted, lower, begin, hear, stop, takeLvt, finish, close, takeUpdate}
+use Rattle.round_steps.specs.RoundSteps.{as-it-starts, at-an-lvt, RoundStep, begins, hears, stops, takes-lvt, finishes, closes}
+use Rattle.round_steps.specs.RoundSteps.{takes-update, Completed}
 use Rattle.timewarp.proofs.SmallGraphs.{single, two, toOfTwo, fromOfTwo, four, toOfFour, fromOfFour}
-use Rattle.timewarp.proofs.RoundCarried.{all-to, all-from}
+use Rattle.round_steps.proofs.RoundCarried.{all-to, all-from}
 
 -- the queues of the examples are read as the steps say
 abbrev Any : ℕ → ℕ → Type 0

@@ -8,7 +8,7 @@ use lib.ListN.{length}
 use Rattle.lists.specs.Lists.{tally, matches, count}
 use Rattle.lists.specs.Families.{sum}
 use Rattle.lists.proofs.ListLaws.{matches-other}
-use Rattle.timewarp.specs.Arcs.{Graph, times, arcCount, roundMessages}
+use Rattle.round_steps.specs.Arcs.{Graph, times, arcCount, roundMessages}
 
 -- one gateway has no arc
 unfoldable pub single : Graph

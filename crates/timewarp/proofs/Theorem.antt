@@ -5,15 +5,15 @@ use Prim.Native.Nat.{ℕ, _≤_}
 use native.Mathlib.Omega.{arith}
 use Rattle.lists.specs.Lists.{All}
 use Rattle.lists.proofs.ListLaws.{all-left, all-right, all-head, all-member}
-use Rattle.timewarp.specs.Models.{Model}
-use Rattle.timewarp.specs.Gateways.{history}
-use Rattle.timewarp.specs.SingleQueue.{singleHistory}
+use Rattle.event_steps.specs.Models.{Model}
+use Rattle.event_steps.specs.Gateways.{history}
+use Rattle.event_steps.specs.SingleQueue.{singleHistory}
 use Rattle.timewarp.specs.Worlds.{Setting, World, Steps, none, then, Reachable}
 use Rattle.timewarp.specs.Claims.{Claim, NothingToCommit, AlwaysClaimed}
-use Rattle.timewarp.proofs.Addressing.{Here}
-use Rattle.timewarp.proofs.ArcLaws.{round-below}
-use Rattle.timewarp.proofs.Histories.{Bounds, bounds-events, bounds-acknowledgments, committed-beginning, history-whole, acknowledgments-settle}
-use Rattle.timewarp.proofs.RoundInvariants.{round-count, in-turn}
+use Rattle.event_steps.proofs.Addressing.{Here}
+use Rattle.round_steps.proofs.ArcLaws.{round-below}
+use Rattle.event_steps.proofs.Histories.{Bounds, bounds-events, bounds-acknowledgments, committed-beginning, history-whole, acknowledgments-settle}
+use Rattle.round_steps.proofs.RoundInvariants.{round-count, in-turn}
 use Rattle.timewarp.proofs.Joined.{Good, good, good-steps, agreed-never-falls}
 
 -- A list is empty or has a last element.

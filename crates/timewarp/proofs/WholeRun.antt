@@ -8,16 +8,16 @@ use native.Mathlib.Omega.{arith}
 use Rattle.routing.specs.Arcs.{children}
 use Rattle.lists.specs.Lists.{least, Insert, here, there, nil, cons, tally, matches, count, any, withoutFirst}
 use Rattle.lists.specs.Families.{change, put}
-use Rattle.timewarp.specs.Models.{stateAfter, sentBy, first, hour}
-use Rattle.timewarp.specs.SingleQueue.{isNotLater, earliest, others}
-use Rattle.timewarp.specs.Gateways.{Event, plain, cancel, message, history, gatewayOf, after, openingData}
-use Rattle.timewarp.specs.RoundSteps.{opening, raise, noted, lower, begin, hear, stop, takeLvt, finish, close, takeUpdate}
-use Rattle.timewarp.specs.RoundSteps.{as-it-starts, at-an-lvt, begins, hears, stops, takes-lvt, finishes, closes, takes-update}
+use Rattle.event_steps.specs.Models.{stateAfter, sentBy, first, hour}
+use Rattle.event_steps.specs.SingleQueue.{isNotLater, earliest, others}
+use Rattle.event_steps.specs.Gateways.{Event, plain, cancel, message, history, gatewayOf, after, openingData}
+use Rattle.round_steps.specs.RoundSteps.{opening, raise, noted, lower, begin, hear, stop, takeLvt, finish, close, takeUpdate}
+use Rattle.round_steps.specs.RoundSteps.{as-it-starts, at-an-lvt, begins, hears, stops, takes-lvt, finishes, closes, takes-update}
 use Rattle.timewarp.specs.Worlds.{Setting, World, openingWorld, lowerAll, leastOutstanding, leastWaiting, round, then, Reachable}
 use Rattle.timewarp.proofs.ExampleCalls.{same, sameEvent, enqueue, becomes, doMessage, doEarliest, work, undoMessage, undoLater}
 use Rattle.timewarp.proofs.ExampleCalls.{undoBackTo, accept, acceptMet, acceptPending, acceptStriking, acceptWaiting, takePlain}
 use Rattle.timewarp.proofs.ExampleCalls.{takeCancel, takeAcknowledgment, oldest, newerOnes, commitOldest, commit}
-use Rattle.timewarp.proofs.RoundCarried.{all-to, all-from}
+use Rattle.round_steps.proofs.RoundCarried.{all-to, all-from}
 use Rattle.timewarp.proofs.SmallGraphs.{two, toOfTwo, fromOfTwo}
 use Rattle.timewarp.proofs.ExampleModel.{Parcel, passedOn, atFirst, relayOfTwo}
 use Rattle.timewarp.proofs.EventExamples.{p1, q5, a2, r6, s6, b3, early, straggler, overtaken, met}

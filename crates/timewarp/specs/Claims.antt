@@ -3,16 +3,12 @@ use mathlib.Core.List.{List, [], _∷_, _++_}
 use mathlib.Core.Path.{_≡_}
 use Prim.Native.Nat.{ℕ, suc, _*_, _≤_, _<_}
 use Rattle.lists.specs.Lists.{All, Insert}
-use Rattle.timewarp.specs.Models.{Model, hour}
-use Rattle.timewarp.specs.Gateways.{Event, message, Gateway}
-use Rattle.timewarp.specs.SingleQueue.{singleHistory}
-use Rattle.timewarp.specs.Arcs.{roundMessages}
-use Rattle.timewarp.specs.RoundSteps.{Completed, InTurn}
+use Rattle.event_steps.specs.Models.{Model, hour}
+use Rattle.event_steps.specs.Gateways.{Event, message, Gateway}
+use Rattle.event_steps.specs.SingleQueue.{singleHistory, EarlierPart}
+use Rattle.round_steps.specs.Arcs.{roundMessages}
+use Rattle.round_steps.specs.RoundSteps.{Completed, InTurn}
 use Rattle.timewarp.specs.Worlds.{Setting, World, Step, Reachable}
-
--- c is what was first of h: its beginning in time, as both have the newest event in front.
-abbrev pub EarlierPart : {A : Type 0} → List A → List A → Type 0
-EarlierPart {A} c h = (later : List A) × (h ≡ later ++ c)
 
 module _ (S : Setting) where
   open Setting S using (model, graph)

@@ -3,11 +3,11 @@ use mathlib.Core.List.{List, [], _∷_}
 use mathlib.Core.Path.{_≡_}
 use Prim.Native.Nat.{ℕ, _≤_, min}
 use Rattle.lists.specs.Lists.{least}
-use Rattle.timewarp.specs.Models.{Model, hour}
-use Rattle.timewarp.specs.Gateways.{message, Gateway, Network, Data, after, openingData}
-use Rattle.timewarp.specs.EventSteps.{EventStep}
-use Rattle.timewarp.specs.Arcs.{Graph}
-use Rattle.timewarp.specs.RoundSteps.{Rounds, RoundStep, lower, opening}
+use Rattle.event_steps.specs.Models.{Model, hour}
+use Rattle.event_steps.specs.Gateways.{message, Gateway, Network, Data, after, openingData}
+use Rattle.event_steps.specs.EventSteps.{EventStep}
+use Rattle.round_steps.specs.Arcs.{Graph}
+use Rattle.round_steps.specs.RoundSteps.{Rounds, RoundStep, lower, opening}
 
 -- What a forecast is run on: a model, and the arcs between the same gateways.
 pub record Setting : Type 1 where

@@ -1,1 +1,1 @@
-// The theory of the optimistic run, in specs/ (definitions) and proofs/ (laws). There is no code.
+// The theory of the optimistic run, events and rounds together: definitions in specs/, laws in proofs/. There is no code.

@@ -1,26 +1,62 @@
-// A turn of two gateways: they exchange their frames, they commit, and nothing may be left to do.
+// The turns of two gateways: in each they work, exchange their frames and commit, until nothing is left to do.
 use carrier::UnderWay;
-use commit::commit;
-use exchange::exchange;
+use carrier::bring_all;
+use committing::commit_both;
 use lines::Ends;
-use lines::append;
 use working::nothing_due;
-ghost use Prim.Native.Nat.{_≤_};
+use working::start_if_due;
+use working::work_both;
+ghost use Prim.Native.Nat.{_≤_, _<_};
 ghost use lib.ListN.{length};
 
 // How far the run has come, and whether nothing is left to do.
-pub struct Progress {
-    pub frames: UnderWay,
-    pub ends: Ends,
-    pub finished: bool,
+struct Progress {
+    frames: UnderWay,
+    ends: Ends,
+    finished: bool,
 }
 
-// One turn.
-pub fn turn(
+// Turns until nothing is left to do, at most 1000. Answers where the records end.
+pub fn take_turns(
     first: &mut [u8],
     second: &mut [u8],
     line: &mut [u8],
-    output: &mut [u8],
+    record0: &mut [u8],
+    record1: &mut [u8],
+) -> Ends
+    ensures { λ r. ⌜ (r .first ≤ length (now (record0 .entry))) × (r .second ≤ length (now (record1 .entry))) ⌝ }
+{
+    let mut progress = Progress {
+        frames: UnderWay { oldest: 0, end: 0 },
+        ends: Ends {
+            first: 0,
+            second: 0,
+        },
+        finished: false,
+    };
+    let mut turns: u32 = 1000;
+    while turns > 0 {
+        progress = turn(first, second, line, record0, record1, progress);
+        turns = turns_left(turns, progress.finished);
+    }
+    progress.ends
+}
+
+fn turns_left(turns: u32, finished: bool) -> u32
+    requires { ⌜ 0 < turns ⌝ }
+    ensures { λ r. ⌜ r < turns ⌝ }
+{
+    if finished {
+        return 0;
+    }
+    turns - 1
+}
+
+// One turn.
+fn turn(
+    first: &mut [u8],
+    second: &mut [u8],
+    line: &mut [u8],
     record0: &mut [u8],
     record1: &mut [u8],
     progress: Progress,
@@ -34,13 +70,27 @@ pub fn turn(
         × (r .ends .first ≤ length (now (record0 .entry)))
         × (r .ends .second ≤ length (now (record1 .entry))) ⌝ }
 {
-    let frames = exchange(first, second, line, output, progress.frames);
-    let ends = commit_both(first, second, output, record0, record1, progress.ends);
+    let frames = exchange(first, second, line, progress.frames);
+    let ends = commit_both(first, second, record0, record1, progress.ends);
     let finished = is_finished(first, second, frames);
     Progress {
         frames,
         ends,
         finished,
+    }
+}
+
+// The first three steps of a turn: both gateways work, the frames that are then under way are brought, gateway 0 gets the start call.
+fn exchange(first: &mut [u8], second: &mut [u8], line: &mut [u8], frames: UnderWay) -> UnderWay
+    requires { ⌜ (frames .oldest ≤ frames .end) × (frames .end ≤ length (now line)) ⌝ }
+    ensures { λ r. ⌜ (r .oldest ≤ r .end) × (r .end ≤ length (now (line .entry))) ⌝ }
+{
+    let worked = work_both(first, second, line, frames.end);
+    let brought = bring_all(first, second, line, frames.oldest, worked);
+    let end = start_if_due(first, line, brought.end);
+    UnderWay {
+        oldest: brought.oldest,
+        end,
     }
 }
 
@@ -53,42 +103,4 @@ fn is_finished(first: &[u8], second: &[u8], frames: UnderWay) -> bool {
         return false;
     }
     frames.oldest == frames.end
-}
-
-// The last step of a turn: gateway 0 commits what it can, then gateway 1.
-fn commit_both(
-    first: &mut [u8],
-    second: &mut [u8],
-    output: &mut [u8],
-    record0: &mut [u8],
-    record1: &mut [u8],
-    ends: Ends,
-) -> Ends
-    requires { ⌜ (ends .first ≤ length (now record0)) × (ends .second ≤ length (now record1)) ⌝ }
-    ensures { λ r. ⌜ (r .first ≤ length (now (record0 .entry))) × (r .second ≤ length (now (record1 .entry))) ⌝ }
-{
-    let end0 = commit_all(first, output, record0, ends.first);
-    let end1 = commit_all(second, output, record1, ends.second);
-    Ends {
-        first: end0,
-        second: end1,
-    }
-}
-
-// A gateway commits until it answers other than 0, at most 1000 events.
-fn commit_all(memory: &mut [u8], output: &mut [u8], events: &mut [u8], end: usize) -> usize
-    requires { ⌜ end ≤ length (now events) ⌝ }
-    ensures { λ r. ⌜ r ≤ length (now (events .entry)) ⌝ }
-{
-    let mut last = end;
-    let mut turns: u32 = 1000;
-    while turns > 0 {
-        let answer = commit(memory, output);
-        if answer.number != 0 {
-            return last;
-        }
-        last = append(events, last, output, answer.written);
-        turns -= 1;
-    }
-    last
 }

@@ -10,7 +10,6 @@ use Rattle.routing.specs.declared.Neighbours.{Neighbours}
 use Rattle.model.specs.declared.Message.{Message}
 use Rattle.frame.specs.Writing.{wellFormed}
 use Rattle.frame.specs.declared.Frame.{Frame}
-use Rattle.frame.specs.declared.Sense.the-variants.{Plain, Cancel}
 use Rattle.memory.specs.Validity.{oneOfTwo, arrivalsPossible, roundPossible, isWaiting, frameIf, storable}
 use Rattle.memory.specs.declared.Settings.{Settings}
 use Rattle.memory.specs.declared.Round.{Round}
@@ -50,13 +49,6 @@ round-decided s round own small p e = e ∙ rw (p, le-leb 1 (s .n) (omega arith)
 -- the form of a message as the frame that it was made into
 pub formed-as : (cancel : Bool) (m : Message) {f : Frame} {x : Bool} → f ≡ frameIf cancel m → x ≡ wellFormed f → x ≡ wellFormed (frameIf cancel m)
 formed-as cancel m p q = q ∙ ap wellFormed p
-
-module _ (m : Message) {cancel : Bool} where
-  pub frame-cancel : cancel ≡ true → record { message = m; sense = Cancel } ≡ frameIf cancel m
-  frame-cancel h = rw h
-
-  pub frame-plain : cancel ≡ false → record { message = m; sense = Plain } ≡ frameIf cancel m
-  frame-plain h = rw h
 
 -- a queued message is a cancel where it waits
 pub stored-as : (s : Settings) (e : Entry) {waits x : Bool} → waits ≡ isWaiting e → x ≡ storable s waits (e .message) → x ≡ storable s

@@ -1,10 +1,10 @@
-// What a gateway keeps to: settings, round, stored messages and their order. Each test is one of the definitions of validity.
-use frame::Frame;
-use frame::Sense;
+// What a gateway keeps to: settings, round and stored messages. Each test is one of the definitions of validity.
+use entries::frame_if;
+use entries::is_processed;
+use entries::is_waiting;
 use limits::numbers_below;
 use memory::Entry;
 use memory::HEADER_SIZE;
-use memory::Mark;
 use memory::OUTSTANDING_SIZE;
 use memory::Phase;
 use memory::QUEUE_SIZE;
@@ -12,38 +12,21 @@ use memory::Round;
 use memory::Sent;
 use memory::Settings;
 use model::Message;
-use model::Site;
 use model::State;
 use model::kind_number;
-use model::order::Comparison;
-use order::compare;
-use routing::neighbours_of;
+use neighbours::neighbours_of;
 use rules::well_formed;
 ghost use mathlib.Core.Path.{_≡_};
-ghost use mathlib.Core.Bool.{not};
 ghost use Prim.Native.Nat.{_<_};
-ghost use Rattle.model.specs.EventOrder.{different};
-ghost use Rattle.memory.specs.Records.{siteOf};
 ghost use Rattle.memory.specs.Layout.{sizeFor};
-ghost use Rattle.memory.specs.Validity.{settingsValid, oneOfTwo, arrivalsPossible, roundPossible, pendingMark, processedMark, waitingMark, equal};
-ghost use Rattle.memory.specs.Validity.{isAfter, later, oneWaits, frameIf, storable, isNoState, entryValid, sentValid};
+ghost use Rattle.memory.specs.Validity.{settingsValid, oneOfTwo, arrivalsPossible, roundPossible};
+ghost use Rattle.memory.specs.Validity.{storable, isNoState, entryValid, sentValid};
 
 // How long the memory has to be for its settings.
 pub fn size_for(settings: Settings) -> usize
     ensures { λ r. ⌜ r ≡ sizeFor (settings .q) (settings .u) ⌝ }
 {
     HEADER_SIZE + QUEUE_SIZE * (settings.q as usize) + OUTSTANDING_SIZE * (settings.u as usize)
-}
-
-// Where a gateway's messages are done.
-pub fn site_of(settings: Settings) -> Site
-    ensures { λ r. ⌜ r ≡ siteOf settings ⌝ }
-{
-    Site {
-        own: settings.own,
-        supplier: settings.supplier,
-        last: settings.last,
-    }
 }
 
 // N 1 to 255, own number and supplier below N, H below nothing due, Q and U 1 to 512. N has one byte.
@@ -124,81 +107,6 @@ fn one_of_two(arrived: u8) -> bool
     arrived <= 2
 }
 
-// What a queue place holds: a plain message not processed, one that is, a waiting cancel.
-pub fn is_pending(mark: Mark) -> bool
-    ensures { λ r. ⌜ r ≡ pendingMark mark ⌝ }
-{
-    match mark {
-        Mark::Pending => true,
-        Mark::Processed => false,
-        Mark::Waiting => false,
-    }
-}
-
-pub fn is_processed(mark: Mark) -> bool
-    ensures { λ r. ⌜ r ≡ processedMark mark ⌝ }
-{
-    match mark {
-        Mark::Pending => false,
-        Mark::Processed => true,
-        Mark::Waiting => false,
-    }
-}
-
-pub fn is_waiting(mark: Mark) -> bool
-    ensures { λ r. ⌜ r ≡ waitingMark mark ⌝ }
-{
-    match mark {
-        Mark::Pending => false,
-        Mark::Processed => false,
-        Mark::Waiting => true,
-    }
-}
-
-// Whether two messages are wholly equal.
-pub fn equal(a: Message, b: Message) -> bool
-    ensures { λ r. ⌜ r ≡ equal a b ⌝ }
-{
-    is_same(compare(a, b))
-}
-
-// Whether a is later than b in event order.
-pub fn later(a: Message, b: Message) -> bool
-    ensures { λ r. ⌜ r ≡ later a b ⌝ }
-{
-    is_after(compare(a, b))
-}
-
-fn is_same(found: Comparison) -> bool
-    ensures { λ r. ⌜ r ≡ not (different found) ⌝ }
-{
-    match found {
-        Comparison::Before => false,
-        Comparison::Same => true,
-        Comparison::After => false,
-    }
-}
-
-fn is_after(found: Comparison) -> bool
-    ensures { λ r. ⌜ r ≡ isAfter found ⌝ }
-{
-    match found {
-        Comparison::Before => false,
-        Comparison::Same => false,
-        Comparison::After => true,
-    }
-}
-
-// Whether one of the two is a waiting cancel and the other is not.
-pub fn one_waits(a: Mark, b: Mark) -> bool
-    ensures { λ r. ⌜ r ≡ oneWaits a b ⌝ }
-{
-    if is_waiting(a) {
-        return !is_waiting(b);
-    }
-    is_waiting(b)
-}
-
 // Whether a message is of a form, numbers and hour that a place can hold.
 pub fn storable(settings: Settings, cancel: bool, message: Message) -> bool
     ensures { λ r. ⌜ r ≡ storable settings cancel message ⌝ }
@@ -214,22 +122,6 @@ pub fn storable(settings: Settings, cancel: bool, message: Message) -> bool
         return false;
     }
     message.hour <= settings.last
-}
-
-// A message as a frame: a cancel, or plain.
-pub fn frame_if(cancel: bool, message: Message) -> Frame
-    ensures { λ r. ⌜ r ≡ frameIf cancel message ⌝ }
-{
-    if cancel {
-        return Frame {
-            message,
-            sense: Sense::Cancel,
-        };
-    }
-    Frame {
-        message,
-        sense: Sense::Plain,
-    }
 }
 
 // Whether a queued message can be stored, is addressed here, and has a state saved only if it is processed.

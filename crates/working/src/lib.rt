@@ -13,37 +13,33 @@ pub fn nothing_due(memory: &[u8]) -> bool {
 }
 
 // Gateway 0 works, then gateway 1.
-pub fn work_both(
-    first: &mut [u8],
-    second: &mut [u8],
-    line: &mut [u8],
-    output: &mut [u8],
-    end: usize,
-) -> usize
+pub fn work_both(first: &mut [u8], second: &mut [u8], line: &mut [u8], end: usize) -> usize
     requires { ⌜ end ≤ length (now line) ⌝ }
     ensures { λ r. ⌜ (end ≤ r) × (r ≤ length (now (line .entry))) ⌝ }
 {
-    let behind = work_off(first, line, output, end);
-    work_off(second, line, output, behind)
+    let behind = work_off(first, line, end);
+    work_off(second, line, behind)
 }
 
 // A gateway works with B = 4.
-fn work_off(memory: &mut [u8], line: &mut [u8], output: &mut [u8], end: usize) -> usize
+fn work_off(memory: &mut [u8], line: &mut [u8], end: usize) -> usize
     requires { ⌜ end ≤ length (now line) ⌝ }
     ensures { λ r. ⌜ (end ≤ r) × (r ≤ length (now (line .entry))) ⌝ }
 {
-    let worked = work(memory, output, 4);
-    append(line, end, output, worked.written)
+    let mut output = io::buffer();
+    let worked = work(memory, &mut output, 4);
+    append(line, end, &output, worked.written)
 }
 
 // The start call, unless the agreed time is nothing due. It is refused while a round is open.
-pub fn start_if_due(memory: &mut [u8], line: &mut [u8], output: &mut [u8], end: usize) -> usize
+pub fn start_if_due(memory: &mut [u8], line: &mut [u8], end: usize) -> usize
     requires { ⌜ end ≤ length (now line) ⌝ }
     ensures { λ r. ⌜ (end ≤ r) × (r ≤ length (now (line .entry))) ⌝ }
 {
     if nothing_due(memory) {
         return end;
     }
-    let answer = start(memory, output);
-    append(line, end, output, answer.written)
+    let mut output = io::buffer();
+    let answer = start(memory, &mut output);
+    append(line, end, &output, answer.written)
 }

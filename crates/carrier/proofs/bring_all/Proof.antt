@@ -7,11 +7,11 @@ use Rattle.carrier.proofs.bring_all.Statement.{statement}
 use Rattle.carrier.proofs.bring_all.Tie as tie
 
 abbrev Inv-loop : tie.InvT-loop
-Inv-loop first₀ second₀ line₀ output₀ oldest end at₀ last₀ first second line output at last = (end ≤ last) × (last ≤ length line) × (length
-    first ≡ length first₀) × (length second ≡ length second₀) × (length line ≡ length line₀) × (length output ≡ length output₀)
+Inv-loop first₀ second₀ line₀ oldest end at₀ last₀ first second line at last = (end ≤ last) × (last ≤ length line) × (length
+    first ≡ length first₀) × (length second ≡ length second₀) × (length line ≡ length line₀)
 
 abbrev μ-loop : tie.MeasureT-loop
-μ-loop first₀ second₀ line₀ output₀ oldest end at₀ last₀ first second line output at last = end - at
+μ-loop first₀ second₀ line₀ oldest end at₀ last₀ first second line at last = end - at
 
 loop-holds : tie.Need-loop-holds Inv-loop μ-loop
 loop-holds c = search needs
@@ -40,9 +40,6 @@ same-length-2 c = search needs
 same-length-3 : tie.Need-same-length-3 Inv-loop μ-loop
 same-length-3 c = search needs
 
-same-length-4 : tie.Need-same-length-4 Inv-loop μ-loop
-same-length-4 c = search needs
-
 returns : tie.Need-returns Inv-loop μ-loop
 returns c = search needs
 
@@ -61,5 +58,4 @@ bring-all-spec =
     same-length
     same-length-2
     same-length-3
-    same-length-4
     returns)

@@ -1,10 +1,6 @@
 use borrow.Author.Needs.{needs}
 use Rattle.reader.proofs.frame_of.Statement.{statement}
 use Rattle.reader.proofs.frame_of.Tie as tie
-use Rattle.reader.proofs.frame_of.Reads as reads
-use Rattle.reader.proofs.frame_of.Lts as lts
-use Rattle.model.proofs.kind_of.Reads as kind-of-reads
-use Rattle.frame.proofs.tables.sense_of.Reads as sense-of-reads
 
 -- src/reader.rt:164:9
 kind-of-requires : tie.Need-kind-of-requires

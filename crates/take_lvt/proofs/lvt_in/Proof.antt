@@ -1,6 +1,6 @@
 -- `take_lvt::lvt_in` meets its contract.
 use native.Mathlib.Omega.{arith}
-use Rattle.round.proofs.Stepping.{as-effect, still}
+use Rattle.phases.proofs.Changing.{as-effect, still}
 use Rattle.take_lvt.proofs.Arriving.{all-lvts, more-lvts}
 use borrow.Author.Needs.{needs}
 use Rattle.take_lvt.proofs.lvt_in.Statement.{statement}

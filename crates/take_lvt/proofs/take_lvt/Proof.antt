@@ -2,9 +2,9 @@
 use mathlib.Core.Path.{sym, _∙_}
 use borrow.Author.Tests.{not-false}
 use Rattle.buffer.proofs.Lent.{bytes-known}
-use Rattle.take_lvt.proofs.Arriving.{lvt-wrong-half, lvt-not-awaited, lvt-awaited, awaited-fits, arrived-below}
+use Rattle.phases.proofs.Awaiting.{awaited-fits, arrived-below}
 use native.Mathlib.Omega.{arith}
-use Rattle.take_lvt.proofs.Arriving.{lvt-wrong-half, lvt-not-awaited, lvt-awaited, awaited-fits}
+use Rattle.take_lvt.proofs.Arriving.{lvt-wrong-half, lvt-not-awaited, lvt-awaited}
 use borrow.Author.Needs.{needs}
 use Rattle.gateway.proofs.Knowing.{sizes}
 use Rattle.take_lvt.proofs.take_lvt.Statement.{statement}

@@ -28,9 +28,6 @@ same-length-4 c = omega arith
 same-length-5 : tie.Need-same-length-5
 same-length-5 c = omega arith
 
-same-length-6 : tie.Need-same-length-6
-same-length-6 c = omega arith
-
 returns : tie.Need-returns
 returns c = search needs
 
@@ -46,5 +43,4 @@ turn-spec =
     same-length-3
     same-length-4
     same-length-5
-    same-length-6
     returns)

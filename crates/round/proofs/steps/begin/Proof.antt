@@ -1,6 +1,7 @@
 -- `round::steps::begin` meets its contract.
 use mathlib.Core.Path.{refl}
-use Rattle.round.proofs.Stepping.{as-effect, still, counting-on, stopping-at-once}
+use Rattle.phases.proofs.Changing.{as-effect, still}
+use Rattle.round.proofs.Stepping.{counting-on, stopping-at-once}
 use native.Mathlib.Omega.{arith}
 use borrow.Author.Needs.{needs}
 use Rattle.gateway.proofs.Knowing.{sizes}

@@ -1,6 +1,7 @@
 -- `round::steps::finish` meets its contract.
 use mathlib.Core.Path.{refl}
-use Rattle.round.proofs.Stepping.{as-effect, still, closing, passing-on}
+use Rattle.phases.proofs.Changing.{as-effect, still}
+use Rattle.round.proofs.Stepping.{closing, passing-on}
 use native.Mathlib.Omega.{arith}
 use borrow.Author.Needs.{needs}
 use Rattle.gateway.proofs.Knowing.{sizes}

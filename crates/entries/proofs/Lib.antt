@@ -1,0 +1,2 @@
+-- Laws of stored messages.
+pub mod Framed

@@ -1,0 +1,2 @@
+-- Laws of the neighbours' code.
+pub mod Branches

@@ -1,0 +1,2 @@
+-- Laws of packed numbers.
+pub mod Packing

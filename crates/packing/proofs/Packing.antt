@@ -1,0 +1,34 @@
+-- Laws of packed numbers: each is read back, and each of the four stands at its place.
+use mathlib.Core.Path.{_≡_, refl}
+use mathlib.Core.List.{List, [], _∷_}
+use Prim.Native.Nat.{ℕ, _+_, _*_, _≤_, _<_}
+use native.Mathlib.Omega.{arith}
+use lib.ListN.{length, getD, set, drop}
+use borrow.Author.Tests.{lt-ltb, le-ltb}
+use Rattle.routing.specs.declared.Gateways.{Gateways}
+use Rattle.packing.specs.Packed.{packed, ReadBack, numberAt}
+
+-- the sum
+pub packed-sum : (number written count : ℕ) → number + 256 * written + 4294967296 * count ≡ packed number written count
+unfolding packed
+packed-sum number written count = refl
+
+-- the parts are read back
+pub read-back : (number written count : ℕ) → number < 256 → written < 16777216 → ReadBack number written count
+unfolding packed
+read-back number written count h k = record { number = omega arith; written = omega arith; count = omega arith }
+
+-- one of at most two
+pub number-none : (g : Gateways) (i : ℕ) → g .count ≤ i → 65535 ≡ numberAt g i
+number-none g i h = rw (le-ltb i (g .count) h)
+
+pub number-some : (g : Gateways) (i : ℕ) → i < g .count → getD (g .number) i 0 ≡ numberAt g i
+number-some g i h = rw (lt-ltb i (g .count) h)
+
+-- the array's front
+pub four-set : (l : List ℕ) (a b c d : ℕ) → 4 ≤ length l → set (set (set (set l 0 a) 1 b) 2 c) 3 d ≡ a ∷ b ∷ c ∷ d ∷ drop 4 l
+four-set [] a b c d h = absurd (omega arith)
+four-set (w ∷ []) a b c d h = absurd (omega arith)
+four-set (w ∷ x ∷ []) a b c d h = absurd (omega arith)
+four-set (w ∷ x ∷ y ∷ []) a b c d h = absurd (omega arith)
+four-set (w ∷ x ∷ y ∷ z ∷ l) a b c d h = refl

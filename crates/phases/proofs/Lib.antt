@@ -1,0 +1,3 @@
+-- Laws of the round in a gateway's header.
+pub mod Awaiting
+pub mod Changing

@@ -1,2 +1,0 @@
--- Laws and proofs of taking plain messages and cancels.
-pub mod Acknowledging

@@ -1,0 +1,2 @@
+-- Laws of taking an acknowledgment.
+pub mod Acknowledging

@@ -1,0 +1,2 @@
+-- Laws of taking a Start.
+pub mod Starting

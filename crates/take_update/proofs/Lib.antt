@@ -1,0 +1,2 @@
+-- Laws of taking an Update.
+pub mod Updating
