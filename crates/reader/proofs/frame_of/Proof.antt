@@ -1,3 +1,4 @@
+-- `reader::frame_of` meets its contract.
 use borrow.Author.Needs.{needs}
 use Rattle.reader.proofs.frame_of.Statement.{statement}
 use Rattle.reader.proofs.frame_of.Tie as tie
