@@ -8,16 +8,19 @@ use mathlib.Core.List.{List}
 use lib.Dec.{eqb}
 use lib.ListN.{length, getD}
 use borrow.Author.Tests.{leb-true, ltb-true, eqb-true}
-use Rattle.lists.proofs.BoolLaws.{and-left, and-right}
+use Rattle.lists.proofs.BoolLaws.{and-left}
 use Rattle.model.specs.Messages.{kindNumber, kindOf}
 use Rattle.frame.specs.Layout.{odd, wholeLength}
 use Rattle.frame.specs.Writing.{lampFits, gatewaysAgree}
-use Rattle.frame.specs.Reasons.{fieldsOf, frameOf, mapFits, senseFits, unless, fieldsForm, formOf, formNumber, readAs, reading}
+use Rattle.frame.specs.Reasons.{fieldsOf, frameOf, mapFits, senseFits, unless, fieldsForm, formOf, formNumber, formRefusal, readAs, reading}
 use Rattle.buffer.proofs.Readings.{read-one}
-use Rattle.frame.specs.Lamps.{isGood, carriesLamp}
+use Rattle.frame.specs.Lamps.{carriesLamp}
+use Rattle.frame.proofs.Presence.{lamp-kinds}
+use Rattle.frame.proofs.FormNumbers.{good-form, form-both}
 use Rattle.frame.specs.declared.Frame.{Frame}
 use Rattle.frame.specs.declared.Form.{Form}
-use Rattle.frame.specs.declared.Form.the-variants.{Good, TooShort, WrongMap, WrongLength, WrongSense, WrongLamp, WrongGateways}
+use Rattle.frame.specs.declared.Reading.{Reading}
+use Rattle.frame.specs.declared.Form.the-variants.{Good, TooShort, WrongMap, WrongLength, WrongSense, WrongLamp, WrongGateways, NotTaken}
 
 -- each test was passed
 pub record Passes (s : List ℕ) : Type 0 where
@@ -42,6 +45,12 @@ form-read WrongLength f = refl
 form-read WrongSense f = refl
 form-read WrongLamp f = refl
 form-read WrongGateways f = refl
+form-read NotTaken f = refl
+
+-- what is read has the number of its form
+pub reads : (s : List ℕ) {r : Reading} → r ≡ reading s → (r ≡ reading s) × (formNumber (r .form) ≡ formRefusal s)
+unfolding reading
+reads s e = (e, ap (λ (x : Reading). formNumber (x .form)) e ∙ ap formNumber (form-read (formOf s) (frameOf (fieldsOf s))))
 
 pub accepted : (s : List ℕ) → reading s .form ≡ Good → Passes s
 unfolding reading formOf fieldsForm
@@ -119,21 +128,13 @@ kind-byte s p = by (table (getD s 0 0) (getD s 1 0) (p .map))
     by (start e h) = from 7 e refl
     by (hourly e h k) = from 15 e refl
 
-good-form : (form : Form) → isGood form ≡ true → form ≡ Good
-good-form Good e = refl
-good-form TooShort e = absurd (false≢true e)
-good-form WrongMap e = absurd (false≢true e)
-good-form WrongLength e = absurd (false≢true e)
-good-form WrongSense e = absurd (false≢true e)
-good-form WrongLamp e = absurd (false≢true e)
-good-form WrongGateways e = absurd (false≢true e)
-
 -- a frame with a lamp has at least 27 bytes
 pub lamp-inside : (s : List ℕ) → carriesLamp (reading s) ≡ true → 27 ≤ length s
 unfolding wholeLength
 lamp-inside s e =
-    let p : Passes s = accepted s (good-form (reading s .form) (and-left _ _ e)) in
-    by p (table (getD s 0 0) (getD s 1 0) (p .map)) (leb-true _ 2 (and-right (isGood (reading s .form)) _ e))
+    let both = form-both _ (reading s .form) e in
+    let p : Passes s = accepted s (good-form (reading s .form) (both .0)) in
+    by p (table (getD s 0 0) (getD s 1 0) (p .map)) (leb-true _ 2 (sym (lamp-kinds _) ∙ both .1))
   where
     kind : (p : Passes s) → getD s 1 0 < 7 → kindNumber (reading s .frame .message .kind) ≡ getD s 1 0
     kind p h = ap (λ (f : Frame). kindNumber (f .message .kind)) (p .frame) ∙ kind-back (fieldsOf s .kind) _ _ (rw (kind-byte s p) h) ∙ kind-byte s p

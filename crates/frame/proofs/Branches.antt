@@ -7,15 +7,12 @@ use lib.Dec.{leb, eqb}
 use lib.ListN.{length, getD}
 use mathlib.Core.List.{List}
 use borrow.Author.Tests.{le-leb, lt-leb, lt-ltb, le-ltb, eq-eqb, ne-eqb, not-true, not-false}
-use Rattle.model.specs.Messages.{kindNumber}
 use Rattle.frame.specs.Layout.{wholeLength}
-use Rattle.frame.specs.Kinds.{mapOfKind, senseOf}
+use Rattle.frame.specs.Kinds.{mapOfKind, hasLamp, senseOf}
 use Rattle.frame.specs.Writing.{lampFits, gatewaysAgree}
-use Rattle.frame.specs.Reasons.{mapFits, senseFits, formNumber, fieldsOf, frameOf, fieldsForm, reading, readAs, refusedAs}
-use Rattle.frame.specs.Lamps.{isGood, carriesLamp}
+use Rattle.frame.specs.Reasons.{mapFits, senseFits, fieldsOf, frameOf, fieldsForm, reading, readAs, refusedAs}
 use Rattle.frame.specs.declared.Sense.the-variants.{Plain}
 use Rattle.frame.specs.declared.Frame.{Frame}
-use Rattle.frame.specs.declared.Form.{Form}
 use Rattle.frame.specs.declared.Form.the-variants.{Good, TooShort, WrongMap, WrongLength, WrongSense, WrongLamp, WrongGateways}
 use Rattle.frame.specs.declared.Reading.{Reading}
 use Rattle.frame.specs.declared.Fields.{Fields}
@@ -41,14 +38,14 @@ module _ (map kind : ℕ) where
     unfolding mapFits
     map-plain p = rw (lt-ltb kind 7 h, eq-eqb map (mapOfKind kind) (p ∙ e))
 
-    module _ (p : map ≡ plain → ⊥) where
-      pub map-other : 2 < kind → false ≡ mapFits map kind
+    module _ (p : map ≡ plain → ⊥) {lamp : Bool} (l : lamp ≡ hasLamp kind) where
+      pub map-other : not lamp ≡ true → false ≡ mapFits map kind
       unfolding mapFits
-      map-other k = rw (lt-ltb kind 7 h, ne-eqb map (mapOfKind kind) (λ q. p (q ∙ sym e)), lt-leb kind 2 k)
+      map-other k = rw (lt-ltb kind 7 h, ne-eqb map (mapOfKind kind) (λ q. p (q ∙ sym e)), sym l ∙ not-true lamp k)
 
-      pub map-sense : kind ≤ 2 → eqb map (plain + 128) ≡ mapFits map kind
+      pub map-sense : not lamp ≡ false → eqb map (plain + 128) ≡ mapFits map kind
       unfolding mapFits
-      map-sense k = rw (lt-ltb kind 7 h, ne-eqb map (mapOfKind kind) (λ q. p (q ∙ sym e)), le-leb kind 2 k, e)
+      map-sense k = rw (lt-ltb kind 7 h, ne-eqb map (mapOfKind kind) (λ q. p (q ∙ sym e)), sym l ∙ not-false lamp k, e)
 
 module _ (map sense : ℕ) where
   pub sense-none : map < 128 → true ≡ senseFits map sense
@@ -109,21 +106,3 @@ module _ (s : List ℕ) where
       judged d p q =
           let match : eqb (length s) (wholeLength (getD s 0 0)) ≡ true = eq-eqb _ _ (d ∙ l) in
           q ∙ rw (p, le-leb 2 (length s) h, sym e ∙ not-false fits k, match)
-
--- whether a reading has a lamp
-module _ (r : Reading) {good : Bool} (e : good ≡ isGood (r .form)) where
-  pub lamp-unread : not good ≡ true → false ≡ carriesLamp r
-  lamp-unread h = rw (sym e ∙ not-true good h)
-
-  pub lamp-read : {number : ℕ} → not good ≡ false → number ≡ kindNumber (r .frame .message .kind) → leb number 2 ≡ carriesLamp r
-  lamp-read h k = rw (sym e ∙ not-false good h, k)
-
--- a form is good just where its number is 0
-pub good-number : (form : Form) → isGood form ≡ eqb (formNumber form) 0
-good-number Good = refl
-good-number TooShort = refl
-good-number WrongMap = refl
-good-number WrongLength = refl
-good-number WrongSense = refl
-good-number WrongLamp = refl
-good-number WrongGateways = refl

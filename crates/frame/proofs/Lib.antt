@@ -1,5 +1,7 @@
 -- Laws of frames.
 pub mod Entries
+pub mod Presence
+pub mod FormNumbers
 pub mod Walking
 pub mod Turning
 pub mod Output

@@ -5,26 +5,24 @@ use native.Mathlib.Nat.{zero-add}
 use native.Mathlib.Omega.{arith}
 use mathlib.Core.Bool.{Bool, true, false, cond, not}
 use mathlib.Core.List.{List, [], _∷_, _++_, append-assoc, append-nil, map as mapped}
-use lib.Dec.{leb, eqb}
+use lib.Dec.{leb}
 use lib.ListN.{length, set, length-append}
-use borrow.Author.Tests.{le-leb, lt-leb, eq-eqb, ne-eqb, not-true, not-false}
+use borrow.Author.Tests.{le-leb, lt-leb, not-true, not-false}
 use Rattle.buffer.proofs.Numbers.{one-byte}
 use Rattle.lists.specs.Lists.{tally, joined}
 use Rattle.buffer.specs.Slice.{write, Puts}
 use Rattle.buffer.specs.Number.{bytesOf}
-use Rattle.buffer.proofs.Putting.{puts-nothing, puts-byte, puts-more}
-use Rattle.buffer.proofs.Writes.{set-write, write-snoc, write-join}
+use Rattle.buffer.proofs.Putting.{puts-nothing, puts-more}
+use Rattle.buffer.proofs.Writes.{set-write, write-snoc}
 use Rattle.buffer.proofs.Numbers.{length-bytesOf}
 use Rattle.model.specs.Messages.{kindNumber, originOf, quantityOf}
-use Rattle.model.specs.declared.Kind.{Kind}
-use Rattle.model.specs.declared.Kind.the-variants.{Failure, Request, Delivery, Restock, Start, Lvt, Update}
 use Rattle.model.specs.declared.Message.{Message}
 use Rattle.frame.specs.Layout.{widths, odd, standing, wholeLength}
 use Rattle.frame.specs.Kinds.{mapOf, mapOfKind, senseNumber}
-use Rattle.frame.specs.Writing.{contents, written, wellFormed, writing}
-use Rattle.frame.specs.inside.Steps.{headBytes, lampBytes, bodyOf, bodyBytes, senseBytes}
+use Rattle.frame.specs.Writing.{contents, written, wellFormed, outcomeOf, writing}
+use Rattle.frame.specs.inside.Steps.{headBytes, fieldBytes, bodyBytes}
+use Rattle.frame.proofs.Presence.{HasHead, head-stands}
 use Rattle.frame.specs.declared.Frame.{Frame}
-use Rattle.frame.specs.declared.Sense.{Sense}
 use Rattle.frame.specs.declared.WriteAnswer.the-variants.{Written, NoFrame, NoRoom}
 
 pub puts-as : {at behind : ℕ} {xs ys m after : List ℕ} → Puts at xs m after behind → xs ≡ ys → Puts at ys m after behind
@@ -60,159 +58,177 @@ head-put map message at m {kind} room e k f t =
           (write-snoc at (map ∷ kind ∷ message .from ∷ []) m (message .to) (at + 3) (omega arith) refl);
     }
 
--- origin and lamp
-pub lamp-put : (at origin : ℕ) (lamp m : List ℕ) {after : List ℕ} → at + 19 ≤ length m → length lamp ≡ 18 → origin < 256
-    → after ≡ write (at + 1) lamp (set m at origin) → Puts at (lampBytes origin lamp) m after (at + 19)
-unfolding lampBytes
-lamp-put at origin lamp m room size small e = record {
-  position = simp (length-append, length-bytesOf) (omega arith);
-  output = e ∙ rw (one-byte origin small, set-write m at origin (omega arith)) (write-join at (origin ∷ []) lamp m (omega arith));
-}
+-- a field, where its bit stands in the map
+module _ (map bit : ℕ) {there : Bool} (e : there ≡ odd (map / bit)) (at : ℕ) (m bytes : List ℕ) where
+  pub field-absent : not there ≡ true → Puts at (fieldBytes map bit bytes) m m at
+  unfolding fieldBytes
+  field-absent h = puts-as (puts-nothing at m) (rw (sym e ∙ not-true there h))
 
--- the sense, where there is one
-module _ {sense number : ℕ} (e : number ≡ sense) (at : ℕ) (m : List ℕ) where
-  pub sense-absent : number ≡ 0 → Puts at (senseBytes sense) m m at
-  unfolding senseBytes
-  sense-absent z = puts-as (puts-nothing at m) (rw (lt-leb 1 sense (omega arith)))
+  module _ (h : not there ≡ false) where
+    pub field-present : fieldBytes map bit bytes ≡ bytes
+    unfolding fieldBytes
+    field-present = rw (sym e ∙ not-false there h)
 
-  module _ (z : number ≡ 0 → ⊥) where
-    present : senseBytes sense ≡ bytesOf 1 sense
-    unfolding senseBytes
-    present = rw (le-leb 1 sense (omega arith))
+    module _ {n : ℕ} (size : length bytes ≡ n) where
+      pub field-room : at + length (fieldBytes map bit bytes) ≤ length m → at + n ≤ length m
+      field-room room = rw (field-present, size) at room
 
-    pub sense-room : at + length (senseBytes sense) ≤ length m → at < length m
-    sense-room h = let room = rw (present, length-bytesOf) at h in omega arith
+      pub field-put : {after : List ℕ} → after ≡ write at bytes m → Puts at (fieldBytes map bit bytes) m after (at + n)
+      field-put q = puts-as (record { position = rw size; output = q }) (sym field-present)
 
-    pub sense-put : at + length (senseBytes sense) ≤ length m → number < 256 → Puts at (senseBytes sense) m (set m at number) (at + 1)
-    sense-put h small =
-        let bytes : senseBytes sense ≡ number ∷ [] = present ∙ rw (← e) (one-byte number small) in
-        puts-as (puts-byte at number m (sense-room h)) (sym bytes)
+-- a field of one byte
+module _ (map bit : ℕ) {there : Bool} (e : there ≡ odd (map / bit)) (at : ℕ) (m : List ℕ) (byte : ℕ) (h : not there ≡ false) where
+  pub byte-room : at + length (fieldBytes map bit (bytesOf 1 byte)) ≤ length m → at < length m
+  byte-room room = let enough = field-room map bit e at m (bytesOf 1 byte) h (length-bytesOf 1 byte) room in omega arith
+
+  pub byte-put : at + length (fieldBytes map bit (bytesOf 1 byte)) ≤ length m → byte < 256
+      → Puts at (fieldBytes map bit (bytesOf 1 byte)) m (set m at byte) (at + 1)
+  byte-put room small =
+      field-put map bit e at m (bytesOf 1 byte) h (length-bytesOf 1 byte) (set-write m at byte (byte-room room) ∙ rw (one-byte byte small))
 
 -- hour, origin, lamp and quantity
-module _ (message : Message) {kind : ℕ} (e : kind ≡ kindNumber (message .kind)) (at : ℕ) (m : List ℕ) where
-  pub body-start : kind ≡ 4 → Puts at (bodyBytes message) m m at
-  unfolding bodyOf
-  body-start k = puts-as (puts-nothing at m) (rw (eq-eqb (kindNumber (message .kind)) 4 (sym e ∙ k)))
+module _ (map : ℕ) (message : Message) (at : ℕ) (m : List ℕ) (room : at + length (bodyBytes map message) ≤ length m) where
+  abbrev hour : List ℕ
+  hour = fieldBytes map 8 (bytesOf 4 (message .hour))
 
-  module _ (d : kind ≡ 4 → ⊥) where
-    with-hour : bodyBytes message ≡ bytesOf 4 (message .hour) ++ cond (leb kind 2) (lampBytes (originOf (message .kind)) (message .lamp))
-        (cond (eqb kind 3) (bytesOf 2 (quantityOf (message .kind))) [])
-    unfolding bodyOf
-    with-hour = rw (ne-eqb (kindNumber (message .kind)) 4 (λ q. d (e ∙ q)), e)
+  abbrev origin : List ℕ
+  origin = fieldBytes map 16 (bytesOf 1 (originOf (message .kind)))
 
-    pub hour-room : at + length (bodyBytes message) ≤ length m → at + 4 ≤ length m
-    hour-room h =
-        let size = simp (length-append, length-bytesOf) at (ap length with-hour) in
-        omega arith
+  abbrev lamp : List ℕ
+  lamp = fieldBytes map 32 (message .lamp)
 
-    module _ {between : List ℕ} (b : between ≡ write at (bytesOf 4 (message .hour)) m) (room : at + length (bodyBytes message) ≤ length m) where
-      hour-put : Puts at (bytesOf 4 (message .hour)) m between (at + 4)
-      hour-put = record { position = rw length-bytesOf; output = b }
+  abbrev quantity : List ℕ
+  quantity = fieldBytes map 64 (bytesOf 2 (quantityOf (message .kind)))
 
-      behind-hour : {ys after : List ℕ} {behind : ℕ} → bodyBytes message ≡ bytesOf 4 (message .hour) ++ ys → Puts (at + 4) ys between after behind
-          → Puts at (bodyBytes message) m after behind
-      behind-hour p q = puts-as (puts-more (rw length-bytesOf (hour-room room)) hour-put q) (sym p)
+  body-size : length (bodyBytes map message) ≡ length hour + (length origin + (length lamp + length quantity))
+  unfolding bodyBytes
+  body-size = simp length-append
 
-      pub body-hour : 2 < kind → (kind ≡ 3 → ⊥) → Puts at (bodyBytes message) m between (at + 4)
-      body-hour l q = behind-hour (with-hour ∙ rw (lt-leb kind 2 l, ne-eqb kind 3 q)) (puts-nothing (at + 4) between)
+  pub hour-room : at + length hour ≤ length m
+  hour-room = let size = body-size in omega arith
 
-      module _ (q : kind ≡ 3) where
-        is-quantity : bodyBytes message ≡ bytesOf 4 (message .hour) ++ bytesOf 2 (quantityOf (message .kind))
-        is-quantity = with-hour ∙ rw q
+  module _ {one : List ℕ} {a : ℕ} (p : Puts at hour m one a) (k : length one ≡ length m) {o : ℕ} (eo : o ≡ originOf (message .kind)) where
+    abbrev originPut : List ℕ
+    originPut = fieldBytes map 16 (bytesOf 1 o)
 
-        pub quantity-room : length between ≡ length m → at + 4 + 2 ≤ length between
-        quantity-room k = let size = simp (length-append, length-bytesOf) at (ap length is-quantity) in omega arith
+    same-origin : originPut ≡ origin
+    same-origin = rw eo
 
-        pub body-quantity : {quantity : ℕ} {after : List ℕ} → quantity ≡ quantityOf (message .kind) → after ≡ write (at + 4) (bytesOf 2 quantity) between
-            → Puts at (bodyBytes message) m after (at + 6)
-        body-quantity n p = behind-hour is-quantity (record { position = rw length-bytesOf (omega arith); output = p ∙ rw n })
+    pub origin-room : a + length originPut ≤ length one
+    origin-room = rw eo (let size = body-size in let place = p .position in omega arith)
 
-      module _ (l : kind ≤ 2) where
-        is-lamp : bodyBytes message ≡ bytesOf 4 (message .hour) ++ lampBytes (originOf (message .kind)) (message .lamp)
-        is-lamp = with-hour ∙ rw (le-leb kind 2 l)
+    module _ {two : List ℕ} {b : ℕ} (q : Puts a originPut one two b) (l : length two ≡ length one) where
+      behind-origin : b ≡ a + length origin
+      behind-origin = q .position ∙ rw eo
 
-        pub lamp-room : length between ≡ length m → length (message .lamp) ≡ 18 → at + 4 + 19 ≤ length between
-        unfolding lampBytes
-        lamp-room k l = let size = simp (length-append, length-bytesOf) at (ap length is-lamp) in omega arith
+      pub lamp-room : b + length lamp ≤ length two
+      lamp-room = let size = body-size in let place = p .position in let next = behind-origin in omega arith
 
-        pub body-lamp : {origin behind : ℕ} {after : List ℕ} → origin ≡ originOf (message .kind)
-            → Puts (at + 4) (lampBytes origin (message .lamp)) between after behind → Puts at (bodyBytes message) m after behind
-        body-lamp o p = behind-hour is-lamp (puts-as p (rw o))
+      module _ {three : List ℕ} {c : ℕ} (r : Puts b lamp two three c) (n : length three ≡ length two) {amount : ℕ} (ea : amount ≡ quantityOf (message .kind)) where
+        pub quantity-room : c + length (fieldBytes map 64 (bytesOf 2 amount)) ≤ length three
+        quantity-room =
+            rw ea (let size = body-size in let place = p .position in let next = behind-origin in let last = r .position in omega arith)
 
--- which fields stand in the maps of the kinds, with a sense or without
-module _ (a b c d e l q s : List ℕ) where
-  abbrev fields : List (List ℕ)
-  fields = a ∷ b ∷ c ∷ d ∷ e ∷ l ∷ q ∷ s ∷ []
+        pub body-put : {four : List ℕ} {d : ℕ} → Puts c (fieldBytes map 64 (bytesOf 2 amount)) three four d → Puts at (bodyBytes map message) m four d
+        unfolding bodyBytes
+        body-put s = puts-more hour-room p (puts-more (rw same-origin at origin-room) (puts-as q same-origin) (puts-more lamp-room r (puts-as s (rw ea))))
 
-  lamp-shape : (has : Bool) → joined (λ x. x) (standing (cond has (63 + 128) 63) fields) ≡ a ++ (b ++ (c ++ (d ++ (e ++ (l ++ cond has s [])))))
-  unfolding standing joined
-  lamp-shape true = simp append-nil
-  lamp-shape false = refl
+-- the fields whose bit stands, one behind the other
+standing-next : (map : ℕ) (x : List ℕ) (xs : List (List ℕ))
+    → joined (λ y. y) (standing map (x ∷ xs)) ≡ cond (odd map) x [] ++ joined (λ y. y) (standing (map / 2) xs)
+unfolding standing joined
+standing-next map x xs = by (odd map)
+  where
+    by : (there : Bool) → joined (λ y. y) (cond there (x ∷ standing (map / 2) xs) (standing (map / 2) xs)) ≡ cond there x [] ++ joined (λ y. y)
+        (standing (map / 2) xs)
+    by true = refl
+    by false = refl
 
-  quantity-shape : (has : Bool) → joined (λ x. x) (standing (cond has (79 + 128) 79) fields) ≡ a ++ (b ++ (c ++ (d ++ (q ++ cond has s []))))
-  unfolding standing joined
-  quantity-shape true = simp append-nil
-  quantity-shape false = refl
+standing-none : (map : ℕ) → joined {A = List ℕ} {B = ℕ} (λ y. y) (standing map []) ≡ []
+unfolding standing joined
+standing-none map = refl
 
-  start-shape : (has : Bool) → joined (λ x. x) (standing (cond has (7 + 128) 7) fields) ≡ a ++ (b ++ (c ++ cond has s []))
-  unfolding standing joined
-  start-shape true = simp append-nil
-  start-shape false = refl
+-- halved again and again
+module _ (map : ℕ) where
+  by-4 : map / 2 / 2 ≡ map / 4
+  by-4 = omega arith
 
-  hour-shape : (has : Bool) → joined (λ x. x) (standing (cond has (15 + 128) 15) fields) ≡ a ++ (b ++ (c ++ (d ++ cond has s [])))
-  unfolding standing joined
-  hour-shape true = simp append-nil
-  hour-shape false = refl
+  by-8 : map / 4 / 2 ≡ map / 8
+  by-8 = omega arith
 
--- a frame's bytes are head, body and sense
-by-kind : (hour from to : ℕ) (kind : Kind) (lamp : List ℕ) (sense : Sense)
-    → let m : Message = record { hour = hour; from = from; to = to; kind = kind; lamp = lamp } in
-    let f : Frame = record { message = m; sense = sense } in
-    written f ≡ headBytes (mapOf f) m ++ (bodyBytes m ++ senseBytes (senseNumber sense))
-unfolding written mapOf headBytes bodyOf senseBytes
-by-kind hour from to (Failure origin) lamp sense = rw lamp-shape (simp append-assoc)
-by-kind hour from to (Request origin) lamp sense = rw lamp-shape (simp append-assoc)
-by-kind hour from to (Delivery origin) lamp sense = rw lamp-shape (simp append-assoc)
-by-kind hour from to (Restock quantity) lamp sense = rw quantity-shape (simp append-assoc)
-by-kind hour from to Start lamp sense = rw start-shape (simp append-assoc)
-by-kind hour from to Lvt lamp sense = rw hour-shape (simp (append-assoc, append-nil))
-by-kind hour from to Update lamp sense = rw hour-shape (simp (append-assoc, append-nil))
+  by-16 : map / 8 / 2 ≡ map / 16
+  by-16 = omega arith
+
+  by-32 : map / 16 / 2 ≡ map / 32
+  by-32 = omega arith
+
+  by-64 : map / 32 / 2 ≡ map / 64
+  by-64 = omega arith
+
+  by-128 : map / 64 / 2 ≡ map / 128
+  by-128 = omega arith
+
+  fields-standing : HasHead map → (a b c d e l q s : List ℕ)
+      → joined (λ y. y) (standing map (a ∷ b ∷ c ∷ d ∷ e ∷ l ∷ q ∷ s ∷ []))
+      ≡ a ++ (b ++ (c ++ (fieldBytes map 8 d ++ (fieldBytes map 16 e ++ (fieldBytes map 32 l ++ (fieldBytes map 64 q ++ fieldBytes map 128 s))))))
+  unfolding fieldBytes
+  fields-standing h a b c d e l q s =
+      rw (
+        standing-next map a (b ∷ c ∷ d ∷ e ∷ l ∷ q ∷ s ∷ []),
+        h .kind,
+        standing-next (map / 2) b (c ∷ d ∷ e ∷ l ∷ q ∷ s ∷ []),
+        h .from,
+        by-4,
+        standing-next (map / 4) c (d ∷ e ∷ l ∷ q ∷ s ∷ []),
+        h .to,
+        by-8,
+        standing-next (map / 8) d (e ∷ l ∷ q ∷ s ∷ []),
+        by-16,
+        standing-next (map / 16) e (l ∷ q ∷ s ∷ []),
+        by-32,
+        standing-next (map / 32) l (q ∷ s ∷ []),
+        by-64,
+        standing-next (map / 64) q (s ∷ []),
+        by-128,
+        standing-next (map / 128) s [],
+        standing-none (map / 128 / 2),
+        append-nil (cond (odd (map / 128)) s []),
+      )
 
 module _ (f : Frame) where
-  pub written-parts : written f ≡ headBytes (mapOf f) (f .message) ++ (bodyBytes (f .message) ++ senseBytes (senseNumber (f .sense)))
-  written-parts = by-kind (f .message .hour) (f .message .from) (f .message .to) (f .message .kind) (f .message .lamp) (f .sense)
+  abbrev sense : List ℕ
+  sense = fieldBytes (mapOf f) 128 (bytesOf 1 (senseNumber (f .sense)))
 
-  pub written-size : length (written f) ≡ 4 + (length (bodyBytes (f .message)) + length (senseBytes (senseNumber (f .sense))))
+  pub written-parts : written f ≡ headBytes (mapOf f) (f .message) ++ (bodyBytes (mapOf f) (f .message) ++ sense)
+  unfolding written contents mapOf headBytes bodyBytes
+  written-parts =
+      ap (_∷_ (mapOf f)) (fields-standing (mapOf f) (head-stands (f .message .kind) (leb 1 (senseNumber (f .sense)))) _ _ _ _ _ _ _ _)
+      ∙ simp append-assoc
+
+  pub written-size : length (written f) ≡ 4 + (length (bodyBytes (mapOf f) (f .message)) + length sense)
   written-size = ap length written-parts ∙ simp length-append (rw length-head)
 
   module _ (at : ℕ) (m : List ℕ) (room : at + length (written f) ≤ length m) where
     pub head-room : at + 4 ≤ length m
     head-room = let size = written-size in omega arith
 
-    module _ (map : ℕ) {middle : ℕ} {one : List ℕ} (h : Puts at (headBytes map (f .message)) m one middle) (k : length one ≡ length m) where
-      pub body-room : middle + length (bodyBytes (f .message)) ≤ length one
-      body-room = let size = written-size in let place = rw length-head at (h .position) in omega arith
+    module _ {map : ℕ} (e : map ≡ mapOf f) {middle : ℕ} {one : List ℕ} (h : Puts at (headBytes map (f .message)) m one middle) (k : length one ≡ length m) where
+      behind-head : middle ≡ at + 4
+      behind-head = rw length-head at (h .position)
 
-      module _ {end : ℕ} {two : List ℕ} (b : Puts middle (bodyBytes (f .message)) one two end) (l : length two ≡ length one) where
-        pub tail-room : end + length (senseBytes (senseNumber (f .sense))) ≤ length two
-        tail-room = let size = written-size in let place = rw length-head at (h .position) in let next = b .position in omega arith
+      pub body-room : middle + length (bodyBytes map (f .message)) ≤ length one
+      body-room = rw e (let size = written-size in let place = behind-head in omega arith)
 
-        pub frame-put : {behind : ℕ} {three : List ℕ} → map ≡ mapOf f → Puts end (senseBytes (senseNumber (f .sense))) two three behind →
-            Puts at (written f) m three behind
-        frame-put e t =
-            let body = puts-more body-room b t in
-            let all = puts-more (rw length-head head-room) h body in
-            puts-as all (rw e (sym written-parts))
+      module _ {end : ℕ} {two : List ℕ} (b : Puts middle (bodyBytes map (f .message)) one two end) (l : length two ≡ length one) where
+        module _ {number : ℕ} (n : number ≡ senseNumber (f .sense)) where
+          pub tail-room : end + length (fieldBytes map 128 (bytesOf 1 number)) ≤ length two
+          tail-room = rw (e, n) (let size = written-size in let place = behind-head in let next = rw e at (b .position) in omega arith)
 
-pub map-below : (k : Kind) → mapOfKind (kindNumber k) < 128
-unfolding mapOfKind
-map-below (Failure origin) = omega arith
-map-below (Request origin) = omega arith
-map-below (Delivery origin) = omega arith
-map-below (Restock quantity) = omega arith
-map-below Start = omega arith
-map-below Lvt = omega arith
-map-below Update = omega arith
+          pub frame-put : {behind : ℕ} {three : List ℕ} → Puts end (fieldBytes map 128 (bytesOf 1 number)) two three behind → Puts at (written f) m three behind
+          frame-put t =
+              let body = puts-more body-room b t in
+              let all = puts-more (rw length-head head-room) h body in
+              puts-as all (rw (e, n) (sym written-parts))
 
 module _ (f : Frame) {kind plain sense : ℕ} (k : kind ≡ kindNumber (f .message .kind)) (p : plain ≡ mapOfKind kind) (s : sense ≡ senseNumber (f .sense)) where
   pub map-plain : sense ≡ 0 → plain ≡ mapOf f
@@ -245,7 +261,7 @@ whole-size f e = ap (λ (n : ℕ). suc n) (joined-size (mapOf f) (contents f) �
     (contents-sizes f e)) ∙ omega arith
 
 module _ (f : Frame) (m : List ℕ) {ok : Bool} (e : ok ≡ wellFormed f) where
-  pub no-frame : not ok ≡ true → record { answer = NoFrame; output = m } ≡ writing f m
+  pub no-frame : not ok ≡ true → outcomeOf NoFrame m ≡ writing f m
   unfolding writing
   no-frame h = rw (sym e ∙ not-true ok h)
 
@@ -253,7 +269,7 @@ module _ (f : Frame) (m : List ℕ) {ok : Bool} (e : ok ≡ wellFormed f) where
     size-is : size ≡ length (written f)
     size-is = s ∙ rw g (sym (whole-size f lamp))
 
-    pub no-room : length m < size → record { answer = NoRoom; output = m } ≡ writing f m
+    pub no-room : length m < size → outcomeOf NoRoom m ≡ writing f m
     unfolding writing
     no-room l = rw (sym e ∙ not-false ok h, lt-leb (length (written f)) (length m) (rw (← size-is) l))
 
@@ -261,6 +277,6 @@ module _ (f : Frame) (m : List ℕ) {ok : Bool} (e : ok ≡ wellFormed f) where
     room-enough l = rw (← size-is) (omega arith)
 
     pub all-written : {after : List ℕ} {count : ℕ} → size ≤ length m → Puts 0 (written f) m after count
-        → record { answer = Written count; output = after } ≡ writing f m
+        → outcomeOf (Written count) after ≡ writing f m
     unfolding writing
     all-written l p = rw (sym e ∙ not-false ok h, le-leb (length (written f)) (length m) (rw (← size-is) l), p .position, p .output, zero-add)

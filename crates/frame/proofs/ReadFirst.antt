@@ -8,7 +8,7 @@ use mathlib.Core.Bool.{Bool, true, false, cond, _&&_, _||_}
 use mathlib.Core.List.{List, [], _∷_}
 use lib.Dec.{leb, eqb}
 use lib.ListN.{length, drop, getD, replicate, length-take, length-drop}
-use borrow.Author.Tests.{le-leb, leb-true, eq-eqb, ne-eqb}
+use borrow.Author.Tests.{le-leb, leb-true, eq-eqb}
 use Rattle.lists.proofs.BoolLaws.{and-left, and-right}
 use Rattle.buffer.proofs.Lent.{bytes-part}
 use Rattle.lists.specs.Lists.{tally}
@@ -20,13 +20,14 @@ use Rattle.model.specs.Messages.{kindNumber, originOf, quantityOf, kindOf}
 use Rattle.model.specs.declared.Kind.{Kind}
 use Rattle.model.specs.declared.Kind.the-variants.{Failure, Request, Delivery, Restock, Start, Lvt, Update}
 use Rattle.frame.specs.Layout.{widths, odd, standing, wholeLength, cut}
-use Rattle.frame.specs.Kinds.{mapOfKind, mapOf, senseNumber, senseOf}
+use Rattle.frame.specs.Kinds.{mapOfKind, hasHour, hasLamp, mapOf, senseNumber, senseOf}
 use Rattle.frame.specs.Writing.{contents, written, senseAllowed, hourFits, wellFormed}
 use Rattle.frame.specs.Reasons.{fieldsOf, frameOf, senseFits}
 use Rattle.frame.specs.Claims.{RangedFrame}
 use Rattle.frame.specs.declared.Frame.{Frame}
 use Rattle.frame.specs.declared.Fields.{Fields}
 use Rattle.frame.proofs.Branches.{lamp-map}
+use Rattle.frame.proofs.Presence.{lamp-kinds, hour-stands}
 use Rattle.frame.proofs.Walking.{lamp-bytes}
 use Rattle.frame.proofs.Cutting.{joined-cut, bytes-back}
 use Rattle.frame.proofs.Accepted.{Passes, Table, plain, sensed, restock, start, hourly, table, kind-back, kind-byte}
@@ -141,15 +142,15 @@ lamp-formed : (v : Fields) → v .kind ≤ 2 → Formed (frameOf v)
 lamp-formed v k =
     let kind = kind-is v refl (omega arith) refl in
     record {
-      sense = rw (kind, le-leb (v .kind) 2 k);
-      hour = rw (kind, ne-eqb (v .kind) 4 (λ e. omega arith));
+      sense = rw (kind, lamp-kinds (v .kind), le-leb (v .kind) 2 k);
+      hour = rw (kind, hour-stands (v .kind) (lamp-map (v .kind) k) refl);
     }
 
 other-formed : (v : Fields) {kind : ℕ} → v .kind ≡ kind → kind < 7 → v .sense ≡ 0 → hourFits kind (v .hour) ≡ true → Formed (frameOf v)
 other-formed v {kind} k h s t =
     let number = kind-is v k h refl in
     record {
-      sense = rw (s) (either-zero (leb (kindNumber (frameOf v .message .kind)) 2));
+      sense = rw (s) (either-zero (hasLamp (kindNumber (frameOf v .message .kind))));
       hour = rw number t;
     }
   where
@@ -212,7 +213,7 @@ module _ (s : List ℕ) (b : Bytes s) (p : Passes s) where
       }
 
   restock-returns : getD s 0 0 ≡ 79 → getD s 1 0 ≡ 3 → Returns s (frameOf (fieldsOf s))
-  unfolding fieldsOf wholeLength standing cut mapOfKind
+  unfolding fieldsOf wholeLength standing cut mapOfKind hasHour
   restock-returns e h =
       let size : length s ≡ 10 = rw e at (p .whole) in
       let kind : fieldsOf s .kind ≡ 3 = kind-byte s p ∙ h in
@@ -233,7 +234,7 @@ module _ (s : List ℕ) (b : Bytes s) (p : Passes s) where
       }
 
   start-returns : getD s 0 0 ≡ 7 → getD s 1 0 ≡ 4 → Returns s (frameOf (fieldsOf s))
-  unfolding fieldsOf wholeLength standing cut mapOfKind
+  unfolding fieldsOf wholeLength standing cut mapOfKind hasHour
   start-returns e h =
       let size : length s ≡ 4 = rw e at (p .whole) in
       let kind : fieldsOf s .kind ≡ 4 = kind-byte s p ∙ h in
@@ -267,7 +268,7 @@ module _ (s : List ℕ) (b : Bytes s) (p : Passes s) where
             (rw e (bytes-back s 3 1 b (omega arith)))
             (omega arith)
             (rw e (bytes-back s 4 4 b (omega arith))));
-        formed = other-formed (fieldsOf s) kind (omega arith) none (rw (ne-eqb (getD s 1 0) 4 (λ q. omega arith)));
+        formed = other-formed (fieldsOf s) kind (omega arith) none (rw (hour-stands (getD s 1 0) (hour-map (getD s 1 0) h k) refl));
       }
 
   pub returned : Returns s (frameOf (fieldsOf s))

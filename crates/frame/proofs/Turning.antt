@@ -1,13 +1,12 @@
 -- Laws of the checks of a frame's numbers and hour, and of a value's form, a law for each branch of the code.
 use mathlib.Core.Path.{_≡_, sym, _∙_}
 use Prim.Native.Nat.{ℕ, _<_, _≤_}
-use native.Mathlib.Omega.{arith}
 use mathlib.Core.Bool.{Bool, true, false, not, _&&_}
 use lib.Dec.{ltb, eqb}
 use borrow.Author.Tests.{le-leb, lt-leb, lt-ltb, le-ltb, eq-eqb, ne-eqb, not-true, not-false}
 use Rattle.model.specs.Messages.{kindNumber, originOf}
 use Rattle.model.specs.declared.Message.{Message}
-use Rattle.frame.specs.Kinds.{senseNumber}
+use Rattle.frame.specs.Kinds.{hasHour, hasLamp, senseNumber}
 use Rattle.frame.specs.Writing.{senseAllowed, hourFits, lampFits, gatewaysAgree, wellFormed}
 use Rattle.frame.specs.Limits.{numbersBelow, addressee, hourAllowed, refusal}
 use Rattle.frame.specs.declared.Frame.{Frame}
@@ -53,20 +52,22 @@ module _ (f : Frame) (n own last : ℕ) {ok : Bool} (e : ok ≡ numbersBelow n (
       unfolding refusal
       allowed l = rw (sym e ∙ not-false ok h, eq-eqb (addressee (f .sense) (f .message)) own (sym a ∙ d), sym k ∙ not-false hour l)
 
-module _ (kind sense hour : ℕ) where
-  pub header-lamp : kind ≤ 2 → true ≡ (senseAllowed kind sense && hourFits kind hour)
-  header-lamp h = rw (le-leb kind 2 h, ne-eqb kind 4 (λ p. omega arith))
+pub sense-of-lamp : (kind sense : ℕ) {lamp : Bool} → lamp ≡ hasLamp kind → lamp ≡ true → true ≡ senseAllowed kind sense
+sense-of-lamp kind sense e h = rw (sym e ∙ h)
 
-  module _ (h : 2 < kind) where
-    pub header-sense : (sense ≡ 0 → ⊥) → false ≡ (senseAllowed kind sense && hourFits kind hour)
-    header-sense d = rw (lt-leb kind 2 h, ne-eqb sense 0 d)
+pub sense-without : (kind sense : ℕ) {lamp : Bool} → lamp ≡ hasLamp kind → lamp ≡ false → eqb sense 0 ≡ senseAllowed kind sense
+sense-without kind sense e h = rw (sym e ∙ h)
 
-    module _ (s : sense ≡ 0) where
-      pub header-start : kind ≡ 4 → eqb hour 0 ≡ (senseAllowed kind sense && hourFits kind hour)
-      header-start k = rw (lt-leb kind 2 h, eq-eqb sense 0 s, eq-eqb kind 4 k)
+module _ (kind sense hour : ℕ) {allowed : Bool} (a : allowed ≡ senseAllowed kind sense) where
+  pub header-sense : not allowed ≡ true → false ≡ (senseAllowed kind sense && hourFits kind hour)
+  header-sense h = rw (sym a ∙ not-true allowed h)
 
-      pub header-other : (kind ≡ 4 → ⊥) → true ≡ (senseAllowed kind sense && hourFits kind hour)
-      header-other k = rw (lt-leb kind 2 h, eq-eqb sense 0 s, ne-eqb kind 4 k)
+  module _ (h : not allowed ≡ false) {hours : Bool} (e : hours ≡ hasHour kind) where
+    pub header-hour : hours ≡ true → true ≡ (senseAllowed kind sense && hourFits kind hour)
+    header-hour k = rw (sym a ∙ not-false allowed h, sym e ∙ k)
+
+    pub header-without : hours ≡ false → eqb hour 0 ≡ (senseAllowed kind sense && hourFits kind hour)
+    header-without k = rw (sym a ∙ not-false allowed h, sym e ∙ k)
 
 module _ (f : Frame) {kind sense : ℕ} {header : Bool} (k : kind ≡ kindNumber (f .message .kind)) (s : sense ≡ senseNumber (f .sense))
     (e : header ≡ (senseAllowed kind sense && hourFits kind (f .message .hour)))

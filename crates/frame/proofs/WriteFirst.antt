@@ -14,7 +14,7 @@ use Rattle.model.specs.Messages.{kindNumber, originOf, quantityOf}
 use Rattle.model.specs.declared.Kind.{Kind}
 use Rattle.model.specs.declared.Kind.the-variants.{Failure, Request, Delivery, Restock, Start, Lvt, Update}
 use Rattle.frame.specs.Layout.{widths, wholeLength, cut}
-use Rattle.frame.specs.Kinds.{mapOfKind, mapOf, senseNumber, senseOf, withSense}
+use Rattle.frame.specs.Kinds.{mapOfKind, hasHour, mapOf, senseNumber, senseOf, withSense}
 use Rattle.frame.specs.Writing.{contents, written, allBetween, senseAllowed, hourFits, wellFormed, lampFits, gatewaysAgree}
 use Rattle.frame.specs.Reasons.{lampOf, valuesOf, fieldsOf, frameOf, mapFits, senseFits, fieldsForm, formOf, readAs, reading}
 use Rattle.frame.specs.inside.Steps.{headBytes}
@@ -26,7 +26,8 @@ use Rattle.frame.specs.declared.Form.the-variants.{Good}
 use Rattle.frame.specs.declared.Fields.{Fields}
 use Rattle.lists.proofs.BoolLaws.{and-left, and-right}
 use Rattle.frame.proofs.Cutting.{kept, cut-joined}
-use Rattle.frame.proofs.Output.{written-parts, written-size, contents-sizes, whole-size, map-below}
+use Rattle.frame.proofs.Output.{written-parts, written-size, contents-sizes, whole-size}
+use Rattle.frame.proofs.Presence.{map-small}
 use Rattle.model.proofs.KindNumbers.{kind-below}
 
 -- what a well-formed value keeps to
@@ -195,7 +196,7 @@ module _ {k from to hour n : ℕ} (hk : k < 256 ^ 1) (hf : from < 256 ^ 1) (ht :
 by-kind : (hour from to : ℕ) (kind : Kind) (lamp : List ℕ) (sense : Sense)
     → let f : Frame = record { message = record { hour = hour; from = from; to = to; kind = kind; lamp = lamp }; sense = sense } in
     RangedFrame f → Keeps f → valuesOf (kept (mapOf f) (contents f)) ≡ valuesFor f
-unfolding mapOf contents lampFits
+unfolding mapOf contents lampFits hasHour
 by-kind hour from to (Failure origin) lamp sense r w = lamp-values (omega arith) (r .from) (r .to) (sense-three sense) origin 0 lamp
     (r .hour) (r .origin) (r .lamp)
 by-kind hour from to (Request origin) lamp sense r w = lamp-values (omega arith) (r .from) (r .to) (sense-three sense) origin 0 lamp
@@ -265,7 +266,7 @@ module _ (f : Frame) (r : RangedFrame f) (w : Keeps f) where
 
   sense-passes : senseFits (mapOf f) (senseNumber (f .sense)) ≡ true
   unfolding mapOf
-  sense-passes = sense-allowed (mapOfKind (kindNumber (f .message .kind))) (senseNumber (f .sense)) (map-below (f .message .kind)) (sense-three (f .sense))
+  sense-passes = sense-allowed (mapOfKind (kindNumber (f .message .kind))) (senseNumber (f .sense)) (map-small (kindNumber (f .message .kind))) (sense-three (f .sense))
 
   long-passes : leb 2 (length (written f)) ≡ true
   long-passes = let size = written-size f in le-leb 2 (length (written f)) (omega arith)

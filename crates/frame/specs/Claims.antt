@@ -1,13 +1,14 @@
 -- What is proved of these definitions beside the contracts.
 use mathlib.Core.Path.{_≡_}
-use mathlib.Core.Bool.{true}
+use mathlib.Core.Bool.{true, cond}
 use mathlib.Core.List.{List}
 use Prim.Native.Nat.{ℕ, _<_, _^_}
 use lib.Count.{ones}
 use lib.ListN.{length}
 use Rattle.buffer.specs.Slice.{Bytes}
-use Rattle.model.specs.Messages.{originOf, quantityOf}
+use Rattle.model.specs.Messages.{originOf, quantityOf, kindOf}
 use Rattle.frame.specs.Layout.{gatewayWidth, lampWidth, widths, standing}
+use Rattle.frame.specs.Kinds.{hasOrigin, hasQuantity}
 use Rattle.frame.specs.Writing.{wellFormed, written}
 use Rattle.frame.specs.Reasons.{reading, readAs}
 use Rattle.frame.specs.declared.Frame.{Frame}
@@ -36,3 +37,8 @@ pub record OneToOne : Type 0 where
 -- the number of fields is the number of one bits in the map
 pub record FieldCount : Type 0 where
   pub fields : (map : ℕ) → map < 256 → length (standing map widths) ≡ ones map
+
+-- the table of kinds is the one source: a kind has an origin and a quantity just where its map has them, and else they are zero
+pub record OwnFields : Type 0 where
+  pub origin : (number origin quantity : ℕ) → originOf (kindOf number origin quantity) ≡ cond (hasOrigin number) origin 0
+  pub quantity : (number origin quantity : ℕ) → quantityOf (kindOf number origin quantity) ≡ cond (hasQuantity number) quantity 0

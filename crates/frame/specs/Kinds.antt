@@ -1,10 +1,11 @@
 -- The table of kinds, which gives each kind its one map, and the sense.
-use Prim.Native.Nat.{ℕ, _+_}
+use Prim.Native.Nat.{ℕ, _+_, _/_, _^_}
 use mathlib.Core.Bool.{Bool, cond}
 use mathlib.Core.List.{List, [], _∷_}
 use lib.Dec.{leb, eqb}
 use lib.ListN.{getD}
 use Rattle.model.specs.Messages.{kindNumber}
+use Rattle.frame.specs.Layout.{odd}
 use Rattle.frame.specs.declared.Sense.{Sense}
 use Rattle.frame.specs.declared.Sense.the-variants.{Plain, Cancel, Acknowledgment, CancelAcknowledgment}
 use Rattle.frame.specs.declared.Frame.{Frame}
@@ -17,9 +18,26 @@ maps = 63 ∷ 63 ∷ 63 ∷ 79 ∷ 7 ∷ 15 ∷ 15 ∷ []
 unfoldable pub mapOfKind : ℕ → ℕ
 mapOfKind kind = getD maps kind 0
 
--- kinds 0 to 2 have a lamp, and only they may have a sense
-abbrev pub hasLamp : ℕ → Bool
-hasLamp kind = leb kind 2
+-- the field of that bit stands in the map
+abbrev pub hasField : ℕ → ℕ → Bool
+hasField bit map = odd (map / 2 ^ bit)
+
+-- by the table a kind has an hour, an origin, a lamp, a quantity, where bit 3, 4, 5, 6 stands in its map
+unfoldable pub hasHour : ℕ → Bool
+unfolding mapOfKind
+hasHour kind = hasField 3 (mapOfKind kind)
+
+unfoldable pub hasOrigin : ℕ → Bool
+unfolding mapOfKind
+hasOrigin kind = hasField 4 (mapOfKind kind)
+
+unfoldable pub hasLamp : ℕ → Bool
+unfolding mapOfKind
+hasLamp kind = hasField 5 (mapOfKind kind)
+
+unfoldable pub hasQuantity : ℕ → Bool
+unfolding mapOfKind
+hasQuantity kind = hasField 6 (mapOfKind kind)
 
 -- bit 7 of the map
 abbrev pub senseBit : ℕ

@@ -1,7 +1,7 @@
 -- Reading the lamp hands back its eighteen bytes of the frame, as a part of the lent frame.
 use mathlib.Core.Path.{_≡_}
 use Prim.Native.Nat.{ℕ, _+_}
-use mathlib.Core.Bool.{Bool, true, false, cond, _&&_}
+use mathlib.Core.Bool.{Bool, cond}
 use mathlib.Core.List.{List, [], _∷_}
 use lib.ListN.{take}
 use denote.Ref.{RefT, ptr, now}
@@ -10,23 +10,22 @@ use Rattle.buffer.specs.Slice.{part}
 use Rattle.model.specs.Messages.{kindNumber}
 use Rattle.frame.specs.Layout.{widths, lampWidth}
 use Rattle.frame.specs.Kinds.{hasLamp}
-use Rattle.frame.specs.Reasons.{reading}
+use Rattle.frame.specs.Reasons.{reading, isGood, formIn, formNumber}
 use Rattle.frame.specs.declared.Form.{Form}
-use Rattle.frame.specs.declared.Form.the-variants.{Good, TooShort, WrongMap, WrongLength, WrongSense, WrongLamp, WrongGateways}
+use Rattle.frame.specs.declared.Frame.{Frame}
 use Rattle.frame.specs.declared.Reading.{Reading}
 
-abbrev pub isGood : Form → Bool
-isGood Good = true
-isGood TooShort = false
-isGood WrongMap = false
-isGood WrongLength = false
-isGood WrongSense = false
-isGood WrongLamp = false
-isGood WrongGateways = false
+-- a frame with a lamp, by the table of kinds
+abbrev pub withLamp : Frame → Bool
+withLamp f = hasLamp (kindNumber (f .message .kind))
 
--- a frame with a lamp
+-- why there is no lamp to read: the reasons of every frame, then that the frame has none
+abbrev pub lampForm : Reading → Form
+lampForm r = formIn withLamp r
+
+-- there is no such reason
 abbrev pub carriesLamp : Reading → Bool
-carriesLamp r = isGood (r .form) && hasLamp (kindNumber (r .frame .message .kind))
+carriesLamp r = isGood (lampForm r)
 
 -- the lamp's place: behind the map and the fields of bits 0 to 4
 unfoldable pub lampPlace : ℕ
@@ -49,7 +48,11 @@ lampLength r = cond (carriesLamp r) lampWidth 0
 abbrev pub IsLamp : RefT (List ℕ) → RefT (List ℕ) → Type 0
 IsLamp frame p = IsPart frame (lampStart (reading (now frame))) (lampLength (reading (now frame))) p
 
--- this paper's number for it: the empty part is 1
+-- this paper's number of the answer: the empty part is 1
 abbrev pub lampNumber : List ℕ → ℕ
 lampNumber [] = 1
 lampNumber (b ∷ bs) = 0
+
+-- what reading the lamp of a byte string is refused with, or 0
+abbrev pub lampRefusal : List ℕ → ℕ
+lampRefusal s = formNumber (lampForm (reading s))

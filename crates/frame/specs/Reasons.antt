@@ -13,7 +13,7 @@ use Rattle.frame.specs.Writing.{lampFits, gatewaysAgree}
 use Rattle.frame.specs.declared.Sense.the-variants.{Plain}
 use Rattle.frame.specs.declared.Frame.{Frame}
 use Rattle.frame.specs.declared.Form.{Form}
-use Rattle.frame.specs.declared.Form.the-variants.{Good, TooShort, WrongMap, WrongLength, WrongSense, WrongLamp, WrongGateways}
+use Rattle.frame.specs.declared.Form.the-variants.{Good, TooShort, WrongMap, WrongLength, WrongSense, WrongLamp, WrongGateways, NotTaken}
 use Rattle.frame.specs.declared.Reading.{Reading}
 use Rattle.frame.specs.declared.Fields.{Fields}
 
@@ -49,7 +49,7 @@ frameOf v = record {
 
 -- the map is that of the kind, with bit 7 only for a kind with a lamp
 unfoldable pub mapFits : ℕ → ℕ → Bool
-unfolding mapOfKind
+unfolding mapOfKind hasLamp
 mapFits map kind = ltb kind 7 && (eqb map (mapOfKind kind) || (hasLamp kind && eqb map (mapOfKind kind + senseBit)))
 
 -- the sense is 1 to 3 where bit 7 stands
@@ -81,16 +81,6 @@ formOf s =
     (unless (eqb (length s) (wholeLength map)) WrongLength
     (fieldsForm map (fieldsOf s))))
 
--- this paper's number of a reason: each is 1
-abbrev pub formNumber : Form → ℕ
-formNumber Good = 0
-formNumber TooShort = 1
-formNumber WrongMap = 1
-formNumber WrongLength = 1
-formNumber WrongSense = 1
-formNumber WrongLamp = 1
-formNumber WrongGateways = 1
-
 -- what stands for the frame of a byte string that is refused
 abbrev pub blankFrame : Frame
 blankFrame = record { message = record { hour = 0; from = 0; to = 0; kind = Start; lamp = replicate lampWidth 0 }; sense = Plain }
@@ -108,8 +98,44 @@ readAs WrongLength f = refusedAs WrongLength
 readAs WrongSense f = refusedAs WrongSense
 readAs WrongLamp f = refusedAs WrongLamp
 readAs WrongGateways f = refusedAs WrongGateways
+readAs NotTaken f = refusedAs NotTaken
 
 -- what reading a byte string gives
 unfoldable pub reading : List ℕ → Reading
 unfolding formOf fieldsOf
 reading s = readAs (formOf s) (frameOf (fieldsOf s))
+
+-- there is no reason: it is a frame
+abbrev pub isGood : Form → Bool
+isGood Good = true
+isGood TooShort = false
+isGood WrongMap = false
+isGood WrongLength = false
+isGood WrongSense = false
+isGood WrongLamp = false
+isGood WrongGateways = false
+isGood NotTaken = false
+
+-- in a call that takes such a frame or does not, the last reason is that this form is not taken
+abbrev pub formWhere : Bool → Form → Form
+formWhere taken form = unless (isGood form) form (unless taken NotTaken Good)
+
+-- the first reason in a call that takes these frames only
+abbrev pub formIn : (Frame → Bool) → Reading → Form
+formIn taken r = formWhere (taken (r .frame)) (r .form)
+
+-- this paper's number of a reason: each is 1
+abbrev pub formNumber : Form → ℕ
+formNumber Good = 0
+formNumber TooShort = 1
+formNumber WrongMap = 1
+formNumber WrongLength = 1
+formNumber WrongSense = 1
+formNumber WrongLamp = 1
+formNumber WrongGateways = 1
+formNumber NotTaken = 1
+
+-- what a byte string is refused with for its form, in whatever call, or 0
+abbrev pub formRefusal : List ℕ → ℕ
+unfolding formOf
+formRefusal s = formNumber (formOf s)

@@ -12,7 +12,7 @@ use Rattle.model.specs.declared.Kind.{Kind}
 use Rattle.model.specs.declared.Kind.the-variants.{Failure, Request, Delivery, Restock, Start, Lvt, Update}
 use Rattle.model.specs.declared.Message.{Message}
 use Rattle.frame.specs.Layout.{gatewayWidth, standing}
-use Rattle.frame.specs.Kinds.{hasLamp, mapOf, senseNumber}
+use Rattle.frame.specs.Kinds.{hasHour, hasLamp, mapOf, senseNumber}
 use Rattle.frame.specs.declared.Frame.{Frame}
 use Rattle.frame.specs.declared.WriteAnswer.{WriteAnswer}
 use Rattle.frame.specs.declared.WriteAnswer.the-variants.{Written, NoFrame, NoRoom}
@@ -42,6 +42,7 @@ allBetween low high (b ∷ bs) = leb low b && leb b high && allBetween low high 
 
 -- a lamp's bytes are 33 to 126; where the kind has no lamp they are zero
 unfoldable pub lampFits : Message → Bool
+unfolding hasLamp
 lampFits m = cond (hasLamp (kindNumber (m .kind))) (allBetween 33 126 (m .lamp)) (allBetween 0 0 (m .lamp))
 
 -- a Failure has from = to = origin, a Delivery has to = origin, a Restock has from = to
@@ -54,13 +55,13 @@ gatewaysAgree from to Start = true
 gatewaysAgree from to Lvt = true
 gatewaysAgree from to Update = true
 
--- only a kind with a lamp has a sense
+-- only a kind with a lamp, one of 0 to 2, has a sense
 abbrev pub senseAllowed : ℕ → ℕ → Bool
 senseAllowed kind sense = hasLamp kind || eqb sense 0
 
--- a Start has no hour, which then is zero
+-- an hour that the kind lacks, as a Start does, is zero
 abbrev pub hourFits : ℕ → ℕ → Bool
-hourFits kind hour = cond (eqb kind 4) (eqb hour 0) true
+hourFits kind hour = cond (hasHour kind) true (eqb hour 0)
 
 -- whether a value is one of the forms above, given that its numbers fit their fields
 unfoldable pub wellFormed : Frame → Bool
@@ -77,17 +78,29 @@ answerNumber (Written count) = 0
 answerNumber NoFrame = 1
 answerNumber NoRoom = 5
 
--- an answer and the output afterwards
+-- and its value: how many bytes were written
+abbrev pub answerCount : WriteAnswer → ℕ
+answerCount (Written count) = count
+answerCount NoFrame = 0
+answerCount NoRoom = 0
+
+-- what writing a frame comes to: its number, the bytes written and the output afterwards
 pub record WriteOutcome : Type 0 where
-  pub answer : WriteAnswer
+  pub number : ℕ
+  pub count : ℕ
   pub output : List ℕ
 
--- a frame written at the start of an output: refused, nothing is written; else the bytes past it stay
+-- that of an answer
+abbrev pub outcomeOf : WriteAnswer → List ℕ → WriteOutcome
+outcomeOf answer output = record { number = answerNumber answer; count = answerCount answer; output = output }
+
+-- a frame written at the start of an output: 1 for what is no frame, then 5 for too few bytes, and nothing is written; else the
+-- bytes past it stay
 unfoldable pub writing : Frame → List ℕ → WriteOutcome
 unfolding wellFormed written
 writing f m =
     cond (wellFormed f)
     (cond (leb (length (written f)) (length m))
-    (record { answer = Written (length (written f)); output = write 0 (written f) m })
-    (record { answer = NoRoom; output = m }))
-    (record { answer = NoFrame; output = m })
+    (record { number = 0; count = length (written f); output = write 0 (written f) m })
+    (record { number = 5; count = 0; output = m }))
+    (record { number = 1; count = 0; output = m })

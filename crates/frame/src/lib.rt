@@ -2,6 +2,7 @@
 // and hour; the crates reader and writer read and write them.
 use model::Message;
 
+pub mod forms; // forms.rt: the reasons for which a byte string is refused
 pub mod lamps; // lamps.rt: a lamp's bytes
 pub mod tables; // tables.rt: the table of kinds and the table of lengths
 
@@ -30,7 +31,7 @@ pub struct Fields {
     pub sense: u8,
 }
 
-// Whether a byte string is a frame, or the first reason why not.
+// Whether a byte string is a frame that a call takes, or the first reason why not. Reading knows of no call: the last reason is the call's.
 pub enum Form {
     Good,
     TooShort,
@@ -39,6 +40,7 @@ pub enum Form {
     WrongSense,
     WrongLamp,
     WrongGateways,
+    NotTaken,
 }
 
 // What reading a byte string gives. The frame counts only where the form is good.

@@ -3,10 +3,10 @@ use crate::Frame;
 use crate::Sense;
 use model::kind_number;
 ghost use mathlib.Core.Path.{_≡_};
-ghost use Prim.Native.Nat.{_<_};
+ghost use Prim.Native.Nat.{_<_, _/_};
 ghost use lib.ListN.{getD};
-ghost use Rattle.frame.specs.Layout.{widths, wholeLength};
-ghost use Rattle.frame.specs.Kinds.{mapOf, mapOfKind, senseNumber, senseOf};
+ghost use Rattle.frame.specs.Layout.{widths, odd, wholeLength};
+ghost use Rattle.frame.specs.Kinds.{mapOf, mapOfKind, hasHour, hasLamp, senseNumber, senseOf};
 
 // The map of each kind.
 const MAPS: [u8; 7] = [63, 63, 63, 79, 7, 15, 15];
@@ -271,11 +271,47 @@ const LENGTHS: [u8; 256] = [
     30,
 ];
 
+// The map of the kind with that number; there is none past 6.
 pub fn map_of_kind(kind: u8) -> u8
-    requires { ⌜ kind < 7 ⌝ }
     ensures { λ r. ⌜ r ≡ mapOfKind kind ⌝ }
 {
+    if kind > 6 {
+        return 0;
+    }
     MAPS[kind as usize]
+}
+
+// The bits of the fields that not every kind has.
+pub const HOUR: u8 = 8;
+
+pub const ORIGIN: u8 = 16;
+
+pub const LAMP: u8 = 32;
+
+pub const QUANTITY: u8 = 64;
+
+pub const SENSE: u8 = 128;
+
+// Whether a bit stands in a map.
+pub fn stands(bit: u8, map: u8) -> bool
+    requires { ⌜ 0 < bit ⌝ }
+    ensures { λ r. ⌜ r ≡ odd (map / bit) ⌝ }
+{
+    map / bit % 2 == 1
+}
+
+// Whether the kind has an hour, by its map.
+pub fn has_hour(kind: u8) -> bool
+    ensures { λ r. ⌜ r ≡ hasHour kind ⌝ }
+{
+    stands(HOUR, map_of_kind(kind))
+}
+
+// Whether the kind has a lamp, by its map.
+pub fn has_lamp(kind: u8) -> bool
+    ensures { λ r. ⌜ r ≡ hasLamp kind ⌝ }
+{
+    stands(LAMP, map_of_kind(kind))
 }
 
 // The width of the field of a bit. A match, as a constant array would be copied at each reading of it.
@@ -314,7 +350,7 @@ pub fn map_of(frame: Frame) -> u8
     if sense_number(sense) == 0 {
         return plain;
     }
-    plain + 128
+    plain + SENSE
 }
 
 pub fn sense_number(sense: Sense) -> u8

@@ -10,11 +10,14 @@ use Rattle.model.specs.declared.Message.{Message}
 use Rattle.frame.specs.Claims.{RangedFrame}
 use Rattle.frame.specs.Kinds.{hasLamp}
 use Rattle.frame.specs.Limits.{addressee, numbersBelow, hourAllowed, nothingDue, refusal}
-use Rattle.frame.specs.Reasons.{formNumber}
+use Rattle.frame.specs.Reasons.{formIn, formNumber}
 use Rattle.frame.specs.Writing.{wellFormed}
 use Rattle.frame.specs.declared.Frame.{Frame}
 use Rattle.frame.specs.declared.Form.{Form}
-use Rattle.frame.specs.declared.Form.the-variants.{Good as GoodForm, TooShort, WrongMap, WrongLength, WrongSense, WrongLamp, WrongGateways}
+use Rattle.frame.specs.declared.Form.the-variants.{Good as GoodForm}
+use Rattle.frame.specs.declared.Reading.{Reading}
+use Rattle.frame.proofs.FormNumbers.{good-number, good-form, form-both}
+use Rattle.frame.proofs.Presence.{lamp-kinds}
 use Rattle.memory.specs.Validity.{frameIf}
 use Rattle.memory.specs.declared.Settings.{Settings}
 use Rattle.lists.proofs.BoolLaws.{and-left, and-right}
@@ -22,13 +25,13 @@ use Rattle.gateway.proofs.Replies.{Good}
 
 -- only Good has the number 0
 pub form-good : (form : Form) → eqb (formNumber form) 0 ≡ true → form ≡ GoodForm
-form-good GoodForm h = refl
-form-good TooShort h = absurd (false≢true h)
-form-good WrongMap h = absurd (false≢true h)
-form-good WrongLength h = absurd (false≢true h)
-form-good WrongSense h = absurd (false≢true h)
-form-good WrongLamp h = absurd (false≢true h)
-form-good WrongGateways h = absurd (false≢true h)
+form-good form h = good-form form (good-number form ∙ h)
+
+-- a frame that a call takes is good, and of those that it takes
+pub form-passed : (taken : Frame → Bool) (r : Reading) → eqb (formNumber (formIn taken r)) 0 ≡ true → (r .form ≡ GoodForm) × (taken (r .frame) ≡ true)
+form-passed taken r h =
+    let both = form-both (taken (r .frame)) (r .form) (good-number (formIn taken r) ∙ h) in
+    (good-form (r .form) (both .0), both .1)
 
 -- a frame passes 2 and 3
 pub record Passes (s : Settings) (f : Frame) : Type 0 where
@@ -73,7 +76,7 @@ unfolding wellFormed
 cancel-kind m h = by-case (hasLamp (kindNumber (m .kind))) refl (search (and-left, and-right))
   where
     by-case : (b : Bool) → hasLamp (kindNumber (m .kind)) ≡ b → (b || false) ≡ true → kindNumber (m .kind) ≤ 3
-    by-case true e k = omega (arith, leb-true (kindNumber (m .kind)) 2 e)
+    by-case true e k = omega (arith, leb-true (kindNumber (m .kind)) 2 (sym (lamp-kinds (kindNumber (m .kind))) ∙ e))
     by-case false e k = absurd (false≢true k)
 
 -- a plain message or a cancel of an event

@@ -1,24 +1,23 @@
 -- A law for each branch of the call take: refusals in their order, then what each sense and kind of frame comes to.
-use mathlib.Core.Path.{_≡_, refl, sym, _∙_}
-use mathlib.Core.Bool.{Bool, true, false, cond, not}
+use mathlib.Core.Path.{_≡_, refl, sym, _∙_, ap}
+use mathlib.Core.Bool.{true, false, cond}
 use mathlib.Core.List.{List}
 use Prim.Native.Nat.{ℕ, _≤_, _<_}
 use native.Mathlib.Omega.{arith}
 use lib.Dec.{eqb}
 use lib.ListN.{length}
-use borrow.Author.Tests.{eq-eqb, ne-eqb, lt-ltb, le-ltb, not-true, not-false}
-use Rattle.frame.proofs.Branches.{good-number}
+use borrow.Author.Tests.{eq-eqb, ne-eqb, lt-ltb, le-ltb}
 use Rattle.buffer.specs.Slice.{Bytes}
 use Rattle.model.specs.Messages.{kindNumber, kindOf, originOf, quantityOf}
 use Rattle.model.specs.declared.Message.{Message}
 use Rattle.model.proofs.Ordered.{kind-again}
 use Rattle.model.specs.declared.Kind.{Kind}
 use Rattle.model.specs.declared.Kind.the-variants.{Failure, Request, Delivery, Restock, Start, Lvt, Update}
-use Rattle.frame.specs.Lamps.{isGood}
 use Rattle.frame.specs.Limits.{refusal}
-use Rattle.frame.specs.Reasons.{reading}
+use Rattle.frame.specs.Reasons.{reading, formIn, formNumber}
 use Rattle.frame.specs.declared.Frame.{Frame}
 use Rattle.frame.specs.declared.Reading.{Reading}
+use Rattle.frame.specs.declared.Form.the-variants.{NotTaken}
 use Rattle.frame.specs.declared.Sense.the-variants.{Plain, Cancel, Acknowledgment, CancelAcknowledgment}
 use Rattle.memory.specs.Codec.{decode}
 use Rattle.memory.specs.inside.Fits.{MessageFits}
@@ -27,11 +26,10 @@ use Rattle.memory.specs.declared.Header.{Header}
 use Rattle.gateway.specs.Effects.{Outcome, refused, settled}
 use Rattle.gateway.specs.Taking.{takePlain, takeCancel, takeAcknowledgment}
 use Rattle.gateway.specs.Rounds.{takeStart, takeLvt, takeUpdate}
-use Rattle.gateway.specs.Calls.{CallResult, leaving, unlessBelow, takeByKind, takeFrame, takeBytes, taken, onSound}
+use Rattle.gateway.specs.Calls.{CallResult, leaving, unlessBelow, byCarrier, takeByKind, takeFrame, takeBytes, taken, onSound}
 use Rattle.gateway.specs.inside.Premises.{Known}
 use Rattle.gateway.specs.declared.Answer.{Answer}
 use Rattle.gateway.proofs.ReadMessages.{reading-fits}
-use Rattle.gateway.specs.Calls.{usable}
 use Rattle.gateway.proofs.Knowing.{agreed-is, settings-are}
 
 -- what a refusal with a number other than 0 leaves
@@ -40,14 +38,6 @@ pub leaves-refused : (m output : List ℕ) (g : Gateway) (number : ℕ) → eqb 
 unfolding leaving
 leaves-refused m output g number h {r} (a, b) =
     rw h (λ i. record { answer = record { number = a i; written = b i }; memory = m; output = output })
-
--- whether a reading can be used
-module _ (r : Reading) {good : Bool} (e : good ≡ isGood (r .form)) where
-  pub no-form : not good ≡ true → false ≡ usable r
-  no-form h = rw (sym (good-number (r .form)), sym e ∙ not-true good h)
-
-  pub by-number : {k : ℕ} → not good ≡ false → k ≡ kindNumber (r .frame .message .kind) → not (eqb k 3) ≡ usable r
-  by-number {k} h p = rw (sym (good-number (r .form)), sym e ∙ not-false good h, p)
 
 -- below the agreed time, or not
 module _ (m output : List ℕ) (h : Header) (k : Known m h) (hour : ℕ) (x : Outcome) where
@@ -104,9 +94,10 @@ module _ (room : ℕ) (x : Message) (g : Gateway) where
   restock-kind Update h a b c = absurd (c refl)
 
 module _ (m output : List ℕ) (room : ℕ) (x : Message) (g : Gateway) {n : ℕ} (is : n ≡ kindNumber (x .kind)) where
-  pub kind-restock : 2 < kindNumber (x .kind) → (n ≡ 4 → ⊥) → (n ≡ 5 → ⊥) → (n ≡ 6 → ⊥) → {r : Answer} → (r .number ≡ 1) × (r .written ≡ 0)
+  pub kind-restock : 2 < kindNumber (x .kind) → (n ≡ 4 → ⊥) → (n ≡ 5 → ⊥) → (n ≡ 6 → ⊥) → {number : ℕ} → number ≡ formNumber NotTaken
+      → {r : Answer} → (r .number ≡ number) × (r .written ≡ 0)
       → record { answer = r; memory = m; output = output } ≡ leaving (takeByKind room x g (x .kind)) m output
-  kind-restock h a b c p = leaves-refused m output g 1 refl p ∙ rw (restock-kind room x g (x .kind) h (λ e. a (is ∙ e)) (λ e. b (is ∙ e)) (λ e. c (is ∙ e)))
+  kind-restock h a b c i p = leaves-refused m output g 1 refl (p .0 ∙ i, p .1) ∙ rw (restock-kind room x g (x .kind) h (λ e. a (is ∙ e)) (λ e. b (is ∙ e)) (λ e. c (is ∙ e)))
 
   -- the kind with that number
   named : {k : ℕ} → n ≡ k → x .kind ≡ kindOf k (originOf (x .kind)) (quantityOf (x .kind))
@@ -141,18 +132,23 @@ module _ (m output : List ℕ) (x : Outcome) (g : Gateway) {number wanted : ℕ}
   number-passed h p = p ∙ rw (← e, eq-eqb number 0 h)
 
 -- a byte string by its reading
-module _ (m bytes output : List ℕ) (h : Header) (k : Known m h) {r : Reading} (e : r ≡ reading bytes) {ok : Bool} (u : ok ≡ usable r) where
-  pub not-usable : not ok ≡ true → {a : Answer} → (a .number ≡ 1) × (a .written ≡ 0) → record { answer = a; memory = m; output = output } ≡
-      leaving (takeBytes bytes (length output) (decode m)) m output
-  unfolding takeBytes
-  not-usable n p = leaves-refused m output (decode m) 1 refl p ∙ rw (← e, ← u, not-true ok n)
+module _ (m bytes output : List ℕ) (h : Header) (k : Known m h) {r : Reading} (e : r ≡ reading bytes) {number : ℕ}
+    (u : number ≡ formNumber (formIn byCarrier r))
+  where
+    is-number : number ≡ formNumber (formIn byCarrier (reading bytes))
+    is-number = u ∙ ap (λ (x : Reading). formNumber (formIn byCarrier x)) e
 
-  pub is-usable : not ok ≡ false → {l : CallResult Answer}
-      → l ≡ leaving (cond (eqb (refusal (r .frame) (h .settings .n) (h .settings .own) (h .settings .last)) 0) (takeFrame (length output)
-      (r .frame) (decode m)) (refused (refusal (r .frame) (h .settings .n) (h .settings .own) (h .settings .last)) (decode m))) m output
-      → l ≡ leaving (takeBytes bytes (length output) (decode m)) m output
-  unfolding takeBytes
-  is-usable n p = p ∙ rw (← e, ← u, not-false ok n, settings-are m h k)
+    pub form-refused : (number ≡ 0 → ⊥) → {a : Answer} → (a .number ≡ number) × (a .written ≡ 0) → record { answer = a; memory = m; output = output } ≡
+        leaving (takeBytes bytes (length output) (decode m)) m output
+    unfolding takeBytes
+    form-refused n p = number-refused m output _ (decode m) is-number n p
+
+    pub form-taken : number ≡ 0 → {l : CallResult Answer}
+        → l ≡ leaving (cond (eqb (refusal (r .frame) (h .settings .n) (h .settings .own) (h .settings .last)) 0) (takeFrame (length output)
+        (r .frame) (decode m)) (refused (refusal (r .frame) (h .settings .n) (h .settings .own) (h .settings .last)) (decode m))) m output
+        → l ≡ leaving (takeBytes bytes (length output) (decode m)) m output
+    unfolding takeBytes
+    form-taken n p = (p ∙ rw (e, settings-are m h k)) ∙ number-passed m output _ (decode m) is-number n refl
 
 -- take is such a call
 pub take-call : (m bytes output : List ℕ) → onSound (takeBytes bytes) m output ≡ taken m bytes output

@@ -17,7 +17,7 @@ use Rattle.model.specs.declared.Message.{Message}
 use Rattle.model.specs.declared.Kind.{Kind}
 use Rattle.model.specs.declared.Kind.the-variants.{Failure, Request, Delivery, Restock, Start, Lvt, Update}
 use Rattle.frame.proofs.Laws.{one-to-one}
-use Rattle.frame.specs.Reasons.{reading, formNumber}
+use Rattle.frame.specs.Reasons.{reading, formIn, formNumber}
 use Rattle.frame.specs.Limits.{refusal}
 use Rattle.frame.specs.declared.Frame.{Frame}
 use Rattle.frame.specs.declared.Sense.{Sense}
@@ -34,13 +34,14 @@ use Rattle.gateway.specs.Taking.{takePlain, takeCancel, isSent, takeAckn
 use Rattle.gateway.specs.Working.{pendingOf, done, Progress, noneDone, onceMore, workedBy, worked}
 use Rattle.gateway.specs.Rounds.{begun, isIdle, start, awaited, takeStart, takeLvt, takeUpdate}
 use Rattle.gateway.specs.Committing.{recordOf, commitOldest, commit}
-use Rattle.gateway.specs.Calls.{unlessBelow, takeByKind, takeBySense, takeFrame, takeBytes}
+use Rattle.gateway.specs.Calls.{unlessBelow, byCarrier, takeByKind, takeBySense, takeFrame, takeBytes}
 use Rattle.gateway.proofs.Searches.{pending-member}
 use Rattle.gateway.proofs.Replies.{Good}
 use Rattle.gateway.proofs.Maintaining.{Proper, Standing, standing, Kept, enough, Ends, unchanged, refuse, with-agreed, with-outstanding, fitting, settle}
 use Rattle.gateway.proofs.Queues.{leave-out}
 use Rattle.gateway.proofs.Arrivals.{begun-stands, start-stands, lvt-stands}
-use Rattle.gateway.proofs.Accepting.{form-good, Accepted, refusal-few, not-refused, accepted-good, cancel-kind}
+use Rattle.frame.proofs.FormNumbers.{number-small}
+use Rattle.gateway.proofs.Accepting.{form-passed, Accepted, refusal-few, not-refused, accepted-good, cancel-kind}
 use Rattle.gateway.proofs.Takings.{plain-stands, cancel-stands, done-stands, queue-of, requeue}
 
 -- either of two outcomes
@@ -162,12 +163,11 @@ module _ {g : Gateway} (p : Proper g) where
   bytes-keep bytes h room =
       let r = reading bytes in
       let s = g .settings in
-      let formed = eqb (formNumber (r .form)) 0 in
-      let carried = not (eqb (kindNumber (r .frame .message .kind)) 3) in
+      let form = formNumber (formIn byCarrier r) in
       let number = refusal (r .frame) (s .n) (s .own) (s .last) in
-      either (formed && carried)
+      either (eqb form 0)
       (λ e.
-      let good = form-good (r .form) (and-left formed carried e) in
+      let good = form-passed byCarrier r e .0 in
       either (eqb number 0)
       (λ z. frame-keeps room (r .frame) (record {
         form = one-to-one .readWellFormed bytes h good;
@@ -175,7 +175,7 @@ module _ {g : Gateway} (p : Proper g) where
         passes = not-refused s (r .frame) (eqb-true number 0 z);
       }))
       (refuses number (refusal-few (r .frame) (s .n) (s .own) (s .last))))
-      (refuses 1 (omega arith))
+      (refuses form (omega (arith, number-small (formIn byCarrier r))))
 
 -- how work ends, however many events it does
 pub record WorkEnds (s : Settings) (r : Progress) : Type 0 where

@@ -1,7 +1,7 @@
 -- Set up that is not refused leaves a proper gateway.
 use mathlib.Core.Path.{_≡_, refl, sym, _∙_, ap, subst}
 use mathlib.Core.Logic.{⊎-elim}
-use mathlib.Core.Bool.{Bool, true, false, cond, _&&_, _||_, false≢true}
+use mathlib.Core.Bool.{Bool, true, false, cond, _||_, false≢true}
 use mathlib.Core.List.{List, [], _∷_, _++_, List·Memᴰ·head as here, List·Memᴰ·tail as there, List·Memᴰ·not-nil, List·Memᴰ·cases-cons}
 use mathlib.Core.List.{List·Memᴰ·append-cases, Memᴰ·append-left, Memᴰ·append-right}
 use Prim.Native.Nat.{ℕ, zero, suc, _+_, _≤_}
@@ -19,7 +19,7 @@ use Rattle.frame.proofs.Laws.{one-to-one}
 use Rattle.frame.specs.Kinds.{senseNumber}
 use Rattle.frame.specs.Layout.{wholeLength}
 use Rattle.frame.specs.Limits.{refusal}
-use Rattle.frame.specs.Reasons.{reading, formNumber}
+use Rattle.frame.specs.Reasons.{reading, formIn, formNumber}
 use Rattle.frame.specs.declared.Frame.{Frame}
 use Rattle.frame.specs.declared.Sense.{Sense}
 use Rattle.frame.specs.declared.Sense.the-variants.{Plain, Cancel, Acknowledgment, CancelAcknowledgment}
@@ -36,7 +36,7 @@ use Rattle.gateway.specs.SettingUp.{settingsOf, openingValid, cutFrames,
 use Rattle.gateway.specs.declared.Opening.{Opening}
 use Rattle.gateway.proofs.Maintaining.{Kept, enough}
 use Rattle.gateway.proofs.Queues.{GoodQueue, pending-good, opening-enters}
-use Rattle.gateway.proofs.Accepting.{Accepted, Taken, form-good, not-refused, accepted-good}
+use Rattle.gateway.proofs.Accepting.{Accepted, Taken, form-passed, not-refused, accepted-good}
 
 cut-bytes : (turns : ℕ) (s : List ℕ) → Bytes s → (f : List ℕ) → f ∈ cutFrames turns s → Bytes f
 unfolding cutFrames
@@ -77,16 +77,17 @@ few-kinds n = by-case (eqb n 0) refl
 module _ (s : Settings) where
   opening-taken : (bytes : List ℕ) → Bytes bytes → openingRefusal s bytes ≡ 0 → Taken s false (reading bytes .frame .message)
   unfolding openingRefusal
-  opening-taken bytes h = by-case (eqb (formNumber (reading bytes .form)) 0 && mayOpen (reading bytes .frame)) refl
+  opening-taken bytes h = by-case (eqb (formNumber (formIn mayOpen (reading bytes))) 0) refl
     where
       f : Frame
       f = reading bytes .frame
 
-      by-case : (b : Bool) → (eqb (formNumber (reading bytes .form)) 0 && mayOpen f) ≡ b → _≡_ {A = ℕ} (cond b (refusal f (s .n) (s .own)
-          (s .last)) 1) 0 → Taken s false (f .message)
+      number : ℕ
+      number = formNumber (formIn mayOpen (reading bytes))
+
+      by-case : (b : Bool) → eqb number 0 ≡ b → _≡_ {A = ℕ} (cond b (refusal f (s .n) (s .own) (s .last)) number) 0 → Taken s false (f .message)
       by-case true e z =
-          let good = form-good (reading bytes .form) (and-left (eqb (formNumber (reading bytes .form)) 0) (mayOpen f) e) in
-          let may = and-right (eqb (formNumber (reading bytes .form)) 0) (mayOpen f) e in
+          let (good, may) = form-passed mayOpen (reading bytes) e in
           let plain = plain-sense (f .sense) (and-left (eqb (senseNumber (f .sense)) 0) (eqb (kindNumber (f .message .kind)) 0 || eqb
           (kindNumber (f .message .kind)) 3) may) in
           accepted-good s false (f .message)
@@ -94,7 +95,7 @@ module _ (s : Settings) where
           eqb (kindNumber (f .message .kind)) 3) may))
           (subst (λ (t : Sense). Accepted s (record { message = f .message; sense = t })) plain
           (record { form = one-to-one .readWellFormed bytes h good; ranged = one-to-one .readRanged bytes h good; passes = not-refused s f z }))
-      by-case false e z = absurd (omega arith)
+      by-case false e z = absurd (eqb-false number 0 e z)
 
 -- the queue that the opening messages make
 pub length-entered : (m : Message) (e : Entry) (es : List Entry) → length (beforeFirst (isLater m) es ++ (e ∷ fromFirst (isLater m) es)) ≡ suc (length es)

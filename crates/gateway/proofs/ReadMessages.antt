@@ -8,7 +8,7 @@ use Rattle.frame.specs.Claims.{RangedFrame}
 use Rattle.frame.specs.Reasons.{reading, formOf, fieldsOf, frameOf, readAs, blankFrame}
 use Rattle.frame.specs.declared.Frame.{Frame}
 use Rattle.frame.specs.declared.Form.{Form}
-use Rattle.frame.specs.declared.Form.the-variants.{Good, TooShort, WrongMap, WrongLength, WrongSense, WrongLamp, WrongGateways}
+use Rattle.frame.specs.declared.Form.the-variants.{Good, TooShort, WrongMap, WrongLength, WrongSense, WrongLamp, WrongGateways, NotTaken}
 use Rattle.frame.proofs.Laws.{one-to-one}
 use Rattle.memory.specs.inside.Fits.{MessageFits}
 
@@ -23,6 +23,7 @@ fits-read WrongLength f h = blank-fits
 fits-read WrongSense f h = blank-fits
 fits-read WrongLamp f h = blank-fits
 fits-read WrongGateways f h = blank-fits
+fits-read NotTaken f h = blank-fits
 
 ranged-fits : (f : Frame) → RangedFrame f → MessageFits (f .message)
 ranged-fits f r = record { hour = r .hour; from = r .from; to = r .to; origin = r .origin; quantity = r .quantity; lamp = r .lamp }

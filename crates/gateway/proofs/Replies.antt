@@ -5,7 +5,9 @@ use mathlib.Core.List.{List, [], _∷_, List·Memᴰ·not-nil, List·Memᴰ·eq-
 use Prim.Native.Nat.{ℕ, _+_, _-_, _≤_, _<_}
 use native.Mathlib.Omega.{arith}
 use lib.Dec.{leb, ltb}
-use borrow.Author.Tests.{leb-true, le-leb, eq-eqb, ne-eqb}
+use borrow.Author.Tests.{leb-true, le-leb, eq-eqb}
+use Rattle.frame.proofs.Branches.{lamp-map}
+use Rattle.frame.proofs.Presence.{lamp-kinds, hour-stands}
 use Rattle.lists.specs.Lists.{_∈_}
 use Rattle.model.specs.Messages.{kindNumber, originOf, quantityOf}
 use Rattle.model.specs.Doing.{after, counted, notPast, reply, sent, sentFor, requestHours, deliveryHours, lifeHours}
@@ -37,13 +39,20 @@ lamp-printable : (cancel : Bool) (m : Message) → kindNumber (m .kind) ≤ 2 �
 unfolding wellFormed lampFits
 lamp-printable cancel m k h =
     let fits : lampFits m ≡ true = search (and-left, and-right) in
-    rw (le-leb (kindNumber (m .kind)) 2 k) at fits
+    rw (lamp-kinds (kindNumber (m .kind)), le-leb (kindNumber (m .kind)) 2 k) at fits
 
 -- a message of kind 0 to 2 is well formed whatever its sense, if its lamp and its gateways are
 lamp-formed : (cancel : Bool) (m : Message) → kindNumber (m .kind) ≤ 2 → allBetween 33 126 (m .lamp) ≡ true → gatewaysAgree (m .from) (m .to) (m .kind) ≡ true
     → wellFormed (frameIf cancel m) ≡ true
 unfolding wellFormed lampFits
-lamp-formed cancel m k lamp gateways = rw (le-leb (kindNumber (m .kind)) 2 k, ne-eqb (kindNumber (m .kind)) 4 (λ e. omega arith), lamp, gateways)
+lamp-formed cancel m k lamp gateways =
+    rw (
+      lamp-kinds (kindNumber (m .kind)),
+      le-leb (kindNumber (m .kind)) 2 k,
+      hour-stands (kindNumber (m .kind)) (lamp-map (kindNumber (m .kind)) k) refl,
+      lamp,
+      gateways,
+    )
 
 module _ (s : Settings) (v : ValidSettings s) {cancel : Bool} (m : Message) (good : Good s cancel m) (some : kindNumber (m .kind) ≤ 2) (again : Bool) where
   reply-good : (hours to : ℕ) (kind : Kind) → kindNumber kind ≤ 2 → gatewaysAgree (s .own) to kind ≡ true → to < s .n → originOf kind < s .n

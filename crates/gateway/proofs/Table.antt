@@ -9,7 +9,7 @@ use Rattle.routing.specs.Arcs.{from, to, mid0, mid1, arcs, arcsOfFirst, childre
 use Rattle.routing.specs.Answers.{neighboursOf, totalsOf}
 use Rattle.model.specs.EventOrder.{key, compared}
 use Rattle.frame.specs.Layout.{standing, wholeLength, cut}
-use Rattle.frame.specs.Kinds.{mapOfKind, mapOf}
+use Rattle.frame.specs.Kinds.{mapOfKind, hasHour, hasLamp, mapOf}
 use Rattle.frame.specs.Writing.{contents, written, allBetween, lampFits, wellFormed}
 use Rattle.frame.specs.Reasons.{valuesOf, fieldsOf, mapFits, formOf, reading}
 use Rattle.frame.specs.Limits.{refusal}
@@ -26,7 +26,7 @@ use Rattle.gateway.specs.Examples.{roundOfTwo, Starred}
 pub starred : Starred
 unfolding
     gvtcfg widen share setFrom setTo from to mid0 mid1 arcs arcsOfFirst sum children roundMessages neighboursOf totalsOf
-    part write bytesOf numberFrom numberOf stateBytes key compared standing tally joined wholeLength cut mapOfKind mapOf contents written
+    part write bytesOf numberFrom numberOf stateBytes key compared standing tally joined wholeLength cut mapOfKind hasHour hasLamp mapOf contents written
     allBetween lampFits wellFormed valuesOf fieldsOf mapFits formOf reading refusal every settingsValid roundPossible equal later ordered
     processedFirst noneMeet storable entryValid sentValid valid fits settled sentAll processedOf undone restored sentBack
     rolledBack any withoutFirst beforeLast fromLast takeCancel leastOutstanding leastQueued finished begun start bitOf allBits

@@ -1,16 +1,16 @@
 -- The calls on lent bytes: what each answers, the memory afterwards and the output afterwards, for every input.
 use Prim.Native.Nat.{ℕ}
-use mathlib.Core.Bool.{Bool, true, false, cond, not, _&&_}
+use mathlib.Core.Bool.{Bool, true, false, cond, not}
 use mathlib.Core.List.{List, []}
 use lib.Dec.{ltb, eqb}
 use lib.ListN.{length}
 use Rattle.buffer.specs.Slice.{write}
 use Rattle.model.specs.Messages.{kindNumber}
 use Rattle.model.specs.declared.Message.{Message}
-use Rattle.frame.specs.Reasons.{reading, formNumber}
+use Rattle.frame.specs.Reasons.{reading, formIn, formNumber}
 use Rattle.frame.specs.Limits.{refusal}
 use Rattle.frame.specs.declared.Frame.{Frame}
-use Rattle.frame.specs.declared.Reading.{Reading}
+use Rattle.frame.specs.declared.Form.the-variants.{NotTaken}
 use Rattle.frame.specs.declared.Sense.{Sense}
 use Rattle.frame.specs.declared.Sense.the-variants.{Plain, Cancel, Acknowledgment, CancelAcknowledgment}
 use Rattle.model.specs.declared.Kind.{Kind}
@@ -72,7 +72,7 @@ abbrev pub takeByKind : ℕ → Message → Gateway → Kind → Outcome
 takeByKind room m g (Failure origin) = unlessBelow (m .hour) g (settled room g (takePlain m g))
 takeByKind room m g (Request origin) = unlessBelow (m .hour) g (settled room g (takePlain m g))
 takeByKind room m g (Delivery origin) = unlessBelow (m .hour) g (settled room g (takePlain m g))
-takeByKind room m g (Restock quantity) = refused 1 g
+takeByKind room m g (Restock quantity) = refused (formNumber NotTaken) g
 takeByKind room m g Start = takeStart room (m .from) g
 takeByKind room m g Lvt = unlessBelow (m .hour) g (takeLvt room (m .from) (m .hour) g)
 takeByKind room m g Update = takeUpdate room (m .from) (m .hour) g
@@ -88,9 +88,9 @@ takeBySense room m g CancelAcknowledgment = takeAcknowledgment true m g
 unfoldable pub takeFrame : ℕ → Frame → Gateway → Outcome
 takeFrame room f g = takeBySense room (f .message) g (f .sense)
 
--- a frame of one of the forms that this call takes: no Restock
-abbrev pub usable : Reading → Bool
-usable r = eqb (formNumber (r .form)) 0 && not (eqb (kindNumber (r .frame .message .kind)) 3)
+-- the carrier brings every form but a Restock, kind 3
+abbrev pub byCarrier : Frame → Bool
+byCarrier f = not (eqb (kindNumber (f .message .kind)) 3)
 
 -- taking a frame of one of the forms, at a gateway with those settings: 2 and 3, then the rest
 abbrev pub takeFor : Settings → Frame → ℕ → Gateway → Outcome
@@ -98,12 +98,13 @@ takeFor s f room g =
     let number = refusal f (s .n) (s .own) (s .last) in
     cond (eqb number 0) (takeFrame room f g) (refused number g)
 
--- taking a byte string: 1 for what is no frame or not taken in this call, then the rest
+-- taking a byte string: the number of the first reason why it is no frame or is not taken in this call, then the rest
 unfoldable pub takeBytes : List ℕ → ℕ → Gateway → Outcome
 unfolding takeFrame
 takeBytes bytes room g =
     let r = reading bytes in
-    cond (usable r) (takeFor (g .settings) (r .frame) room g) (refused 1 g)
+    let number = formNumber (formIn byCarrier r) in
+    cond (eqb number 0) (takeFor (g .settings) (r .frame) room g) (refused number g)
 
 -- the calls
 unfoldable pub taken : List ℕ → List ℕ → List ℕ → CallResult Answer

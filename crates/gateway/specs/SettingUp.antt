@@ -7,7 +7,7 @@ use lib.ListN.{length, take, drop}
 use Rattle.model.specs.Messages.{kindNumber}
 use Rattle.frame.specs.Layout.{wholeLength}
 use Rattle.frame.specs.Kinds.{senseNumber}
-use Rattle.frame.specs.Reasons.{reading, formNumber}
+use Rattle.frame.specs.Reasons.{reading, formIn, formNumber}
 use Rattle.frame.specs.Limits.{refusal}
 use Rattle.frame.specs.declared.Frame.{Frame}
 use Rattle.memory.specs.Layout.{sizeFor}
@@ -39,12 +39,13 @@ cutFrames (suc turns) (b ∷ s) = take (wholeLength b) (b ∷ s) ∷ cutFrames t
 abbrev pub mayOpen : Frame → Bool
 mayOpen f = eqb (senseNumber (f .sense)) 0 && (eqb (kindNumber (f .message .kind)) 0 || eqb (kindNumber (f .message .kind)) 3)
 
--- what a frame of the opening list is refused with, or 0: 1, then 2, then 3. Both kinds have from = to, so that a frame
--- addressed here is from here too
+-- what a frame of the opening list is refused with, or 0: the number of the first reason why it is no frame or is not taken in
+-- a list, then 2, then 3. Both kinds have from = to, so that a frame addressed here is from here too
 unfoldable pub openingRefusal : Settings → List ℕ → ℕ
 openingRefusal s bytes =
     let r = reading bytes in
-    cond (eqb (formNumber (r .form)) 0 && mayOpen (r .frame)) (refusal (r .frame) (s .n) (s .own) (s .last)) 1
+    let number = formNumber (formIn mayOpen r) in
+    cond (eqb number 0) (refusal (r .frame) (s .n) (s .own) (s .last)) number
 
 -- the first refusal among the frames, or 0
 unfoldable pub firstRefusal : Settings → List (List ℕ) → ℕ

@@ -18,7 +18,7 @@ use Rattle.model.specs.declared.Message.{Message}
 use Rattle.model.specs.declared.Kind.{Kind}
 use Rattle.model.specs.declared.Kind.the-variants.{Failure, Request, Delivery, Restock, Start, Lvt, Update}
 use Rattle.frame.proofs.Laws.{one-to-one}
-use Rattle.frame.specs.Reasons.{reading, formNumber}
+use Rattle.frame.specs.Reasons.{reading, formIn, formNumber}
 use Rattle.frame.specs.Limits.{refusal}
 use Rattle.frame.specs.declared.Frame.{Frame}
 use Rattle.frame.specs.declared.Sense.{Sense}
@@ -27,17 +27,16 @@ use Rattle.memory.specs.Records.{Gateway, siteOf}
 use Rattle.memory.specs.declared.Entry.{Entry}
 use Rattle.memory.specs.declared.Settings.{Settings}
 use Rattle.memory.proofs.Validated.{valid-facts}
-use Rattle.lists.proofs.BoolLaws.{and-left}
 use Rattle.gateway.specs.Effects.{Effect, Outcome, bytesOfFrames, fits, settled, refused, framesFor, withState}
 use Rattle.gateway.specs.Undoing.{processedOf, restored, sentBack, rolledBack}
 use Rattle.lists.specs.Lists.{beforeFirst, fromFirst}
 use Rattle.gateway.specs.Taking.{isLater, isCancelOf, isPlain, isSent, acknowledgment, takePlain, takeCancel, takeAcknowledgment}
 use Rattle.gateway.specs.Rounds.{isIdle, bitOf, allBits, awaited, valueIn, oneStart, takeStart, oneLvt, takeLvt, takeUpdate}
-use Rattle.gateway.specs.Calls.{unlessBelow, takeByKind, takeBySense, takeFrame, takeBytes, taken}
+use Rattle.gateway.specs.Calls.{unlessBelow, byCarrier, takeByKind, takeBySense, takeFrame, takeBytes, taken}
 use Rattle.gateway.proofs.Searches.{processed-member}
 use Rattle.gateway.proofs.Queues.{found-member}
 use Rattle.gateway.proofs.Replies.{Good, sent-good}
-use Rattle.gateway.proofs.Accepting.{form-good, Accepted, not-refused, accepted-good, cancel-kind}
+use Rattle.gateway.proofs.Accepting.{form-passed, Accepted, not-refused, accepted-good, cancel-kind}
 use Rattle.gateway.proofs.Maintaining.{Proper, Standing, standing, fitting}
 use Rattle.gateway.proofs.Takings.{queue-of, plain-stands, cancel-stands}
 use Rattle.rollback.proofs.RollbackLaws.{sent-outstanding}
@@ -186,23 +185,20 @@ module _ {g : Gateway} (p : Proper g) where
 
   take-bytes-small : (bytes : List ℕ) → Bytes bytes → (room : ℕ) → length (takeBytes bytes room g .output) ≤ 14364
   unfolding takeBytes
-  take-bytes-small bytes h room = by (formed && carried) refl
+  take-bytes-small bytes h room = by (eqb form 0) refl
     where
       f : Frame
       f = reading bytes .frame
 
-      formed : Bool
-      formed = eqb (formNumber (reading bytes .form)) 0
-
-      carried : Bool
-      carried = not (eqb (kindNumber (f .message .kind)) 3)
+      form : ℕ
+      form = formNumber (formIn byCarrier (reading bytes))
 
       number : ℕ
       number = refusal f (s .n) (s .own) (s .last)
 
-      passed : formed ≡ true → (b : Bool) → eqb number 0 ≡ b → length (cond b (takeFrame room f g) (refused number g) .output) ≤ 14364
+      passed : eqb form 0 ≡ true → (b : Bool) → eqb number 0 ≡ b → length (cond b (takeFrame room f g) (refused number g) .output) ≤ 14364
       passed e true z =
-          let good = form-good (reading bytes .form) e in
+          let good = form-passed byCarrier (reading bytes) e .0 in
           take-frame-small room f (record {
             form = one-to-one .readWellFormed bytes h good;
             ranged = one-to-one .readRanged bytes h good;
@@ -210,8 +206,8 @@ module _ {g : Gateway} (p : Proper g) where
           })
       passed e false z = omega arith
 
-      by : (b : Bool) → (formed && carried) ≡ b → length (cond b (cond (eqb number 0) (takeFrame room f g) (refused number g)) (refused 1 g) .output) ≤ 14364
-      by true e = passed (and-left formed carried e) (eqb number 0) refl
+      by : (b : Bool) → eqb form 0 ≡ b → length (cond b (cond (eqb number 0) (takeFrame room f g) (refused number g)) (refused form g) .output) ≤ 14364
+      by true e = passed e (eqb number 0) refl
       by false e = omega arith
 
 -- 28 for the acknowledgment and 28 × 512 for the cancels

@@ -1,31 +1,32 @@
 // The lamp of a frame.
+use frame::Form;
 use frame::Reading;
+use frame::forms::form_where;
+use frame::forms::is_good;
+use frame::tables::has_lamp;
 use model::kind_number;
-use reader::is_good;
 use reader::read;
 ghost use mathlib.Core.Path.{_≡_};
-ghost use Rattle.frame.specs.Lamps.{carriesLamp, IsLamp};
+ghost use Rattle.frame.specs.Lamps.{lampForm, IsLamp, lampNumber, lampRefusal};
 
 // The eighteen bytes of a frame's lamp, as the part of the frame that holds them. The empty part stands for 1: no frame, or
 // a frame without a lamp.
 pub fn lamp(frame: &[u8]) -> &[u8]
-    ensures { λ r. ⌜ IsLamp (frame .entry) r ⌝ }
+    ensures { λ r. ⌜ IsLamp (frame .entry) r × (lampNumber (now r) ≡ lampRefusal (now (frame .entry))) ⌝ }
 {
-    if carries_lamp(read(frame)) {
+    if is_good(lamp_form(read(frame))) {
         return &frame[9..27];
     }
     &frame[0..0]
 }
 
-fn carries_lamp(reading: Reading) -> bool
-    ensures { λ r. ⌜ r ≡ carriesLamp reading ⌝ }
+// The first reason why there is no lamp to read; the last is that the frame has none.
+fn lamp_form(reading: Reading) -> Form
+    ensures { λ r. ⌜ r ≡ lampForm reading ⌝ }
 {
     let form = reading.form;
     let frame = reading.frame;
     let message = frame.message;
     let kind = message.kind;
-    if !is_good(form) {
-        return false;
-    }
-    kind_number(kind) <= 2
+    form_where(has_lamp(kind_number(kind)), form)
 }

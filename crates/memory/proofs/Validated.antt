@@ -5,6 +5,7 @@ use mathlib.Core.Bool.{Bool, true, false, cond, not, _&&_, _||_, true≢false, f
 use mathlib.Core.List.{List, [], _∷_, List·Memᴰ·head as here, List·Memᴰ·tail as there, List·Memᴰ·not-nil, List·Memᴰ·cases-cons}
 use Prim.Native.Nat.{_≤_, _<_}
 use lib.ListN.{length}
+use Rattle.frame.proofs.Presence.{lamp-kinds}
 use borrow.Author.Tests.{leb-true, ltb-true, eqb-true, not-true, le-leb, lt-ltb, eq-eqb}
 use Rattle.lists.specs.Lists.{_∈_, Ascending, none, more, every}
 use Rattle.model.specs.Messages.{kindNumber, originOf}
@@ -144,7 +145,7 @@ module _ (s : Settings) where
   sent-facts x h =
       record {
         message = storable-facts s (x .cancel) (x .message) (search (and-left, and-right));
-        kind = leb-true (kindNumber (x .message .kind)) 2 (search (and-left, and-right));
+        kind = leb-true (kindNumber (x .message .kind)) 2 (sym (lamp-kinds (kindNumber (x .message .kind))) ∙ search (and-left, and-right));
         from = eqb-true (x .message .from) (s .own) (search (and-left, and-right));
       }
 
@@ -152,7 +153,7 @@ module _ (s : Settings) where
   unfolding sentValid
   facts-sent x v = rw (
     facts-storable s (x .cancel) (x .message) (v .message),
-    le-leb (kindNumber (x .message .kind)) 2 (v .kind),
+    lamp-kinds (kindNumber (x .message .kind)) ∙ le-leb (kindNumber (x .message .kind)) 2 (v .kind),
     eq-eqb
         (x .message .from) (s .own) (v .from),
   )

@@ -1,18 +1,16 @@
 -- The pass over the opening list: a law for each branch of the code.
 use mathlib.Core.Path.{_≡_, refl, sym, _∙_, ap}
-use mathlib.Core.Bool.{Bool, true, false, cond, not}
+use mathlib.Core.Bool.{true, false, cond}
 use mathlib.Core.List.{List, _∷_}
 use Prim.Native.Nat.{ℕ, suc, _+_, _-_, _≤_, _<_}
 use native.Mathlib.Omega.{arith}
 use lib.Dec.{eqb}
 use lib.ListN.{length, take, drop}
-use borrow.Author.Tests.{eq-eqb, ne-eqb, not-true, not-false}
-use Rattle.frame.proofs.Branches.{good-number}
+use borrow.Author.Tests.{eq-eqb, ne-eqb}
 use Rattle.model.specs.Messages.{kindNumber}
 use Rattle.frame.specs.Kinds.{senseNumber}
-use Rattle.frame.specs.Lamps.{isGood}
 use Rattle.frame.specs.Limits.{refusal}
-use Rattle.frame.specs.Reasons.{reading, formNumber}
+use Rattle.frame.specs.Reasons.{reading, formIn, formNumber}
 use Rattle.frame.specs.declared.Frame.{Frame}
 use Rattle.frame.specs.declared.Reading.{Reading}
 use Rattle.memory.specs.declared.Settings.{Settings}
@@ -32,29 +30,17 @@ module _ (f : Frame) {sense : ℕ} (e : sense ≡ senseNumber (f .sense)) where
     pub is-restock : (number ≡ 0 → ⊥) → eqb number 3 ≡ mayOpen f
     is-restock h = rw (eq-eqb (senseNumber (f .sense)) 0 (sym e ∙ d), ne-eqb (kindNumber (f .message .kind)) 0 (λ p. h (k ∙ p)), k)
 
-module _ (s : Settings) (bytes : List ℕ) {r : Reading} (e : r ≡ reading bytes) {good : Bool} (g : good ≡ isGood (r .form)) where
-  form-test : good ≡ eqb (formNumber (reading bytes .form)) 0
-  form-test = g ∙ good-number (r .form) ∙ ap (λ (x : Reading). eqb (formNumber (x .form)) 0) e
+module _ (s : Settings) (bytes : List ℕ) {r : Reading} (e : r ≡ reading bytes) {form : ℕ} (f : form ≡ formNumber (formIn mayOpen r)) where
+  is-form : form ≡ formNumber (formIn mayOpen (reading bytes))
+  is-form = f ∙ ap (λ (x : Reading). formNumber (formIn mayOpen x)) e
 
-  pub no-frame : not good ≡ true → 1 ≡ openingRefusal s bytes
+  pub form-refused : (form ≡ 0 → ⊥) → form ≡ openingRefusal s bytes
   unfolding openingRefusal
-  no-frame h = rw (sym form-test ∙ not-true good h)
+  form-refused h = rw (← is-form, ne-eqb form 0 h)
 
-  module _ (h : not good ≡ false) {may : Bool} (m : may ≡ mayOpen (r .frame)) where
-    may-test : may ≡ mayOpen (reading bytes .frame)
-    may-test = m ∙ ap (λ (x : Reading). mayOpen (x .frame)) e
-
-    pub other-frame : not may ≡ true → 1 ≡ openingRefusal s bytes
-    unfolding openingRefusal
-    other-frame k = rw (sym form-test ∙ not-false good h, sym may-test ∙ not-true may k)
-
-    pub frame-checked : {number : ℕ} → not may ≡ false → number ≡ refusal (r .frame) (s .n) (s .own) (s .last) → number ≡ openingRefusal s bytes
-    unfolding openingRefusal
-    frame-checked k n = n ∙ ap (λ (x : Reading). refusal (x .frame) (s .n) (s .own) (s .last)) e ∙ rw (
-      sym form-test ∙ not-false good h,
-      sym
-          may-test ∙ not-false may k,
-    )
+  pub frame-checked : {number : ℕ} → form ≡ 0 → number ≡ refusal (r .frame) (s .n) (s .own) (s .last) → number ≡ openingRefusal s bytes
+  unfolding openingRefusal
+  frame-checked h n = n ∙ ap (λ (x : Reading). refusal (x .frame) (s .n) (s .own) (s .last)) e ∙ rw (← is-form, eq-eqb form 0 h)
 
 -- the pass has come to a position, and none before it is refused
 pub record Passing (list : List ℕ) (s : Settings) (count at : ℕ) : Type 0 where

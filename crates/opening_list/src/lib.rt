@@ -2,6 +2,9 @@
 use effects::insert::insert_place;
 use effects::insert::pending;
 use frame::Frame;
+use frame::Reading;
+use frame::forms::form_number;
+use frame::forms::form_where;
 use frame::tables::sense_number;
 use frame::tables::whole_length;
 use limits::check;
@@ -10,7 +13,6 @@ use model::Message;
 use model::kind_number;
 use places::search::Search;
 use places::search::find;
-use reader::is_good;
 use reader::read;
 ghost use mathlib.Core.Path.{_≡_};
 ghost use mathlib.Core.List.{[]};
@@ -20,6 +22,7 @@ ghost use Rattle.memory.specs.Layout.{headerSize, queueSize, queueAt};
 ghost use Rattle.lists.specs.Lists.{joined};
 ghost use Rattle.buffer.specs.Slice.{write};
 ghost use Rattle.memory.specs.Codec.{entryBytes};
+ghost use Rattle.frame.specs.Reasons.{formIn, formNumber};
 ghost use Rattle.gateway.specs.SettingUp.{mayOpen, openingRefusal, queued};
 ghost use Rattle.opening_list.specs.inside.Frames.{frameEnd, framesFrom, Checks, memoryEntered};
 
@@ -63,15 +66,25 @@ fn opening_refusal(bytes: &[u8], settings: Settings) -> u8
     ensures { λ r. ⌜ r ≡ openingRefusal settings (now (bytes .entry)) ⌝ }
 {
     let reading = read(bytes);
+    let number = form_refusal(reading);
+    if number != 0 {
+        return number;
+    }
+    check(
+        reading.frame,
+        settings.n as u16,
+        settings.own,
+        settings.last,
+    )
+}
+
+// The number of the first reason why a list does not hold what was read, or 0.
+fn form_refusal(reading: Reading) -> u8
+    ensures { λ r. ⌜ r ≡ formNumber (formIn mayOpen reading) ⌝ }
+{
     let form = reading.form;
     let frame = reading.frame;
-    if !is_good(form) {
-        return 1;
-    }
-    if !may_open(frame) {
-        return 1;
-    }
-    check(frame, settings.n as u16, settings.own, settings.last)
+    form_number(form_where(may_open(frame), form))
 }
 
 // One pass: the first refusal, and the number of frames.

@@ -23,13 +23,12 @@ ghost use lib.ListN.{length, getD};
 ghost use Rattle.buffer.specs.Slice.{part};
 ghost use Rattle.buffer.specs.Number.{numberOf};
 ghost use Rattle.frame.specs.Layout.{widths, wholeLength};
-ghost use Rattle.frame.specs.Reasons.{reading, readAs, refusedAs, fieldsForm, fieldsOf, frameOf};
-ghost use Rattle.frame.specs.Lamps.{isGood};
+ghost use Rattle.frame.specs.Reasons.{reading, readAs, refusedAs, fieldsForm, fieldsOf, frameOf, formNumber, formRefusal};
 ghost use Rattle.frame.specs.inside.Steps.{stored, noFields};
 
-// Reads a byte string.
+// Reads a byte string. The number of its form is what it is refused with, or 0.
 pub fn read(bytes: &[u8]) -> Reading
-    ensures { λ r. ⌜ r ≡ reading (now (bytes .entry)) ⌝ }
+    ensures { λ r. ⌜ (r ≡ reading (now (bytes .entry))) × (formNumber (r .form) ≡ formRefusal (now (bytes .entry))) ⌝ }
 {
     if bytes.len() < 2 {
         return refused(Form::TooShort);
@@ -43,20 +42,6 @@ pub fn read(bytes: &[u8]) -> Reading
         return refused(Form::WrongLength);
     }
     judge(map, walk(bytes, map))
-}
-
-pub fn is_good(form: Form) -> bool
-    ensures { λ r. ⌜ r ≡ isGood form ⌝ }
-{
-    match form {
-        Form::Good => true,
-        Form::TooShort => false,
-        Form::WrongMap => false,
-        Form::WrongLength => false,
-        Form::WrongSense => false,
-        Form::WrongLamp => false,
-        Form::WrongGateways => false,
-    }
 }
 
 // The last three reasons.

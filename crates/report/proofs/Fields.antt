@@ -1,21 +1,18 @@
 -- Fields put one behind the other.
-use mathlib.Core.Path.{_≡_}
+use mathlib.Core.Path.{_≡_, sym}
 use Prim.Native.Nat.{ℕ, _+_, _≤_, _<_}
 use native.Mathlib.Omega.{arith}
 use mathlib.Core.Bool.{Bool, true, false, cond}
-use mathlib.Core.List.{List, [], _∷_, _++_}
+use mathlib.Core.List.{List, _++_}
 use lib.ListN.{length, set}
-use borrow.Author.Tests.{le-leb, lt-leb}
-use Rattle.frame.proofs.Branches.{good-number}
 use Rattle.buffer.specs.Slice.{write, Puts}
 use Rattle.buffer.proofs.Putting.{puts-byte, puts-more, puts-length}
 use Rattle.text.specs.Decimal.{decimal}
 use Rattle.text.proofs.Putting.{length-within}
 use Rattle.model.specs.Messages.{kindNumber, originOf, quantityOf}
 use Rattle.model.specs.declared.Message.{Message}
-use Rattle.frame.specs.Kinds.{senseNumber}
-use Rattle.frame.specs.Lamps.{isGood}
-use Rattle.frame.specs.Reasons.{reading}
+use Rattle.frame.specs.Kinds.{hasLamp, senseNumber}
+use Rattle.frame.specs.Reasons.{reading, isGood, formNumber}
 use Rattle.frame.specs.declared.Frame.{Frame}
 use Rattle.frame.specs.declared.Reading.{Reading}
 use Rattle.report.specs.Line.{field, route, content, lampText, frameText, line}
@@ -75,22 +72,25 @@ module _ (at : ℕ) (m : List ℕ) {m₁ m₂ m₃ : List ℕ} {p q r : ℕ} whe
   frame-put f room a b c = three at 44 33 m (omega arith) (a .0) (a .1) (b .0) (b .1) (c .0)
 
 -- the lamp, or a dash
-module _ (at : ℕ) (m : List ℕ) (x : Message) {k : ℕ} where
-  pub lamp-put : {now : List ℕ} → length (x .lamp) ≡ 18 → k ≡ kindNumber (x .kind) → k ≤ 2 → now ≡ write at (x .lamp) m → Puts at (lampText x) m now (at + 18)
-  unfolding lampText
-  lamp-put l e h w = rw (le-leb (kindNumber (x .kind)) 2 (omega arith)) (record { position = omega arith; output = w })
+module _ (at : ℕ) (m : List ℕ) (x : Message) {k : ℕ} {has : Bool} (e : k ≡ kindNumber (x .kind)) (l : has ≡ hasLamp k) where
+  lamp-test : hasLamp (kindNumber (x .kind)) ≡ has
+  lamp-test = rw (← e) (sym l)
 
-  pub dash-put : at < length m → k ≡ kindNumber (x .kind) → 2 < k → Puts at (lampText x) m (set m at 45) (at + 1)
+  pub lamp-put : {now : List ℕ} → length (x .lamp) ≡ 18 → has ≡ true → now ≡ write at (x .lamp) m → Puts at (lampText x) m now (at + 18)
   unfolding lampText
-  dash-put room e h = rw (lt-leb (kindNumber (x .kind)) 2 (omega arith)) (puts-byte at 45 m room)
+  lamp-put n h w = rw (lamp-test, h) (record { position = omega arith; output = w })
+
+  pub dash-put : at < length m → has ≡ false → Puts at (lampText x) m (set m at 45) (at + 1)
+  unfolding lampText
+  dash-put room h = rw (lamp-test, h) (puts-byte at 45 m room)
 
 module _ (at : ℕ) (m s : List ℕ) (r : Reading) {b : Bool} (e : r ≡ reading s) (good : b ≡ isGood (r .form)) where
-  is-line : line s ≡ cond b (frameText (r .frame)) (49 ∷ [])
+  is-line : line s ≡ cond b (frameText (r .frame)) (decimal (formNumber (r .form)))
   unfolding line
-  is-line = rw (← e, ← good-number (r .form), ← good)
+  is-line = rw (← e, ← good)
 
   pub good-put : {now : List ℕ} {p : ℕ} → b ≡ true → Puts at (frameText (r .frame)) m now p → Puts at (line s) m now p
   good-put h x = rw (is-line, h) x
 
-  pub refused-put : at < length m → b ≡ false → Puts at (line s) m (set m at 49) (at + 1)
-  refused-put room h = rw (is-line, h) (puts-byte at 49 m room)
+  pub refused-put : {now : List ℕ} {p number : ℕ} → b ≡ false → number ≡ formNumber (r .form) → Puts at (decimal number) m now p → Puts at (line s) m now p
+  refused-put h n x = rw (is-line, h, ← n) x

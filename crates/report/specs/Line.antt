@@ -1,13 +1,13 @@
--- The line that the program frames prints of a byte string: kind, from, to, hour, origin, quantity, sense and lamp, or 1.
+-- The line that the program frames prints of a byte string: kind, from, to, hour, origin, quantity, sense and lamp, or the number
+-- with which it is refused.
 use Prim.Native.Nat.{ℕ}
 use mathlib.Core.Bool.{cond}
 use mathlib.Core.List.{List, [], _∷_, _++_}
-use lib.Dec.{eqb, leb}
 use Rattle.text.specs.Decimal.{decimal}
 use Rattle.model.specs.Messages.{kindNumber, originOf, quantityOf}
 use Rattle.model.specs.declared.Message.{Message}
-use Rattle.frame.specs.Kinds.{senseNumber}
-use Rattle.frame.specs.Reasons.{reading, formNumber}
+use Rattle.frame.specs.Kinds.{hasLamp, senseNumber}
+use Rattle.frame.specs.Reasons.{reading, isGood, formNumber}
 use Rattle.frame.specs.declared.Frame.{Frame}
 
 -- a number and a blank
@@ -24,11 +24,11 @@ content f = field (originOf (f .message .kind)) ++ (field (quantityOf (f .messag
 
 -- the lamp's eighteen characters, or a dash
 unfoldable pub lampText : Message → List ℕ
-lampText m = cond (leb (kindNumber (m .kind)) 2) (m .lamp) (45 ∷ [])
+lampText m = cond (hasLamp (kindNumber (m .kind))) (m .lamp) (45 ∷ [])
 
 unfoldable pub frameText : Frame → List ℕ
 frameText f = route (f .message) ++ (content f ++ lampText (f .message))
 
 -- the line of a byte string, without its line end
 unfoldable pub line : List ℕ → List ℕ
-line s = let r = reading s in cond (eqb (formNumber (r .form)) 0) (frameText (r .frame)) (49 ∷ [])
+line s = let r = reading s in cond (isGood (r .form)) (frameText (r .frame)) (decimal (formNumber (r .form)))

@@ -3,12 +3,14 @@ use buffer::copy;
 use check::same;
 use frame::Frame;
 use frame::WriteAnswer;
+use frame::forms::form_number;
+use frame::forms::is_good;
+use frame::tables::has_lamp;
 use frame::tables::sense_number;
 use model::Message;
 use model::kind_number;
 use model::origin_of;
 use model::quantity_of;
-use reader::is_good;
 use reader::read;
 use text::put_decimal;
 use writer::write;
@@ -54,8 +56,7 @@ pub fn put_line(out: &mut [u8], at: usize, item: &[u8]) -> usize
         let frame = reading.frame;
         return put_frame(out, at, frame);
     }
-    out[at] = 49;
-    at + 1
+    put_decimal(out, at, form_number(form) as u32)
 }
 
 fn put_frame(out: &mut [u8], at: usize, frame: Frame) -> usize
@@ -99,7 +100,7 @@ fn put_lamp(out: &mut [u8], at: usize, message: Message) -> usize
     ensures { λ r. ⌜ (Puts at (lampText message) (now (out .entry)) (now (out .exit)) r) × (r ≤ at + 18) ⌝ }
 {
     let kind = message.kind;
-    if kind_number(kind) <= 2 {
+    if has_lamp(kind_number(kind)) {
         let lamp = message.lamp;
         copy(out, at, &lamp);
         return at + 18;

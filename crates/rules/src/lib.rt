@@ -1,5 +1,8 @@
 // What a frame of each kind has to keep to, for the reader and the writer.
 use frame::Frame;
+use frame::tables::SENSE;
+use frame::tables::has_hour;
+use frame::tables::has_lamp;
 use frame::tables::map_of_kind;
 use frame::tables::sense_number;
 use model::Kind;
@@ -16,7 +19,7 @@ pub fn lamp_fits(message: Message) -> bool
 {
     let lamp = message.lamp;
     let kind = message.kind;
-    if kind_number(kind) <= 2 {
+    if has_lamp(kind_number(kind)) {
         return all_between(lamp, 33, 126);
     }
     all_between(lamp, 0, 0)
@@ -81,16 +84,23 @@ pub fn well_formed(frame: Frame) -> bool
 fn header_fits(kind: u8, sense: u8, hour: u32) -> bool
     ensures { λ r. ⌜ r ≡ (senseAllowed kind sense && hourFits kind hour) ⌝ }
 {
-    if kind <= 2 {
-        return true;
-    }
-    if sense != 0 {
+    if !sense_allowed(kind, sense) {
         return false;
     }
-    if kind == 4 {
-        return hour == 0;
+    if has_hour(kind) {
+        return true;
     }
-    true
+    hour == 0
+}
+
+// Whether a kind may have that sense: only one with a lamp has any.
+fn sense_allowed(kind: u8, sense: u8) -> bool
+    ensures { λ r. ⌜ r ≡ senseAllowed kind sense ⌝ }
+{
+    if has_lamp(kind) {
+        return true;
+    }
+    sense == 0
 }
 
 // Whether the map is that of the kind, with bit 7 only for a kind with a lamp.
@@ -104,17 +114,17 @@ pub fn map_fits(map: u8, kind: u8) -> bool
     if map == plain {
         return true;
     }
-    if kind > 2 {
+    if !has_lamp(kind) {
         return false;
     }
-    map == plain + 128
+    map == plain + SENSE
 }
 
 // Whether the sense is 1 to 3 where bit 7 stands.
 pub fn sense_fits(map: u8, sense: u8) -> bool
     ensures { λ r. ⌜ r ≡ senseFits map sense ⌝ }
 {
-    if map < 128 {
+    if map < SENSE {
         return true;
     }
     if sense < 1 {

@@ -2,7 +2,7 @@
 use mathlib.Core.Path.{_≡_, refl, sym, _∙_, ap, subst}
 use Prim.Native.Nat.{ℕ, _≤_}
 use native.Mathlib.Omega.{arith}
-use mathlib.Core.Bool.{Bool, true, false, cond, not, _&&_}
+use mathlib.Core.Bool.{Bool, true, false, cond}
 use mathlib.Core.List.{List, []}
 use lib.Dec.{ltb, eqb}
 use borrow.Author.Tests.{ltb-false, eqb-true, eqb-false}
@@ -10,17 +10,17 @@ use Rattle.lists.specs.Lists.{any, withoutFirst}
 use Rattle.model.specs.Messages.{kindNumber}
 use Rattle.model.specs.declared.Kind.{Kind}
 use Rattle.model.specs.declared.Kind.the-variants.{Failure, Request, Delivery, Restock, Start, Lvt, Update}
-use Rattle.frame.specs.Reasons.{reading, formNumber}
+use Rattle.frame.specs.Reasons.{reading, formIn, formNumber}
 use Rattle.frame.specs.Limits.{refusal}
 use Rattle.frame.specs.declared.Frame.{Frame}
 use Rattle.frame.specs.declared.Sense.{Sense}
 use Rattle.frame.specs.declared.Sense.the-variants.{Plain, Cancel, Acknowledgment, CancelAcknowledgment}
 use Rattle.memory.specs.Records.{Gateway}
-use Rattle.lists.proofs.BoolLaws.{and-left}
+use Rattle.gateway.proofs.Accepting.{form-passed}
 use Rattle.gateway.specs.Effects.{Effect, Outcome, bytesOfFrames, fits, settled, withOutstanding}
 use Rattle.gateway.specs.Taking.{isSent, takePlain, takeCancel, takeAcknowledgment}
 use Rattle.gateway.specs.Rounds.{takeStart, takeLvt, takeUpdate}
-use Rattle.gateway.specs.Calls.{unlessBelow, takeByKind, takeBySense, takeFrame, takeBytes}
+use Rattle.gateway.specs.Calls.{unlessBelow, byCarrier, takeByKind, takeBySense, takeFrame, takeBytes}
 use Rattle.run.proofs.EventsUnderWay.{IsEvent}
 
 -- an effect for which there is room
@@ -134,14 +134,13 @@ bytes-accepted bytes room g h = by-form formTest refl
     number = refusal (reading bytes .frame) (g .settings .n) (g .settings .own) (g .settings .last)
 
     formTest : Bool
-    formTest = eqb (formNumber (reading bytes .form)) 0 && not (eqb (kindNumber (reading bytes .frame .message .kind)) 3)
+    formTest = eqb (formNumber (formIn byCarrier (reading bytes))) 0
 
     by-number : formTest ≡ true → (t : Bool) → eqb number 0 ≡ t → BytesAccepted bytes room g
     by-number p true q =
         let same : takeBytes bytes room g ≡ takeFrame room (reading bytes .frame) g = rw (p, q) in
         record {
-          good = eqb-true (formNumber (reading bytes .form)) 0 (and-left (eqb (formNumber (reading bytes .form)) 0) (not (eqb (kindNumber
-              (reading bytes .frame .message .kind)) 3)) p);
+          good = ap formNumber (form-passed byCarrier (reading bytes) p .0);
           passes = eqb-true number 0 q;
           comes-to = same;
           taken = frame-accepted room (reading bytes .frame) g (ap (λ (r : Outcome). r .number) (sym same) ∙ h);
@@ -150,4 +149,4 @@ bytes-accepted bytes room g h = by-form formTest refl
 
     by-form : (t : Bool) → formTest ≡ t → BytesAccepted bytes room g
     by-form true p = by-number p (eqb number 0) refl
-    by-form false p = absurd (omega (arith, rw p at h))
+    by-form false p = absurd (eqb-false (formNumber (formIn byCarrier (reading bytes))) 0 p (rw p at h))

@@ -14,7 +14,7 @@ use Rattle.routing.specs.Figure2.{gvtcfg, widen, share, setFrom, setTo}
 use Rattle.model.specs.Doing.{sent}
 use Rattle.model.specs.EventOrder.{key, compared}
 use Rattle.frame.specs.Layout.{standing, wholeLength, cut}
-use Rattle.frame.specs.Kinds.{mapOfKind, mapOf}
+use Rattle.frame.specs.Kinds.{mapOfKind, hasHour, hasLamp, mapOf}
 use Rattle.frame.specs.Writing.{contents, written, allBetween, lampFits, wellFormed}
 use Rattle.frame.specs.Reasons.{valuesOf, fieldsOf, mapFits, fieldsForm, formOf, reading}
 use Rattle.frame.specs.Limits.{refusal}
@@ -44,7 +44,7 @@ bytes-by (b ∷ l) h (suc i) = bytes-by l (search (and-left, and-right)) i
 pub example : ExampleRun
 unfolding
     sameBytes part write bytesOf numberFrom numberOf from to mid0 mid1 gvtcfg widen share setFrom setTo sent key compared standing tally
-    joined wholeLength cut mapOfKind mapOf contents written allBetween lampFits wellFormed valuesOf fieldsOf mapFits fieldsForm formOf
+    joined wholeLength cut mapOfKind hasHour hasLamp mapOf contents written allBetween lampFits wellFormed valuesOf fieldsOf mapFits fieldsForm formOf
     reading refusal stateBytes stateOf messageBytes messageOf entryBytes entryOf sentBytes sentOf headerAt headerFront headerBack
     placesAt decode encode sound every settingsValid roundPossible equal later ordered processedFirst noneMeet
     storable entryValid sentValid valid fits settled noted sentOne sentAll processedOf pendingOf processedNext done worked

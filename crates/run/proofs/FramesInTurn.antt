@@ -50,7 +50,7 @@ use Rattle.run.proofs.EventsUnderWay.{seen-have, eventOf, acknowledgedO
 use Rattle.run.proofs.RoundsUnderWay.{roundOf, roundsIn}
 use Rattle.run.proofs.AcceptedFrames.{outcomeOf}
 use Rattle.run.proofs.AcceptedCalls.{call-number}
-use Rattle.run.proofs.PassingFrames.{Passing}
+use Rattle.run.proofs.PassingFrames.{Passing, passing-form}
 use Rattle.run.proofs.BothWorlds.{Both, forecastSetting, gatewaysIn}
 
 -- refused only for want of room
@@ -262,7 +262,7 @@ module _ (n : ℕ) (some : 1 ≤ n) (last : ℕ) (setups : ℕ → SetUpInput) {
         let own : eqb (addressee (f .sense) m) (g .settings .own) ≡ true = eq-eqb (addressee (f .sense) m) (g .settings .own) (here ∙ sym (st .own)) in
         let numbers : numbersBelow (g .settings .n) m ≡ true = rw (st .count) (p .numbers) in
         let hours : hourAllowed (g .settings .last) m ≡ true = rw (st .until) (p .hour) in
-        rw (p .form, p .kind, own, numbers, hours) (by-sense (f .sense) refl (p .kind))
+        rw (passing-form (c .frame) p, own, numbers, hours) (by-sense (f .sense) refl (p .kind))
 
   -- the gateway that it is addressed to
   receiver-inside : addressee (f .sense) m < n

@@ -4,8 +4,9 @@ use mathlib.Core.Bool.{true, false}
 use mathlib.Core.List.{List}
 use Prim.Native.Nat.{ℕ}
 use lib.Dec.{eqb}
+use borrow.Author.Tests.{eq-eqb}
 use Rattle.model.specs.Messages.{kindNumber}
-use Rattle.frame.specs.Reasons.{reading, formNumber, readAs}
+use Rattle.frame.specs.Reasons.{reading, formIn, formNumber, readAs}
 use Rattle.frame.specs.Limits.{numbersBelow, hourAllowed}
 use Rattle.frame.specs.Writing.{written, wellFormed}
 use Rattle.frame.specs.Claims.{RangedFrame}
@@ -13,6 +14,8 @@ use Rattle.frame.specs.declared.Frame.{Frame}
 use Rattle.frame.specs.declared.Reading.{Reading}
 use Rattle.frame.specs.declared.Form.the-variants.{Good}
 use Rattle.frame.proofs.Laws.{one-to-one}
+use Rattle.frame.proofs.FormNumbers.{good-number, number-passes}
+use Rattle.gateway.specs.Calls.{byCarrier}
 
 -- of the forms, no Restock, and with its numbers and its hour in their ranges
 pub record Passing (n last : ℕ) (bytes : List ℕ) : Type 0 where
@@ -20,6 +23,12 @@ pub record Passing (n last : ℕ) (bytes : List ℕ) : Type 0 where
   pub kind : eqb (kindNumber (reading bytes .frame .message .kind)) 3 ≡ false
   pub numbers : numbersBelow n (reading bytes .frame .message) ≡ true
   pub hour : hourAllowed last (reading bytes .frame .message) ≡ true
+
+-- the carrier's call takes it
+pub passing-form : {n last : ℕ} (bytes : List ℕ) → Passing n last bytes → eqb (formNumber (formIn byCarrier (reading bytes))) 0 ≡ true
+passing-form bytes p =
+    number-passes (byCarrier (reading bytes .frame)) (reading bytes .form)
+    ∙ rw (good-number (reading bytes .form), eq-eqb (formNumber (reading bytes .form)) 0 (p .form), p .kind)
 
 -- with equal limits
 pub same-passing : {n n′ last last′ : ℕ} → n ≡ n′ → last ≡ last′ → {bytes : List ℕ} → Passing n last bytes → Passing n′ last′ bytes

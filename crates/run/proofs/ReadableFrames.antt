@@ -1,10 +1,9 @@
 -- What the gateways write of events can be read again: frames of stored messages and acknowledgments are of the forms that they are written in.
-use mathlib.Core.Path.{_≡_, refl, sym, ap, subst}
+use mathlib.Core.Path.{_≡_, refl, sym, _∙_, ap, subst}
 use Prim.Native.Nat.{ℕ, zero, suc, _≤_, _<_}
 use native.Mathlib.Omega.{arith}
 use mathlib.Core.Bool.{Bool, true, false, cond, _||_, false≢true}
 use mathlib.Core.List.{List, [], _∷_, map-append, List·Memᴰ·head as member-first, List·Memᴰ·tail as member-rest}
-use lib.Dec.{leb}
 use borrow.Author.Tests.{leb-true, le-leb, lt-ltb, ne-eqb}
 use Rattle.lists.specs.Lists.{_∈_, All, nil, cons}
 use Rattle.lists.proofs.ListLaws.{all-append}
@@ -14,6 +13,7 @@ use Rattle.model.specs.Messages.{kindNumber, originOf}
 use Rattle.model.specs.declared.Message.{Message}
 use Rattle.model.specs.declared.State.{State}
 use Rattle.frame.specs.Kinds.{hasLamp, senseNumber}
+use Rattle.frame.proofs.Presence.{lamp-kinds}
 use Rattle.frame.specs.Writing.{allBetween, lampFits, gatewaysAgree, hourFits, senseAllowed, wellFormed, written}
 use Rattle.frame.specs.Claims.{RangedFrame}
 use Rattle.frame.specs.declared.Frame.{Frame}
@@ -144,10 +144,10 @@ pub sensed-kind : (m : Message) (s : Sense) → 1 ≤ senseNumber s → wellForm
 unfolding wellFormed
 sensed-kind m s h e =
     let allowed : senseAllowed (kindNumber (m .kind)) (senseNumber s) ≡ true = search (and-left, and-right) depth 9 in
-    by-case (leb (kindNumber (m .kind)) 2) refl (rw (ne-eqb (senseNumber s) 0 (λ z. omega arith)) at allowed)
+    by-case (hasLamp (kindNumber (m .kind))) refl (rw (ne-eqb (senseNumber s) 0 (λ z. omega arith)) at allowed)
   where
-    by-case : (b : Bool) → leb (kindNumber (m .kind)) 2 ≡ b → (b || false) ≡ true → kindNumber (m .kind) ≤ 2
-    by-case true p k = leb-true (kindNumber (m .kind)) 2 p
+    by-case : (b : Bool) → hasLamp (kindNumber (m .kind)) ≡ b → (b || false) ≡ true → kindNumber (m .kind) ≤ 2
+    by-case true p k = leb-true (kindNumber (m .kind)) 2 (sym (lamp-kinds (kindNumber (m .kind))) ∙ p)
     by-case false p k = absurd (false≢true k)
 
 -- a well-formed frame of a message with a lamp is so in any sense
@@ -156,9 +156,9 @@ pub any-sense : (m : Message) (s t : Sense) → kindNumber (m .kind) ≤ 2 → w
 unfolding wellFormed
 any-sense m s t h e =
     let hours : hourFits (kindNumber (m .kind)) (m .hour) ≡ true = search (and-left, and-right) depth 9 in
-    let lamps : cond (leb (kindNumber (m .kind)) 2) (allBetween 33 126 (m .lamp)) (allBetween 0 0 (m .lamp)) ≡ true = search (and-left, and-right) depth 9 in
+    let lamps : lampFits m ≡ true = search (and-left, and-right) depth 9 in
     let agrees : gatewaysAgree (m .from) (m .to) (m .kind) ≡ true = search (and-left, and-right) depth 9 in
-    rw (lamps, hours, agrees, le-leb (kindNumber (m .kind)) 2 h)
+    rw (lamps, hours, agrees, lamp-kinds (kindNumber (m .kind)) ∙ le-leb (kindNumber (m .kind)) 2 h)
 
 module _ (s : Settings) (v : ValidSettings s) where
   -- the acknowledgment of a message that was taken

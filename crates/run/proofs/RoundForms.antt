@@ -13,7 +13,7 @@ use Rattle.model.specs.Messages.{kindNumber, originOf, quantityOf}
 use Rattle.model.specs.declared.Kind.{Kind}
 use Rattle.model.specs.declared.Kind.the-variants.{Start, Lvt, Update}
 use Rattle.frame.specs.Layout.{wholeLength, standing}
-use Rattle.frame.specs.Kinds.{mapOf, mapOfKind}
+use Rattle.frame.specs.Kinds.{hasHour, mapOf, mapOfKind}
 use Rattle.frame.specs.Writing.{written, contents, wellFormed, lampFits, allBetween}
 use Rattle.frame.specs.Claims.{RangedFrame, OneToOne}
 use Rattle.frame.specs.declared.Frame.{Frame}
@@ -53,15 +53,15 @@ module _ (one : OneToOne) (kind : Kind) (o : originOf kind ≡ 0) (q : quantityO
 
 module _ (v i j : ℕ) where
   pub start-formed : wellFormed (frameInRound Start 0 i j) ≡ true
-  unfolding wellFormed lampFits allBetween
+  unfolding wellFormed hasHour lampFits allBetween
   start-formed = refl
 
   pub lvt-formed : wellFormed (frameInRound Lvt v i j) ≡ true
-  unfolding wellFormed lampFits allBetween
+  unfolding wellFormed hasHour lampFits allBetween
   lvt-formed = refl
 
   pub update-formed : wellFormed (frameInRound Update v i j) ≡ true
-  unfolding wellFormed lampFits allBetween
+  unfolding wellFormed hasHour lampFits allBetween
   update-formed = refl
 
   -- and are as long as the table says

@@ -1,14 +1,16 @@
 // The call take: a byte string that is no frame, or no frame for this gateway, is refused; the others go by sense and kind.
+use frame::Form;
 use frame::Frame;
 use frame::Reading;
 use frame::Sense;
+use frame::forms::form_number;
+use frame::forms::form_where;
 use gateway::Answer;
 use gateway::refused;
 use limits::check;
 use memory::Header;
 use model::Message;
 use model::kind_number;
-use reader::is_good;
 use reader::read;
 use soundness::checked;
 use take_acknowledgment::take_acknowledgment;
@@ -21,7 +23,8 @@ ghost use mathlib.Core.Path.{_≡_};
 ghost use Prim.Native.Nat.{_<_};
 ghost use Rattle.model.specs.Messages.{kindNumber};
 ghost use Rattle.memory.specs.inside.Fits.{MessageFits};
-ghost use Rattle.gateway.specs.Calls.{left, usable, takeByKind, takeFor, takeFrame, takeBytes, taken};
+ghost use Rattle.frame.specs.Reasons.{formIn, formNumber};
+ghost use Rattle.gateway.specs.Calls.{left, byCarrier, takeByKind, takeFor, takeFrame, takeBytes, taken};
 ghost use Rattle.gateway.specs.inside.Premises.{Known, Leaves};
 
 pub fn take(memory: &mut [u8], frame: &[u8], output: &mut [u8]) -> Answer
@@ -34,30 +37,28 @@ pub fn take(memory: &mut [u8], frame: &[u8], output: &mut [u8]) -> Answer
     take_bytes(memory, frame, output, found.header)
 }
 
-// A byte string that is no frame, or a Restock, which only an opening list may hold, is 1.
+// A byte string that is no frame, or one that this call does not take, is refused with the number of its form.
 fn take_bytes(memory: &mut [u8], frame: &[u8], output: &mut [u8], header: Header) -> Answer
     requires { ⌜ Known (now memory) header ⌝ }
     ensures { λ r. ⌜ Leaves r memory output (takeBytes (now (frame .entry))) ⌝ }
 {
     let reading = read(frame);
-    if !is_usable(reading) {
-        return refused(1);
+    let number = form_refusal(reading);
+    if number != 0 {
+        return refused(number);
     }
     take_checked(memory, output, header, reading.frame)
 }
 
-// A frame, but no Restock, which only an opening list may hold.
-fn is_usable(reading: Reading) -> bool
-    ensures { λ r. ⌜ r ≡ usable reading ⌝ }
+// The number of the first reason why this call does not take what was read, or 0. A Restock is for opening lists alone.
+fn form_refusal(reading: Reading) -> u8
+    ensures { λ r. ⌜ r ≡ formNumber (formIn byCarrier reading) ⌝ }
 {
     let form = reading.form;
     let frame = reading.frame;
     let message = frame.message;
     let kind = message.kind;
-    if !is_good(form) {
-        return false;
-    }
-    kind_number(kind) != 3
+    form_number(form_where(kind_number(kind) != 3, form))
 }
 
 // Numbers and hour are looked at before the rest: 2, then 3.
@@ -99,7 +100,7 @@ fn take_by_kind(memory: &mut [u8], output: &mut [u8], header: Header, message: M
     take_in_round(memory, output, header, message)
 }
 
-// A message of the round. A Restock is 1.
+// A message of the round. A Restock is not taken.
 fn take_in_round(memory: &mut [u8], output: &mut [u8], header: Header, message: Message) -> Answer
     requires { ⌜ Known (now memory) header × (2 < kindNumber (message .kind)) ⌝ }
     ensures { λ r. ⌜ Leaves r memory output (λ room g. takeByKind room message g (message .kind)) ⌝ }
@@ -110,6 +111,6 @@ fn take_in_round(memory: &mut [u8], output: &mut [u8], header: Header, message: 
         4 => take_start(memory, output, header, message.from),
         5 => take_timely_lvt(memory, output, header, message),
         6 => take_update(memory, output, header, message.from, message.hour),
-        _ => refused(1),
+        _ => refused(form_number(Form::NotTaken)),
     }
 }

@@ -2,6 +2,7 @@
 use entries::frame_if;
 use entries::is_processed;
 use entries::is_waiting;
+use frame::tables::has_lamp;
 use limits::numbers_below;
 use memory::Entry;
 use memory::HEADER_SIZE;
@@ -167,7 +168,7 @@ pub fn sent_valid(settings: Settings, sent: Sent) -> bool
     if !storable(settings, sent.cancel, message) {
         return false;
     }
-    if kind_number(kind) > 2 {
+    if !has_lamp(kind_number(kind)) {
         return false;
     }
     message.from == settings.own

@@ -5,10 +5,15 @@ use buffer::copy;
 use buffer::write16;
 use buffer::write32;
 use frame::Frame;
-use frame::Sense;
 use frame::WriteAnswer;
+use frame::tables::HOUR;
+use frame::tables::LAMP;
+use frame::tables::ORIGIN;
+use frame::tables::QUANTITY;
+use frame::tables::SENSE;
 use frame::tables::map_of;
 use frame::tables::sense_number;
+use frame::tables::stands;
 use frame::tables::whole_length;
 use model::Message;
 use model::kind_number;
@@ -16,16 +21,16 @@ use model::origin_of;
 use model::quantity_of;
 use rules::well_formed;
 ghost use mathlib.Core.Path.{_≡_};
-ghost use Prim.Native.Nat.{_+_, _≤_};
+ghost use Prim.Native.Nat.{_+_, _≤_, _<_};
 ghost use lib.ListN.{length};
 ghost use Rattle.buffer.specs.Slice.{Puts};
-ghost use Rattle.frame.specs.Kinds.{senseNumber};
-ghost use Rattle.frame.specs.Writing.{writing, written};
-ghost use Rattle.frame.specs.inside.Steps.{headBytes, bodyBytes, lampBytes, senseBytes};
+ghost use Rattle.buffer.specs.Number.{bytesOf};
+ghost use Rattle.frame.specs.Writing.{outcomeOf, writing, written};
+ghost use Rattle.frame.specs.inside.Steps.{headBytes, fieldBytes, bodyBytes};
 
 // Writes a frame at the start of an output. Where it is refused nothing is written.
 pub fn write(out: &mut [u8], frame: Frame) -> WriteAnswer
-    ensures { λ r. ⌜ record { answer = r; output = now (out .exit) } ≡ writing frame (now (out .entry)) ⌝ }
+    ensures { λ r. ⌜ outcomeOf r (now (out .exit)) ≡ writing frame (now (out .entry)) ⌝ }
 {
     if !well_formed(frame) {
         return WriteAnswer::NoFrame;
@@ -44,9 +49,10 @@ pub fn put(out: &mut [u8], at: usize, frame: Frame) -> usize
 {
     let message = frame.message;
     let sense = frame.sense;
-    let behind_head = put_head(out, at, map_of(frame), message);
-    let behind_body = put_body(out, behind_head, message);
-    put_sense(out, behind_body, sense)
+    let map = map_of(frame);
+    let behind_head = put_head(out, at, map, message);
+    let behind_body = put_body(out, behind_head, map, message);
+    put_byte(out, behind_body, SENSE, map, sense_number(sense))
 }
 
 // Map, kind, from and to.
@@ -63,47 +69,63 @@ fn put_head(out: &mut [u8], at: usize, map: u8, message: Message) -> usize
     at + 4
 }
 
-// Hour, origin, lamp and quantity, as far as the kind has them.
-fn put_body(out: &mut [u8], at: usize, message: Message) -> usize
-    requires { ⌜ at + length (bodyBytes message) ≤ length (now out) ⌝ }
-    ensures { λ r. ⌜ Puts at (bodyBytes message) (now (out .entry)) (now (out .exit)) r ⌝ }
+// Hour, origin, lamp and quantity, as far as the map has them.
+fn put_body(out: &mut [u8], at: usize, map: u8, message: Message) -> usize
+    requires { ⌜ at + length (bodyBytes map message) ≤ length (now out) ⌝ }
+    ensures { λ r. ⌜ Puts at (bodyBytes map message) (now (out .entry)) (now (out .exit)) r ⌝ }
 {
     let kind = message.kind;
-    let number = kind_number(kind);
-    if number == 4 {
+    let lamp = message.lamp;
+    let behind_hour = put_hour(out, at, map, message.hour);
+    let behind_origin = put_byte(out, behind_hour, ORIGIN, map, origin_of(kind));
+    let behind_lamp = put_lamp(out, behind_origin, map, lamp);
+    put_quantity(out, behind_lamp, map, quantity_of(kind))
+}
+
+// The hour, where it stands in the map.
+fn put_hour(out: &mut [u8], at: usize, map: u8, hour: u32) -> usize
+    requires { ⌜ at + length (fieldBytes map 8 (bytesOf 4 hour)) ≤ length (now out) ⌝ }
+    ensures { λ r. ⌜ Puts at (fieldBytes map 8 (bytesOf 4 hour)) (now (out .entry)) (now (out .exit)) r ⌝ }
+{
+    if !stands(HOUR, map) {
         return at;
     }
-    write32(out, at, message.hour);
-    if number <= 2 {
-        let lamp = message.lamp;
-        return put_lamp(out, at + 4, origin_of(kind), lamp);
-    }
-    if number == 3 {
-        write16(out, at + 4, quantity_of(kind));
-        return at + 6;
-    }
+    write32(out, at, hour);
     at + 4
 }
 
-// Origin and lamp.
-fn put_lamp(out: &mut [u8], at: usize, origin: u8, lamp: [u8; 18]) -> usize
-    requires { ⌜ at + 19 ≤ length (now out) ⌝ }
-    ensures { λ r. ⌜ Puts at (lampBytes origin lamp) (now (out .entry)) (now (out .exit)) r ⌝ }
+// A field of one byte, where its bit stands in the map.
+fn put_byte(out: &mut [u8], at: usize, bit: u8, map: u8, byte: u8) -> usize
+    requires { ⌜ (0 < bit) × (at + length (fieldBytes map bit (bytesOf 1 byte)) ≤ length (now out)) ⌝ }
+    ensures { λ r. ⌜ Puts at (fieldBytes map bit (bytesOf 1 byte)) (now (out .entry)) (now (out .exit)) r ⌝ }
 {
-    out[at] = origin;
-    copy(out, at + 1, &lamp);
-    at + 19
-}
-
-// The sense, where there is one.
-fn put_sense(out: &mut [u8], at: usize, sense: Sense) -> usize
-    requires { ⌜ at + length (senseBytes (senseNumber sense)) ≤ length (now out) ⌝ }
-    ensures { λ r. ⌜ Puts at (senseBytes (senseNumber sense)) (now (out .entry)) (now (out .exit)) r ⌝ }
-{
-    let number = sense_number(sense);
-    if number == 0 {
+    if !stands(bit, map) {
         return at;
     }
-    out[at] = number;
+    out[at] = byte;
     at + 1
+}
+
+// The lamp, where it stands in the map.
+fn put_lamp(out: &mut [u8], at: usize, map: u8, lamp: [u8; 18]) -> usize
+    requires { ⌜ at + length (fieldBytes map 32 lamp) ≤ length (now out) ⌝ }
+    ensures { λ r. ⌜ Puts at (fieldBytes map 32 lamp) (now (out .entry)) (now (out .exit)) r ⌝ }
+{
+    if !stands(LAMP, map) {
+        return at;
+    }
+    copy(out, at, &lamp);
+    at + 18
+}
+
+// The quantity, where it stands in the map.
+fn put_quantity(out: &mut [u8], at: usize, map: u8, quantity: u16) -> usize
+    requires { ⌜ at + length (fieldBytes map 64 (bytesOf 2 quantity)) ≤ length (now out) ⌝ }
+    ensures { λ r. ⌜ Puts at (fieldBytes map 64 (bytesOf 2 quantity)) (now (out .entry)) (now (out .exit)) r ⌝ }
+{
+    if !stands(QUANTITY, map) {
+        return at;
+    }
+    write16(out, at, quantity);
+    at + 2
 }

@@ -1,12 +1,12 @@
 -- What single steps of the reader and the writer do. Only their own functions cite these, and no public promise.
-use Prim.Native.Nat.{ℕ}
+use Prim.Native.Nat.{ℕ, _/_}
 use mathlib.Core.Bool.{cond}
 use mathlib.Core.List.{List, [], _∷_, _++_}
-use lib.Dec.{leb, eqb}
+use lib.Dec.{eqb}
 use Rattle.buffer.specs.Number.{bytesOf, numberOf}
 use Rattle.model.specs.Messages.{kindNumber, originOf, quantityOf}
 use Rattle.model.specs.declared.Message.{Message}
-use Rattle.frame.specs.Layout.{gatewayWidth}
+use Rattle.frame.specs.Layout.{gatewayWidth, odd}
 use Rattle.frame.specs.Reasons.{lampOf, valuesOf}
 use Rattle.frame.specs.declared.Fields.{Fields}
 
@@ -32,21 +32,14 @@ stored bit bytes v = record {
 unfoldable pub headBytes : ℕ → Message → List ℕ
 headBytes map m = map ∷ (bytesOf 1 (kindNumber (m .kind)) ++ (bytesOf gatewayWidth (m .from) ++ bytesOf gatewayWidth (m .to)))
 
--- origin and lamp
-unfoldable pub lampBytes : ℕ → List ℕ → List ℕ
-lampBytes origin lamp = bytesOf gatewayWidth origin ++ lamp
+-- a field's bytes, where its bit, told by its weight, stands in the map
+unfoldable pub fieldBytes : ℕ → ℕ → List ℕ → List ℕ
+fieldBytes map bit bytes = cond (odd (map / bit)) bytes []
 
--- hour, origin, lamp and quantity, as far as the kind with that number has them
-unfoldable pub bodyOf : ℕ → Message → List ℕ
-unfolding lampBytes
-bodyOf kind m =
-    cond (eqb kind 4) []
-    (bytesOf 4 (m .hour)
-    ++ cond (leb kind 2) (lampBytes (originOf (m .kind)) (m .lamp)) (cond (eqb kind 3) (bytesOf 2 (quantityOf (m .kind))) []))
-
-abbrev pub bodyBytes : Message → List ℕ
-bodyBytes m = bodyOf (kindNumber (m .kind)) m
-
--- the sense with that number, where there is one
-unfoldable pub senseBytes : ℕ → List ℕ
-senseBytes sense = cond (leb 1 sense) (bytesOf 1 sense) []
+-- hour, origin, lamp and quantity, as far as the map has them
+unfoldable pub bodyBytes : ℕ → Message → List ℕ
+unfolding fieldBytes
+bodyBytes map m =
+    fieldBytes map 8 (bytesOf 4 (m .hour))
+    ++ (fieldBytes map 16 (bytesOf gatewayWidth (originOf (m .kind)))
+    ++ (fieldBytes map 32 (m .lamp) ++ fieldBytes map 64 (bytesOf 2 (quantityOf (m .kind)))))

@@ -68,7 +68,7 @@ loop-again c =
     let at-shared-slice-known = at-loop .before in
     let start = at-shared-slice-known .before .before in (
       enter-turn _ _ _ _ _ (at-loop .loop .inv .0) (at-loop-test .loop-test .taken) (start .pre) (at-frame-end .frame-end .ensures)
-          (bytes-known (start .args .list .now) (at-shared-slice-known .shared-slice-known .given)) (at-read .read .ensures)
+          (bytes-known (start .args .list .now) (at-shared-slice-known .shared-slice-known .given)) (at-read .read .ensures .0)
           (at-enter .enter .ensures),
       search needs,
     )

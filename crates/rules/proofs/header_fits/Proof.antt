@@ -1,19 +1,23 @@
 -- `rules::header_fits` meets its contract.
-use Rattle.frame.proofs.Turning.{header-lamp, header-sense, header-start, header-other}
+use borrow.Author.Needs.{needs}
+use Rattle.frame.proofs.Turning.{header-sense, header-hour, header-without}
 use Rattle.rules.proofs.header_fits.Statement.{statement}
 use Rattle.rules.proofs.header_fits.Tie as tie
 
+sense-allowed-requires : tie.Need-sense-allowed-requires
+sense-allowed-requires c κs = search needs
+
 returns : tie.Need-returns
-returns c = search header-lamp
+returns c = search header-sense
+
+has-hour-requires : tie.Need-has-hour-requires
+has-hour-requires c κs = search needs
 
 returns-2 : tie.Need-returns-2
-returns-2 c = search header-sense
+returns-2 c = search header-hour
 
 returns-3 : tie.Need-returns-3
-returns-3 c = search header-start
-
-returns-4 : tie.Need-returns-4
-returns-4 c = search header-other
+returns-3 c = search header-without
 
 pub header-fits-spec : {M : Type 1} → statement M
-header-fits-spec = tie.close (tie.spec returns returns-2 returns-3 returns-4)
+header-fits-spec = tie.close (tie.spec sense-allowed-requires returns has-hour-requires returns-2 returns-3)

@@ -7,6 +7,9 @@ use Rattle.rules.proofs.lamp_fits.Tie as tie
 kind-number-requires : tie.Need-kind-number-requires
 kind-number-requires c κs = search needs
 
+has-lamp-requires : tie.Need-has-lamp-requires
+has-lamp-requires c κs = search needs
+
 all-between-requires : tie.Need-all-between-requires
 all-between-requires c κs = search needs
 
@@ -22,4 +25,10 @@ returns-2 c = search lamp-none
 pub lamp-fits-spec : {M : Type 1} → statement M
 lamp-fits-spec =
     tie.close
-    (tie.spec kind-number-requires all-between-requires returns all-between-requires-2 returns-2)
+    (tie.spec
+    kind-number-requires
+    has-lamp-requires
+    all-between-requires
+    returns
+    all-between-requires-2
+    returns-2)

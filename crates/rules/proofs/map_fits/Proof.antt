@@ -1,7 +1,8 @@
 -- `rules::map_fits` meets its contract.
 use borrow.Author.Needs.{needs}
 use native.Mathlib.Omega.{arith}
-use Rattle.frame.proofs.Branches.{map-past, map-plain, map-other, map-sense, lamp-map}
+use Rattle.frame.proofs.Branches.{map-past, map-plain, map-other, map-sense}
+use Rattle.frame.proofs.Presence.{map-small}
 use Rattle.rules.proofs.map_fits.Statement.{statement}
 use Rattle.rules.proofs.map_fits.Tie as tie
 
@@ -14,15 +15,26 @@ map-of-kind-requires c κs = search needs
 returns-2 : tie.Need-returns-2
 returns-2 c = search map-plain
 
+has-lamp-requires : tie.Need-has-lamp-requires
+has-lamp-requires c κs = search needs
+
 returns-3 : tie.Need-returns-3
 returns-3 c = search map-other
 
 add-result : tie.Need-add-result
-add-result c = omega (arith, lamp-map (c .before .before .before .before .args .kind) (c .if3 .left))
+add-result c = omega (arith, map-small (c .before .before .before .before .before .args .kind))
 
 returns-4 : tie.Need-returns-4
 returns-4 c = search map-sense
 
 pub map-fits-spec : {M : Type 1} → statement M
 map-fits-spec =
-    tie.close (tie.spec returns map-of-kind-requires returns-2 returns-3 add-result returns-4)
+    tie.close
+    (tie.spec
+    returns
+    map-of-kind-requires
+    returns-2
+    has-lamp-requires
+    returns-3
+    add-result
+    returns-4)

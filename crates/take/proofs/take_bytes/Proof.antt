@@ -1,6 +1,6 @@
 -- `take::take_bytes` meets its contract.
 use Rattle.buffer.proofs.Lent.{bytes-known}
-use Rattle.gateway.proofs.Dispatching.{not-usable, is-usable, read-fits}
+use Rattle.gateway.proofs.Dispatching.{form-refused, form-taken, read-fits}
 use borrow.Author.Needs.{needs}
 use Rattle.take.proofs.take_bytes.Statement.{statement}
 use Rattle.take.proofs.take_bytes.Tie as tie
@@ -8,14 +8,14 @@ use Rattle.take.proofs.take_bytes.Tie as tie
 read-requires : tie.Need-read-requires
 read-requires c κs = search needs
 
-is-usable-requires : tie.Need-is-usable-requires
-is-usable-requires c κs = search needs
+form-refusal-requires : tie.Need-form-refusal-requires
+form-refusal-requires c κs = search needs
 
 refused-requires : tie.Need-refused-requires
 refused-requires c κs = search needs
 
 returns : tie.Need-returns
-returns c = search not-usable
+returns c = search form-refused
 
 take-checked-requires : tie.Need-take-checked-requires
 take-checked-requires c κs =
@@ -24,7 +24,7 @@ take-checked-requires c κs =
     let start = at-shared-slice-known .before .before in (
       start .pre,
       read-fits _ (bytes-known (start .args .frame .now) (at-shared-slice-known .shared-slice-known .given))
-          (at-read .read .ensures),
+          (at-read .read .ensures .0),
     )
 
 same-length : tie.Need-same-length
@@ -34,14 +34,14 @@ same-length-2 : tie.Need-same-length-2
 same-length-2 c = search needs
 
 returns-2 : tie.Need-returns-2
-returns-2 c = search is-usable
+returns-2 c = search form-taken
 
 pub take-bytes-spec : {M : Type 1} → statement M
 take-bytes-spec =
     tie.close
     (tie.spec
     read-requires
-    is-usable-requires
+    form-refusal-requires
     refused-requires
     returns
     take-checked-requires

@@ -16,6 +16,9 @@ take-timely-lvt-requires c κs = search needs
 take-update-requires : tie.Need-take-update-requires
 take-update-requires c κs = search needs
 
+form-number-requires : tie.Need-form-number-requires
+form-number-requires c κs = search needs
+
 refused-requires : tie.Need-refused-requires
 refused-requires c κs = search needs
 
@@ -57,6 +60,7 @@ take-in-round-spec =
     take-start-requires
     take-timely-lvt-requires
     take-update-requires
+    form-number-requires
     refused-requires
     same-length
     same-length-2

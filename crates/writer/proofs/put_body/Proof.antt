@@ -1,94 +1,69 @@
 -- `writer::put_body` meets its contract.
 use borrow.Author.Needs.{needs}
-use lib.ListN.{length-map}
-use Rattle.frame.proofs.Output.{body-start, hour-room, body-hour, quantity-room, body-quantity, lamp-room, body-lamp}
+use native.Mathlib.Omega.{arith}
+use Rattle.frame.proofs.Output.{hour-room, origin-room, lamp-room, quantity-room, body-put}
 use Rattle.writer.proofs.put_body.Statement.{statement}
 use Rattle.writer.proofs.put_body.Tie as tie
 
-kind-number-requires : tie.Need-kind-number-requires
-kind-number-requires c κs = search needs
-
-returns : tie.Need-returns
-returns c = search body-start
-
-write32-requires : tie.Need-write32-requires
-write32-requires c κs = search hour-room
-
-add-put-lamp : tie.Need-add-put-lamp
-add-put-lamp c = search needs
+put-hour-requires : tie.Need-put-hour-requires
+put-hour-requires c κs = search hour-room
 
 origin-of-requires : tie.Need-origin-of-requires
 origin-of-requires c κs = search needs
 
+put-byte-requires : tie.Need-put-byte-requires
+put-byte-requires c κs =
+    let at-hour = c .before .before .before .before in
+    let start = at-hour .before .before .before .before in (
+      omega arith,
+      origin-room (start .args .map) (start .args .message) _ _ (start .pre) (at-hour .put-hour .ensures) (at-hour .put-hour .kept .0)
+          (c .origin-of .ensures),
+    )
+
 put-lamp-requires : tie.Need-put-lamp-requires
 put-lamp-requires c κs =
-    let at-if2 = c .before .before .before in
-    let at-write32 = at-if2 .before .before .before in
-    let at-if1 = at-write32 .before .before in
-    let at-kind-number = at-if1 .before in
-    let start = at-kind-number .before .before in
-    let size = simp length-map at (start .good .1 .1 .0 .1 .1 .1 .1 .1 .1 .0 .1 .0 .1) in
-    lamp-room (start .args .message) (at-kind-number .kind-number .ensures) _ _ (at-if1 .if1 .left) (at-write32 .write32 .ensures)
-    (start .pre) (at-if2 .if2 .taken) (at-write32 .write32 .kept .0) size
-
-same-length : tie.Need-same-length
-same-length c = search needs
-
-returns-2 : tie.Need-returns-2
-returns-2 c = search body-lamp
-
-add-write16 : tie.Need-add-write16
-add-write16 c = search needs
+    let at-byte = c .before .before .before in
+    let at-hour = at-byte .before .before .before .before .before in
+    let start = at-hour .before .before .before .before in
+    lamp-room (start .args .map) (start .args .message) _ _ (start .pre) (at-hour .put-hour .ensures) (at-hour .put-hour .kept .0)
+    (at-byte .before .origin-of .ensures) (at-byte .put-byte .ensures) (at-byte .put-byte .kept .0)
 
 quantity-of-requires : tie.Need-quantity-of-requires
 quantity-of-requires c κs = search needs
 
-write16-requires : tie.Need-write16-requires
-write16-requires c κs =
-    let at-if3 = c .before .before in
-    let at-write32 = at-if3 .before .before .before .before in
-    let at-if1 = at-write32 .before .before in
-    let at-kind-number = at-if1 .before in
-    let start = at-kind-number .before .before in
-    quantity-room (start .args .message) (at-kind-number .kind-number .ensures) _ _ (at-if1 .if1 .left) (at-write32 .write32 .ensures)
-    (start .pre) (at-if3 .if3 .taken) (at-write32 .write32 .kept .0)
+put-quantity-requires : tie.Need-put-quantity-requires
+put-quantity-requires c κs =
+    let at-lamp = c .before .before .before .before in
+    let at-byte = at-lamp .before .before .before .before in
+    let at-hour = at-byte .before .before .before .before .before in
+    let start = at-hour .before .before .before .before in
+    quantity-room (start .args .map) (start .args .message) _ _ (start .pre) (at-hour .put-hour .ensures) (at-hour .put-hour .kept .0)
+    (at-byte .before .origin-of .ensures) (at-byte .put-byte .ensures) (at-byte .put-byte .kept .0) (at-lamp .put-lamp .ensures)
+    (at-lamp .put-lamp .kept .0) (c .quantity-of .ensures)
 
-add-result : tie.Need-add-result
-add-result c = search needs
+same-length : tie.Need-same-length
+same-length c = search needs
 
-same-length-2 : tie.Need-same-length-2
-same-length-2 c = search needs
-
-returns-3 : tie.Need-returns-3
-returns-3 c = search body-quantity
-
-add-result-2 : tie.Need-add-result-2
-add-result-2 c = search needs
-
-same-length-3 : tie.Need-same-length-3
-same-length-3 c = search needs
-
-returns-4 : tie.Need-returns-4
-returns-4 c = search body-hour
+returns : tie.Need-returns
+returns c =
+    let at-quantity = c .before .before in
+    let at-lamp = at-quantity .before .before .before .before .before in
+    let at-byte = at-lamp .before .before .before .before in
+    let at-hour = at-byte .before .before .before .before .before in
+    let start = at-hour .before .before .before .before in
+    body-put (start .args .map) (start .args .message) _ _ (start .pre) (at-hour .put-hour .ensures) (at-hour .put-hour .kept .0)
+    (at-byte .before .origin-of .ensures) (at-byte .put-byte .ensures) (at-byte .put-byte .kept .0) (at-lamp .put-lamp .ensures)
+    (at-lamp .put-lamp .kept .0) (at-quantity .before .quantity-of .ensures) (at-quantity .put-quantity .ensures)
 
 pub put-body-spec : {M : Type 1} → statement M
 put-body-spec =
     tie.close
     (tie.spec
-    kind-number-requires
-    returns
-    write32-requires
-    add-put-lamp
+    put-hour-requires
     origin-of-requires
+    put-byte-requires
     put-lamp-requires
-    same-length
-    returns-2
-    add-write16
     quantity-of-requires
-    write16-requires
-    add-result
-    same-length-2
-    returns-3
-    add-result-2
-    same-length-3
-    returns-4)
+    put-quantity-requires
+    same-length
+    returns)

@@ -1,40 +1,38 @@
 -- `writer::put_lamp` meets its contract.
 use borrow.Author.Needs.{needs}
-use lib.ListN.{length-set}
-use native.Mathlib.Omega.{arith}
-use Rattle.frame.proofs.Output.{lamp-put}
+use Rattle.frame.proofs.Output.{field-absent, field-room, field-put}
 use Rattle.writer.proofs.put_lamp.Statement.{statement}
 use Rattle.writer.proofs.put_lamp.Tie as tie
 
-slice-write-out : tie.Need-slice-write-out
-slice-write-out c = search needs
+stands-requires : tie.Need-stands-requires
+stands-requires c κs = search needs
 
-add-copy : tie.Need-add-copy
-add-copy c = search needs
+returns : tie.Need-returns
+returns c = search field-absent
 
 slice-aggregate-copy : tie.Need-slice-aggregate-copy
 slice-aggregate-copy c = search needs
 
 copy-requires : tie.Need-copy-requires
-copy-requires c κs = simp length-set (omega arith)
+copy-requires c κs = search field-room
 
 add-result : tie.Need-add-result
 add-result c = search needs
 
 same-length : tie.Need-same-length
-same-length c = omega (arith, simp length-set at (c .before .before .copy .kept .0))
+same-length c = search needs
 
-returns : tie.Need-returns
-returns c = search lamp-put
+returns-2 : tie.Need-returns-2
+returns-2 c = search field-put
 
 pub put-lamp-spec : {M : Type 1} → statement M
 put-lamp-spec =
     tie.close
     (tie.spec
-    slice-write-out
-    add-copy
+    stands-requires
+    returns
     slice-aggregate-copy
     copy-requires
     add-result
     same-length
-    returns)
+    returns-2)

@@ -1,0 +1,48 @@
+// The reasons for which a byte string is refused, and the number of each.
+use crate::Form;
+ghost use mathlib.Core.Path.{_≡_};
+ghost use Rattle.frame.specs.Reasons.{isGood, formWhere, formNumber};
+
+pub fn is_good(form: Form) -> bool
+    ensures { λ r. ⌜ r ≡ isGood form ⌝ }
+{
+    match form {
+        Form::Good => true,
+        Form::TooShort => false,
+        Form::WrongMap => false,
+        Form::WrongLength => false,
+        Form::WrongSense => false,
+        Form::WrongLamp => false,
+        Form::WrongGateways => false,
+        Form::NotTaken => false,
+    }
+}
+
+// The first reason in a call that takes such a frame or does not.
+pub fn form_where(taken: bool, form: Form) -> Form
+    ensures { λ r. ⌜ r ≡ formWhere taken form ⌝ }
+{
+    if !is_good(form) {
+        return form;
+    }
+    if taken {
+        return Form::Good;
+    }
+    Form::NotTaken
+}
+
+// The number with which a call refuses for that reason, or 0.
+pub fn form_number(form: Form) -> u8
+    ensures { λ r. ⌜ r ≡ formNumber form ⌝ }
+{
+    match form {
+        Form::Good => 0,
+        Form::TooShort => 1,
+        Form::WrongMap => 1,
+        Form::WrongLength => 1,
+        Form::WrongSense => 1,
+        Form::WrongLamp => 1,
+        Form::WrongGateways => 1,
+        Form::NotTaken => 1,
+    }
+}

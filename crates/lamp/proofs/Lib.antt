@@ -1,0 +1,2 @@
+-- Laws of reading the lamp.
+pub mod LampAnswers
