@@ -65,6 +65,6 @@ example =
           };
       allowed = (omega arith, (omega arith, (omega arith, tt)));
       nothingIsDue = refl;
-      nothingLeft = λ output. refl;
+      nothingLeft = ([], refl);
       whole = refl;
     }

@@ -28,9 +28,9 @@ pub record Forecast (n last : ℕ) (setups : ℕ → SetUpInput) (lent : ℕ →
 abbrev pub agreed : World → ℕ → ℕ
 agreed w i = agreedTime (w .memories i) .hour
 
--- nothing to commit at i: a commit would answer 6, whatever its output
+-- nothing to commit at i: a commit, with some output, would answer 6
 abbrev pub NothingToCommit : World → ℕ → Type 0
-NothingToCommit w i = (output : List ℕ) → committed (w .memories i) output .answer .number ≡ 6
+NothingToCommit w i = (output : List ℕ) × (committed (w .memories i) output .answer .number ≡ 6)
 
 -- round t is completed: it is closed, and each gateway but 0 has accepted its Update
 pub record Completed (n : ℕ) (r : Rounds) (t : ℕ) : Type 0 where
