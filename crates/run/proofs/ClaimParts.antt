@@ -21,7 +21,8 @@ use Rattle.event_steps.specs.SingleQueue as Theory
 use Rattle.round_steps.specs.Arcs.{Graph}
 use Rattle.timewarp.specs.Worlds as Worlds
 use Rattle.timewarp.proofs.Theorem.{claim-holds}
-use Rattle.run.specs.SingleQueue.{SetUpInput, wholeRecord}
+use Rattle.run.specs.Forecast.{SetUpInput}
+use Rattle.run.specs.SingleQueue.{wholeRecord}
 use Rattle.run.specs.Ledger.{waiting}
 use Rattle.run.specs.World.{World, Carried, kindIn}
 use Rattle.run.specs.Demand3.{agreed, NothingToCommit}

@@ -5,7 +5,7 @@ use mathlib.Core.List.{List}
 use Prim.Native.Nat.{ℕ}
 use lib.Dec.{eqb}
 use Rattle.model.specs.Messages.{kindNumber}
-use Rattle.frame.specs.Reasons.{reading, formNumber, readAs}
+use Rattle.frame.specs.Reasons.{reading, readAs}
 use Rattle.frame.specs.Limits.{numbersBelow, hourAllowed}
 use Rattle.frame.specs.Writing.{written, wellFormed}
 use Rattle.frame.specs.Claims.{RangedFrame}
@@ -16,7 +16,7 @@ use Rattle.frame.proofs.Laws.{one-to-one}
 
 -- of the forms, no Restock, and with its numbers and its hour in their ranges
 pub record Passing (n last : ℕ) (bytes : List ℕ) : Type 0 where
-  pub form : formNumber (reading bytes .form) ≡ 0
+  pub form : reading bytes .form ≡ Good
   pub kind : eqb (kindNumber (reading bytes .frame .message .kind)) 3 ≡ false
   pub numbers : numbersBelow n (reading bytes .frame .message) ≡ true
   pub hour : hourAllowed last (reading bytes .frame .message) ≡ true
@@ -31,7 +31,7 @@ pub passing-frame : (n last : ℕ) (f : Frame) → RangedFrame f → wellFormed 
 passing-frame n last f r e k a h =
     let is : reading (written f) ≡ readAs Good f = one-to-one .writtenRead f r e in
     record {
-      form = ap (λ (x : Reading). formNumber (x .form)) is;
+      form = ap (λ (x : Reading). x .form) is;
       kind = ap (λ (x : Reading). eqb (kindNumber (x .frame .message .kind)) 3) is ∙ k;
       numbers = ap (λ (x : Reading). numbersBelow n (x .frame .message)) is ∙ a;
       hour = ap (λ (x : Reading). hourAllowed last (x .frame .message)) is ∙ h;

@@ -4,9 +4,9 @@ use Prim.Native.Nat.{ℕ}
 use mathlib.Core.List.{List, [], _∷_}
 use lib.ListN.{replicate}
 use Rattle.frame.specs.Limits.{nothingDue}
-use Rattle.run.specs.SingleQueue.{SetUpInput}
+use Rattle.run.specs.Forecast.{SetUpInput, Forecast}
 use Rattle.run.specs.World.{World, Call, works, starts, commits, openingWorld, afterCalls, AllAllowed}
-use Rattle.run.specs.Demand3.{Forecast, agreed, NothingToCommit}
+use Rattle.run.specs.Demand3.{agreed, NothingToCommit}
 
 -- a stock of 2, the last hour 10, and a Restock of 3 at hour 5 as the opening list
 abbrev pub exampleSetUp : ℕ → SetUpInput

@@ -17,7 +17,8 @@ use Rattle.frame.specs.declared.Sense.the-variants.{Plain, Cancel, Acknowledgme
 use Rattle.gateway.specs.SettingUp.{cutFrames}
 use Rattle.gateway.specs.Calls.{taken, started, committed, workedOff, setUp}
 use Rattle.gateway.specs.declared.Opening.{Opening}
-use Rattle.run.specs.SingleQueue.{SetUpInput, openingMessages}
+use Rattle.run.specs.Forecast.{SetUpInput}
+use Rattle.run.specs.SingleQueue.{openingMessages}
 use Rattle.run.specs.Ledger.{Ledger, afterPlain, afterCancel, didSome, committedOne}
 
 -- A call of the list: at a gateway, with any output; work with any B, any bytes as a frame.
