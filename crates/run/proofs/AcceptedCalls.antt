@@ -1,4 +1,4 @@
--- What a call on bytes comes to where it is accepted: the outcome on the gateway that the memory holds.
+-- What a call on bytes comes to: accepted, the outcome on the gateway that the memory holds; refused, the memory as it was.
 use mathlib.Core.Path.{_≡_, refl, sym, _∙_, ap}
 use mathlib.Core.Bool.{Bool, true, false, cond, not, _&&_, true≢false}
 use mathlib.Core.List.{List, map}
@@ -36,23 +36,34 @@ left r memory output =
       output = write 0 (r .output) output;
     }
 
--- an accepted call found its memory sound
-pub on-sound : (call : ℕ → Gateway → Outcome) (memory output : List ℕ) → onSound call memory output .answer .number ≡ 0
-    → (sound memory ≡ true) × (call (length output) (decode memory) .number ≡ 0)
-    × (onSound call memory output ≡ left (call (length output) (decode memory)) memory output)
-unfolding onSound leaving
-on-sound call memory output = go (sound memory) (eqb (call (length output) (decode memory) .number) 0) refl
-  where
-    r : Outcome
-    r = call (length output) (decode memory)
+module _ (call : ℕ → Gateway → Outcome) (memory output : List ℕ) where
+  abbrev r : Outcome
+  r = call (length output) (decode memory)
 
-    whole : Bool → Bool → CallResult Answer
-    whole b d = cond b (cond d (left r memory output) (refusedWith (r .number) memory output)) (refusedWith 10 memory output)
+  -- what the call leaves, by whether its memory is sound and whether it is accepted
+  abbrev by-tests : Bool → Bool → CallResult Answer
+  by-tests b d = cond b (cond d (left r memory output) (refusedWith (r .number) memory output)) (refusedWith 10 memory output)
 
-    go : (b d : Bool) → eqb (r .number) 0 ≡ d → whole b d .answer .number ≡ 0 → (b ≡ true) × (r .number ≡ 0) × (whole b d ≡ left r memory output)
-    go true true e h = (refl, eqb-true (r .number) 0 e, refl)
-    go true false e h = absurd (true≢false (sym (eq-eqb (r .number) 0 h) ∙ e))
-    go false d e h = absurd (omega arith)
+  -- an accepted call found its memory sound
+  pub on-sound : onSound call memory output .answer .number ≡ 0
+      → (sound memory ≡ true) × (r .number ≡ 0) × (onSound call memory output ≡ left r memory output)
+  unfolding onSound leaving
+  on-sound = go (sound memory) (eqb (r .number) 0) refl
+    where
+      go : (b d : Bool) → eqb (r .number) 0 ≡ d → by-tests b d .answer .number ≡ 0 → (b ≡ true) × (r .number ≡ 0) × (by-tests b d ≡ left r memory output)
+      go true true e h = (refl, eqb-true (r .number) 0 e, refl)
+      go true false e h = absurd (true≢false (sym (eq-eqb (r .number) 0 h) ∙ e))
+      go false d e h = absurd (omega arith)
+
+  -- a refused call leaves the memory as it was
+  pub refused-memory : eqb (onSound call memory output .answer .number) 0 ≡ false → onSound call memory output .memory ≡ memory
+  unfolding onSound leaving
+  refused-memory = go (sound memory) (eqb (r .number) 0)
+    where
+      go : (b d : Bool) → eqb (by-tests b d .answer .number) 0 ≡ false → by-tests b d .memory ≡ memory
+      go true true h = absurd (true≢false h)
+      go true false h = refl
+      go false d h = refl
 
 -- the number that a call answers on sound memory
 pub call-number : (call : ℕ → Gateway → Outcome) (memory output : List ℕ) → sound memory ≡ true → onSound call memory output .answer .number

@@ -13,7 +13,7 @@ use Rattle.gateway.specs.Calls.{agreedTime}
 use Rattle.round_steps.specs.Arcs.{Graph}
 use Rattle.timewarp.specs.Worlds as Worlds
 use Rattle.timewarp.proofs.CallChains.{steps-join}
-use Rattle.run.specs.SingleQueue.{SetUpInput}
+use Rattle.run.specs.Forecast.{SetUpInput}
 use Rattle.run.specs.Ledger as Ledger
 use Rattle.run.specs.World.{World, Carried, Rounds}
 use Rattle.run.proofs.LocalChains.{lower-agreed}

@@ -9,7 +9,7 @@ use Rattle.gateway.proofs.Maintaining.{Proper}
 use Rattle.event_steps.specs.Models.{Model}
 use Rattle.timewarp.specs.Worlds as Worlds
 use Rattle.timewarp.proofs.Joined.{Good, good}
-use Rattle.run.specs.SingleQueue.{SetUpInput}
+use Rattle.run.specs.Forecast.{SetUpInput}
 use Rattle.run.specs.World.{World}
 use Rattle.run.proofs.FigureGraph.{figureGraph}
 use Rattle.run.proofs.ForecastModel.{forecastModel}

@@ -3,7 +3,7 @@ use mathlib.Core.Path.{_≡_, sym, _∙_, ap, subst}
 use Prim.Native.Nat.{ℕ, _-_, _≤_, _<_}
 use native.Mathlib.Omega.{arith}
 use mathlib.Core.Bool.{true}
-use mathlib.Core.List.{List, [], _++_}
+use mathlib.Core.List.{List, _++_}
 use lib.ListN.{length}
 use Rattle.lists.specs.Lists.{_∈_, All, Beginning}
 use Rattle.model.specs.EventOrder.{key}
@@ -21,7 +21,8 @@ use Rattle.event_steps.specs.SingleQueue as Theory
 use Rattle.round_steps.specs.Arcs.{Graph}
 use Rattle.timewarp.specs.Worlds as Worlds
 use Rattle.timewarp.proofs.Theorem.{claim-holds}
-use Rattle.run.specs.SingleQueue.{SetUpInput, wholeRecord}
+use Rattle.run.specs.Forecast.{SetUpInput}
+use Rattle.run.specs.SingleQueue.{wholeRecord}
 use Rattle.run.specs.Ledger.{waiting}
 use Rattle.run.specs.World.{World, Carried, kindIn}
 use Rattle.run.specs.Demand3.{agreed, NothingToCommit}
@@ -101,7 +102,7 @@ module _ (n last : ℕ) (setups : ℕ → SetUpInput) (G : Graph) (same : G .las
     unfolding hour first key
     whole-part i h whole due nothing =
         let v = b .views i h in
-        let left = nothing-to-commit 0 (decode (w .memories i)) (sym (commit-number (w .memories i) [] (b .is-sound i h)) ∙ nothing []) in
+        let left = nothing-to-commit (length (nothing .0)) (decode (w .memories i)) (sym (commit-number (w .memories i) (nothing .0) (b .is-sound i h)) ∙ nothing .1) in
         let all = claim-holds S (b .reached) .whole i (omega arith) (omega (arith, b .times i h))
         (λ m newer e. omega (arith, left m newer (ap (λ (g : View Message). g .processed) (sym v) ∙ e), b .times i h, b .gateway-times i h)) in
         b .records i h ∙ ap (historyRecord n last setups i) (ap (λ (g : View Message). g .committed) (sym v) ∙ all) ∙ sym whole

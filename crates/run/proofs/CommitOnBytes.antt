@@ -16,7 +16,7 @@ use Rattle.gateway.specs.declared.Answer.{Answer}
 use Rattle.gateway.proofs.Maintaining.{Kept}
 use Rattle.gateway.proofs.Keeps.{commit-keeps}
 use Rattle.timewarp.specs.Worlds as Worlds
-use Rattle.run.specs.SingleQueue.{SetUpInput}
+use Rattle.run.specs.Forecast.{SetUpInput}
 use Rattle.run.specs.Ledger.{committedOne}
 use Rattle.run.specs.World.{World, afterCommitting}
 use Rattle.run.proofs.FigureGraph.{figureGraph}

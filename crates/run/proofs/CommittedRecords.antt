@@ -23,7 +23,8 @@ use Rattle.gateway.specs.Committing.{commit, commitOldest}
 use Rattle.event_steps.specs.Models.{stateAfter}
 use Rattle.event_steps.specs.SingleQueue as Theory
 use Rattle.gateway.specs.Committing.{recordFor}
-use Rattle.run.specs.SingleQueue.{SetUpInput, wholeRecord}
+use Rattle.run.specs.Forecast.{SetUpInput}
+use Rattle.run.specs.SingleQueue.{wholeRecord}
 use Rattle.run.proofs.ForecastModel.{forecastModel}
 use Rattle.run.proofs.QueueViews.{doneAfter, done-history}
 use Rattle.run.proofs.SavedStates.{Saved}

@@ -33,7 +33,7 @@ use Rattle.event_steps.specs.Models.{Model, NotLater, hour, first, sentBy}
 use Rattle.event_steps.specs.Gateways.{Event, plain, cancel, message, history, gatewayOf, networkOf, Network, Gateway as View}
 use Rattle.event_steps.specs.EventSteps.{does, takes, takesAcknowledgment, commits, becomesPending, meetsCancel, strikesOut, waits}
 use Rattle.timewarp.proofs.CallChains.{insert-append}
-use Rattle.run.specs.SingleQueue.{SetUpInput}
+use Rattle.run.specs.Forecast.{SetUpInput}
 use Rattle.run.proofs.EventOrders.{not-later-keys, later-keys}
 use Rattle.run.proofs.ForecastModel.{forecastModel, siteAt, sendsAt, sends-all-sent}
 use Rattle.run.proofs.QueueViews.{eventIf, eventFor, doneAfter, waitingOf, viewOf, done-append, done-history, pending-append}

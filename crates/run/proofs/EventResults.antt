@@ -10,7 +10,7 @@ use Rattle.memory.specs.Records.{Gateway}
 use Rattle.gateway.specs.Effects.{bytesOfFrames}
 use Rattle.round_steps.specs.Arcs.{Graph}
 use Rattle.timewarp.specs.Worlds.{World}
-use Rattle.run.specs.SingleQueue.{SetUpInput}
+use Rattle.run.specs.Forecast.{SetUpInput}
 use Rattle.run.specs.Ledger as Ledger
 use Rattle.run.specs.World.{Carried, carry}
 use Rattle.run.proofs.EventCalls.{Stands, notedAll}

@@ -31,7 +31,7 @@ use Rattle.gateway.proofs.Accepting.{Passes, accepted-good}
 use Rattle.gateway.proofs.Searches.{processed-member}
 use Rattle.round_steps.specs.Arcs.{Graph}
 use Rattle.timewarp.specs.Worlds.{World}
-use Rattle.run.specs.SingleQueue.{SetUpInput}
+use Rattle.run.specs.Forecast.{SetUpInput}
 use Rattle.run.specs.Ledger as Ledger
 use Rattle.run.specs.World.{Carried, isFrame, takenBySense}
 use Rattle.run.proofs.EventCalls.{Stands, notedAll, plainBack, plain-saved, cancelBack, cancel-saved}

@@ -25,7 +25,7 @@ use Rattle.gateway.proofs.Maintaining.{Kept}
 use Rattle.gateway.proofs.Keeps.{bytes-keep}
 use Rattle.gateway.proofs.Accepting.{form-good, not-refused}
 use Rattle.timewarp.specs.Worlds as Worlds
-use Rattle.run.specs.SingleQueue.{SetUpInput}
+use Rattle.run.specs.Forecast.{SetUpInput}
 use Rattle.run.specs.World.{World, Carried, framesIn, carry, isFrame, kindIn, takenBySense, tookMore, roundFrames, afterTaking}
 use Rattle.run.proofs.FigureGraph.{figureGraph}
 use Rattle.run.proofs.AcceptedFrames.{Accepted, BytesAccepted, bytes-accepted}

@@ -20,7 +20,7 @@ use Rattle.gateway.specs.Taking.{isCancelOf, isPlain, isSent, acknowledgment, t
 use Rattle.event_steps.specs.Gateways.{Event, plain, cancel, Network, networkOf, Gateway as View}
 use Rattle.round_steps.specs.Arcs.{Graph}
 use Rattle.timewarp.specs.Worlds.{Setting, World}
-use Rattle.run.specs.SingleQueue.{SetUpInput}
+use Rattle.run.specs.Forecast.{SetUpInput}
 use Rattle.run.specs.World.{Carried, isFrame, carry}
 use Rattle.run.proofs.ForecastModel.{forecastModel}
 use Rattle.run.proofs.QueueViews.{eventIf, viewOf}

@@ -21,7 +21,7 @@ use Rattle.gateway.proofs.Maintaining.{Kept}
 use Rattle.round_steps.specs.RoundSteps as RoundSteps
 use Rattle.round_steps.specs.RoundSteps.{RoundFrame}
 use Rattle.timewarp.specs.Worlds as Worlds
-use Rattle.run.specs.SingleQueue.{SetUpInput}
+use Rattle.run.specs.Forecast.{SetUpInput}
 use Rattle.run.specs.Ledger as Ledger
 use Rattle.run.specs.World.{World, Carried, carry, framesIn, roundFrames}
 use Rattle.run.proofs.FigureGraph.{figureGraph}

@@ -1,38 +1,37 @@
--- The run of one gateway, by computation.
+-- The runs of one gateway and of two, by computation.
 use mathlib.Core.Path.{_≡_, refl}
-use Prim.Native.Nat.{ℕ, zero, suc}
+use Prim.Native.Nat.{ℕ, zero, suc, _<_}
 use native.Mathlib.Omega.{arith}
 use mathlib.Core.Bool.{true}
 use mathlib.Core.List.{List, [], _∷_}
 use borrow.Author.Tests.{leb-true}
-use Rattle.lists.specs.Lists.{tally, joined, every, withoutFirst}
+use Rattle.lists.specs.Lists.{every}
 use Rattle.lists.specs.Families.{change}
 use Rattle.buffer.specs.Slice.{Bytes, sameBytes, part, write}
-use Rattle.buffer.specs.Number.{bytesOf, numberFrom, numberOf}
-use Rattle.routing.specs.Arcs.{from, to, mid0, mid1, children}
+use Rattle.buffer.specs.Number.{bytesOf, numberOf}
+use Rattle.routing.specs.Arcs.{from, to, mid0, mid1}
 use Rattle.routing.specs.Figure2.{gvtcfg, widen, share, setFrom, setTo}
 use Rattle.model.specs.Doing.{sent}
 use Rattle.model.specs.EventOrder.{key, compared}
-use Rattle.frame.specs.Layout.{standing, wholeLength, cut}
-use Rattle.frame.specs.Kinds.{mapOfKind, hasHour, hasLamp, mapOf}
-use Rattle.frame.specs.Writing.{contents, written, allBetween, lampFits, wellFormed}
-use Rattle.frame.specs.Reasons.{valuesOf, fieldsOf, mapFits, fieldsForm, formOf, reading}
+use Rattle.frame.specs.Kinds.{hasHour, hasLamp, mapOf}
+use Rattle.frame.specs.Writing.{written, allBetween, wellFormed}
+use Rattle.frame.specs.Reasons.{reading}
 use Rattle.frame.specs.Limits.{refusal}
-use Rattle.memory.specs.Codec.{stateBytes, stateOf, messageBytes, messageOf, entryBytes, entryOf, sentBytes, sentOf, headerAt, headerFront}
-use Rattle.memory.specs.Codec.{headerBack, placesAt, decode, encode}
+use Rattle.memory.specs.Codec.{entryBytes, entryOf, sentBytes, sentOf, decode, encode}
 use Rattle.memory.specs.Soundness.{sound}
 use Rattle.memory.specs.Validity.{settingsValid, roundPossible, equal, later, ordered, processedFirst, noneMeet, storable, entryValid, sentValid, valid}
 use Rattle.lists.proofs.BoolLaws.{and-left, and-right}
-use Rattle.gateway.specs.Effects.{fits, settled, noted, sentOne, sentAll}
-use Rattle.gateway.specs.Undoing.{processedOf}
-use Rattle.gateway.specs.Working.{pendingOf, processedNext, done, worked}
-use Rattle.lists.specs.Lists.{beforeFirst, fromFirst}
-use Rattle.gateway.specs.Rounds.{leastOutstanding, leastQueued, finished, begun, start}
+use Rattle.gateway.specs.Effects.{settled, sentAll}
+use Rattle.gateway.specs.Undoing.{processedOf, undone, rolledBack}
+use Rattle.gateway.specs.Taking.{takePlain, takeAcknowledgment}
+use Rattle.gateway.specs.Working.{worked}
+use Rattle.gateway.specs.Rounds.{leastOutstanding, leastQueued, start, bitOf, allBits, takeStart, takeLvt, takeUpdate}
 use Rattle.gateway.specs.Committing.{recordFor, commit}
-use Rattle.gateway.specs.SettingUp.{openingValid, cutFrames, openingRefusal, firstRefusal, queued, opened, setUpRefusal}
-use Rattle.gateway.specs.Calls.{leaving, onSound, started, committed, workedOff, setUp, agreedTime}
-use Rattle.run.specs.World.{afterStarting, afterWorking, afterCommitting, afterCall, afterCalls, openingWorld}
-use Rattle.run.specs.ExampleRun.{exampleWorld, exampleSetUp, exampleMemory, ExampleRun}
+use Rattle.gateway.specs.SettingUp.{opened, setUpRefusal}
+use Rattle.gateway.specs.Calls.{taken, started, committed, workedOff, setUp, agreedTime}
+use Rattle.run.specs.World.{roundFrames, acceptsLvt, tagOf, afterTaking, afterStarting, afterWorking, afterCommitting, afterCall, afterCalls, openingWorld}
+use Rattle.run.specs.ExampleRun.{exampleMemory, oneSetUp, worldAtEnd, ExampleRuns}
+use Rattle.run.specs.ExampleRun.{twoSetUps, request, requestAcknowledged, startFrame, lvtFrame, updateFrame, twoCalls}
 
 -- bytes of a list, by a test
 bytes-by : (l : List ℕ) → allBetween 0 255 l ≡ true → Bytes l
@@ -41,30 +40,94 @@ bytes-by [] h i = omega arith
 bytes-by (b ∷ l) h zero = omega (arith, leb-true b 255 (search (and-left, and-right)))
 bytes-by (b ∷ l) h (suc i) = bytes-by l (search (and-left, and-right)) i
 
-pub example : ExampleRun
+-- what holds at each of one gateway, and of two
+at-one : (p : ℕ → Type 0) → p 0 → (i : ℕ) → i < 1 → p i
+at-one p h zero l = h
+at-one p h (suc i) l = absurd (omega arith)
+
+at-two : (p : ℕ → Type 0) → p 0 → p 1 → (i : ℕ) → i < 2 → p i
+at-two p h k zero l = h
+at-two p h k (suc zero) l = k
+at-two p h k (suc (suc i)) l = absurd (omega arith)
+
+pub examples : ExampleRuns
 unfolding
-    sameBytes part write bytesOf numberFrom numberOf from to mid0 mid1 gvtcfg widen share setFrom setTo sent key compared standing tally
-    joined wholeLength cut mapOfKind hasHour hasLamp mapOf contents written allBetween lampFits wellFormed valuesOf fieldsOf mapFits fieldsForm formOf
-    reading refusal stateBytes stateOf messageBytes messageOf entryBytes entryOf sentBytes sentOf headerAt headerFront headerBack
-    placesAt decode encode sound every settingsValid roundPossible equal later ordered processedFirst noneMeet
-    storable entryValid sentValid valid fits settled noted sentOne sentAll processedOf pendingOf processedNext done worked
-    withoutFirst beforeFirst fromFirst leastOutstanding leastQueued children finished begun start recordFor commit openingValid cutFrames
-    openingRefusal firstRefusal queued opened setUpRefusal leaving onSound started committed workedOff setUp agreedTime change
-    afterStarting afterWorking afterCommitting afterCall afterCalls openingWorld exampleWorld
-example =
+    bytesOf numberOf part sameBytes write hasHour hasLamp mapOf refusal reading allBetween wellFormed written agreedTime committed setUp started taken
+    workedOff commit recordFor sentAll settled allBits bitOf leastOutstanding leastQueued start takeLvt takeStart takeUpdate opened
+    setUpRefusal takeAcknowledgment takePlain processedOf rolledBack undone worked change every decode encode entryBytes entryOf
+    sentBytes sentOf sound entryValid equal later noneMeet ordered processedFirst roundPossible sentValid settingsValid storable valid
+    sent compared key from mid0 mid1 to gvtcfg setFrom setTo share widen worldAtEnd acceptsLvt afterCalls afterCall
+    afterCommitting afterStarting afterTaking afterWorking openingWorld roundFrames tagOf
+examples =
     record {
-      forecast =
+      one =
           record {
-            some = omega arith;
-            most = omega arith;
-            gateways = λ i h. refl;
-            numbers = λ i h. omega arith;
-            oneLast = λ i h. refl;
-            bytes = λ i h. (bytes-by (exampleMemory i) refl, bytes-by (exampleSetUp i .list) refl);
-            accepted = λ i h. refl;
+            forecast =
+                record {
+                  some = omega arith;
+                  most = omega arith;
+                  gateways = λ i h. refl;
+                  numbers = λ i h. omega arith;
+                  oneLast = λ i h. refl;
+                  bytes = λ i h. (bytes-by (exampleMemory i) refl, bytes-by (oneSetUp i .list) refl);
+                  accepted = λ i h. refl;
+                };
+            allowed = (omega arith, (omega arith, (omega arith, tt)));
+            nothingUnderWay = refl;
+            nothingIsDue = at-one _ refl;
+            nothingLeft = at-one _ ([], refl);
+            whole = at-one _ refl;
+            completed = record { isClosed = refl; allAccepted = λ i h l. absurd (omega arith) };
+            took = refl;
           };
-      allowed = (omega arith, (omega arith, (omega arith, tt)));
-      nothingIsDue = refl;
-      nothingLeft = λ output. refl;
-      whole = refl;
+      two =
+          record {
+            forecast =
+                record {
+                  some = omega arith;
+                  most = omega arith;
+                  gateways = at-two _ refl refl;
+                  numbers = at-two _ refl refl;
+                  oneLast = at-two _ refl refl;
+                  bytes =
+                      λ i h. (
+                        bytes-by (exampleMemory i) refl,
+                        at-two (λ j. Bytes (twoSetUps j .list)) (bytes-by (twoSetUps 0 .list) refl) (bytes-by [] refl) i h,
+                      );
+                  accepted = at-two _ refl refl;
+                };
+            allowed = (
+              omega arith,
+              (
+                (omega arith, bytes-by request refl, λ h. refl),
+                (
+                  omega arith,
+                  (
+                    (omega arith, bytes-by requestAcknowledged refl, λ h. refl),
+                    (
+                      omega arith,
+                      (
+                        (omega arith, bytes-by startFrame refl, λ h. refl),
+                        (
+                          (omega arith, bytes-by lvtFrame refl, λ h. refl),
+                          ((omega arith, bytes-by updateFrame refl, λ h. refl), (omega arith, (omega arith, tt))),
+                        ),
+                      ),
+                    ),
+                  ),
+                ),
+              ),
+            );
+            nothingUnderWay = refl;
+            nothingIsDue = at-two _ refl refl;
+            nothingLeft = at-two _ ([], refl) ([], refl);
+            whole = at-two _ refl refl;
+            completed =
+                record {
+                  isClosed = refl;
+                  allAccepted =
+                      λ i p l. at-two (λ j. 0 < j → worldAtEnd 2 10 twoSetUps exampleMemory twoCalls .rounds .accepted 1 j ≡ true) (λ q. absurd (omega arith)) (λ q. refl) i l p;
+                };
+            took = refl;
+          };
     }

@@ -24,7 +24,7 @@ use Rattle.lists.proofs.BoolLaws.{and-left, and-right, and-both}
 use Rattle.gateway.specs.SettingUp.{cutFrames, queued}
 use Rattle.gateway.specs.Working.{pendingOf}
 use Rattle.event_steps.specs.Models.{Model, first}
-use Rattle.run.specs.SingleQueue.{SetUpInput}
+use Rattle.run.specs.Forecast.{SetUpInput}
 
 -- the elements that pass the test
 unfoldable pub passing : {A : Type 0} → (A → Bool) → List A → List A

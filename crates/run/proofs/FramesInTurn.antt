@@ -39,7 +39,7 @@ use Rattle.timewarp.specs.Claims.{IsOutstanding}
 use Rattle.timewarp.specs.Worlds as Worlds
 use Rattle.round_steps.proofs.ArcLaws.{ChildOf, child, no-child, child?}
 use Rattle.timewarp.proofs.Theorem.{claim-holds}
-use Rattle.run.specs.SingleQueue.{SetUpInput}
+use Rattle.run.specs.Forecast.{SetUpInput}
 use Rattle.run.specs.World.{World, Carried}
 use Rattle.run.specs.Demand3.{agreed}
 use Rattle.run.proofs.FigureGraph.{figureGraph, tells-is, hears-is}

@@ -1,11 +1,9 @@
 -- The claims beyond demand 3.
-use mathlib.Core.Path.{_≡_, refl, sym, _∙_}
+use mathlib.Core.Path.{_≡_, sym, _∙_}
 use borrow.Author.Tests.{ne-eqb}
 use Rattle.gateway.specs.Calls.{taken, started, committed}
 use Rattle.run.specs.World.{World, Call, works, takes, starts, commits, setsUp, openingWorld, afterCall, afterCalls}
-use Rattle.run.specs.Further.{OnlyForRoom, SameRecords, DoesNothing, NothingChanged, AlwaysSound, SingleQueueEnds}
-use Rattle.run.proofs.FigureGraph.{figureGraph}
-use Rattle.run.proofs.OpeningWorlds.{queue-ends}
+use Rattle.run.specs.Further.{OnlyForRoom, SameRecords, DoesNothing, NothingChanged}
 use Rattle.run.proofs.RefusedCalls.{refused-frame, refused-start, refused-commit, refused-set-up, idle-work}
 use Rattle.run.proofs.FramesInTurn.{taken-or-room}
 use Rattle.run.proofs.Theorem.{claimed, reached-both}
@@ -35,11 +33,3 @@ nothing-changed n last setups lent forecast calls h c d = by-call c d
 pub only-for-room : OnlyForRoom
 only-for-room n last setups lent forecast calls h c under output = taken-or-room n (forecast .some) last setups (reached-both n last setups
     lent forecast calls h .both) c under output
-
--- every memory
-pub always-sound : AlwaysSound
-always-sound n last setups lent forecast calls h i l = reached-both n last setups lent forecast calls h .both .bytes i l
-
--- the single queue
-pub single-queue-ends : SingleQueueEnds
-single-queue-ends n last setups lent forecast = queue-ends n last setups lent forecast (figureGraph n (forecast .some)) refl

@@ -8,7 +8,7 @@ use borrow.Author.Tests.{eqb-true}
 use Rattle.gateway.specs.Calls.{taken, started, committed}
 use Rattle.timewarp.specs.Worlds as Worlds
 use Rattle.timewarp.proofs.CallChains.{steps-join}
-use Rattle.run.specs.SingleQueue.{SetUpInput}
+use Rattle.run.specs.Forecast.{SetUpInput}
 use Rattle.run.specs.World.{World, Call, works, takes, starts, commits, setsUp, afterCall, afterCalls, Allowed, AllAllowed}
 use Rattle.run.proofs.RefusedCalls.{refused-set-up, refused-frame, refused-start, refused-commit}
 use Rattle.run.proofs.BothWorlds.{Both, Keeps, forecastSetting}

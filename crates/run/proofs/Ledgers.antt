@@ -24,7 +24,7 @@ use Rattle.lists.specs.Lists.{beforeFirst, fromFirst}
 use Rattle.gateway.specs.Taking.{isLater, isCancelOf, isPlain, waitingEntry, takePlain, takeCancel}
 use Rattle.event_steps.specs.Models.{Model}
 use Rattle.event_steps.proofs.OrderLaws.{message-eq}
-use Rattle.run.specs.SingleQueue.{SetUpInput}
+use Rattle.run.specs.Forecast.{SetUpInput}
 use Rattle.run.specs.Ledger as Ledger
 use Rattle.run.specs.Ledger.{Item, notDone, afterPlain, isItem, undoneAfter, afterCancel, didOne, committedOne, notDoneOf}
 use Rattle.run.proofs.ForecastModel.{forecastModel}

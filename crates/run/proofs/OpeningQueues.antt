@@ -34,7 +34,8 @@ use Rattle.event_steps.specs.Models.{Model, stateAfter}
 use Rattle.event_steps.specs.Gateways.{gatewayOf}
 use Rattle.event_steps.specs.SingleQueue as Theory
 use Rattle.event_steps.proofs.OrderLaws.{message-eq}
-use Rattle.run.specs.SingleQueue.{SetUpInput, openingMessages, openingQueue}
+use Rattle.run.specs.Forecast.{SetUpInput}
+use Rattle.run.specs.SingleQueue.{openingMessages, openingQueue}
 use Rattle.run.specs.Ledger as Ledger
 use Rattle.run.specs.Ledger.{afterPlain}
 use Rattle.run.specs.World.{openingLedger}

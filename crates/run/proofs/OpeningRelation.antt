@@ -11,9 +11,8 @@ use Rattle.gateway.specs.Claims.{SoundBytes}
 use Rattle.gateway.proofs.SoundAfter.{never-unsound}
 use Rattle.event_steps.specs.Models.{stateAfter}
 use Rattle.timewarp.specs.Worlds as Worlds
-use Rattle.run.specs.SingleQueue.{SetUpInput}
+use Rattle.run.specs.Forecast.{SetUpInput, Forecast}
 use Rattle.run.specs.World.{openingWorld}
-use Rattle.run.specs.Demand3.{Forecast}
 use Rattle.run.proofs.FigureGraph.{figureGraph}
 use Rattle.run.proofs.EventCalls.{Stands}
 use Rattle.run.proofs.RoundsUnderWay.{roundsIn}

@@ -25,9 +25,9 @@ use Rattle.round_steps.specs.Arcs.{Graph}
 use Rattle.round_steps.specs.RoundSteps as RoundSteps
 use Rattle.event_steps.specs.SingleQueue as Theory
 use Rattle.timewarp.specs.Worlds as Worlds
-use Rattle.run.specs.SingleQueue.{SetUpInput, openingMessages, openingQueue, steps, turnsFor, wholeRecord}
+use Rattle.run.specs.Forecast.{SetUpInput, Forecast}
+use Rattle.run.specs.SingleQueue.{openingMessages, openingQueue, steps, turnsFor, wholeRecord}
 use Rattle.run.specs.World.{openingWorld}
-use Rattle.run.specs.Demand3.{Forecast}
 use Rattle.run.proofs.ForecastModel.{forecastModel}
 use Rattle.run.proofs.QueueViews.{viewOf}
 use Rattle.run.proofs.SingleQueues.{historyRecord, Settled, steps-end, whole-record}

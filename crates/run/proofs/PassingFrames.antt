@@ -4,7 +4,6 @@ use mathlib.Core.Bool.{true, false}
 use mathlib.Core.List.{List}
 use Prim.Native.Nat.{ℕ}
 use lib.Dec.{eqb}
-use borrow.Author.Tests.{eq-eqb}
 use Rattle.model.specs.Messages.{kindNumber}
 use Rattle.frame.specs.Reasons.{reading, formIn, formNumber, readAs}
 use Rattle.frame.specs.Limits.{numbersBelow, hourAllowed}
@@ -14,21 +13,19 @@ use Rattle.frame.specs.declared.Frame.{Frame}
 use Rattle.frame.specs.declared.Reading.{Reading}
 use Rattle.frame.specs.declared.Form.the-variants.{Good}
 use Rattle.frame.proofs.Laws.{one-to-one}
-use Rattle.frame.proofs.FormNumbers.{good-number, number-passes}
+use Rattle.frame.proofs.FormNumbers.{number-passes}
 use Rattle.gateway.specs.Calls.{byCarrier}
 
 -- of the forms, no Restock, and with its numbers and its hour in their ranges
 pub record Passing (n last : ℕ) (bytes : List ℕ) : Type 0 where
-  pub form : formNumber (reading bytes .form) ≡ 0
+  pub form : reading bytes .form ≡ Good
   pub kind : eqb (kindNumber (reading bytes .frame .message .kind)) 3 ≡ false
   pub numbers : numbersBelow n (reading bytes .frame .message) ≡ true
   pub hour : hourAllowed last (reading bytes .frame .message) ≡ true
 
 -- the carrier's call takes it
 pub passing-form : {n last : ℕ} (bytes : List ℕ) → Passing n last bytes → eqb (formNumber (formIn byCarrier (reading bytes))) 0 ≡ true
-passing-form bytes p =
-    number-passes (byCarrier (reading bytes .frame)) (reading bytes .form)
-    ∙ rw (good-number (reading bytes .form), eq-eqb (formNumber (reading bytes .form)) 0 (p .form), p .kind)
+passing-form bytes p = number-passes (byCarrier (reading bytes .frame)) (reading bytes .form) ∙ rw (p .form, p .kind)
 
 -- with equal limits
 pub same-passing : {n n′ last last′ : ℕ} → n ≡ n′ → last ≡ last′ → {bytes : List ℕ} → Passing n last bytes → Passing n′ last′ bytes
@@ -40,7 +37,7 @@ pub passing-frame : (n last : ℕ) (f : Frame) → RangedFrame f → wellFormed 
 passing-frame n last f r e k a h =
     let is : reading (written f) ≡ readAs Good f = one-to-one .writtenRead f r e in
     record {
-      form = ap (λ (x : Reading). formNumber (x .form)) is;
+      form = ap (λ (x : Reading). x .form) is;
       kind = ap (λ (x : Reading). eqb (kindNumber (x .frame .message .kind)) 3) is ∙ k;
       numbers = ap (λ (x : Reading). numbersBelow n (x .frame .message)) is ∙ a;
       hour = ap (λ (x : Reading). hourAllowed last (x .frame .message)) is ∙ h;

@@ -14,10 +14,13 @@ use Rattle.gateway.specs.SettingUp.{setUpRefusal, cutFrames}
 use Rattle.gateway.specs.Effects.{bytesOfFrames, fits}
 use Rattle.gateway.specs.Working.{Progress, noneDone, onceMore, workedBy, worked, done, pendingOf}
 use Rattle.gateway.specs.Claims.{SoundBytes}
-use Rattle.gateway.specs.Calls.{setUp, taken, started, committed, workedOff}
+use Rattle.gateway.specs.Rounds.{start}
+use Rattle.gateway.specs.Committing.{commit}
+use Rattle.gateway.specs.Calls.{takeBytes, setUp, taken, started, committed, workedOff}
 use Rattle.gateway.specs.declared.Opening.{Opening}
-use Rattle.run.specs.World.{World, works, takes, starts, commits, setsUp, afterWorking, afterCall}
+use Rattle.run.specs.World.{World, works, takes, starts, commits, setsUp, withMemory, afterWorking, afterCall}
 use Rattle.run.specs.Ledger.{didSome}
+use Rattle.run.proofs.AcceptedCalls.{refused-memory}
 use Rattle.run.proofs.BesideCalls.{change-self}
 use Rattle.run.proofs.HeldGateways.{held}
 
@@ -30,28 +33,32 @@ set-up-refused o list memory h = by-case (eqb (setUpRefusal o (length memory) li
     by-case true p = absurd (h (rw p))
     by-case false p = rw p
 
+-- a world in which a call left the memory as it was
+same-memory : (w : World) (i : ℕ) {memory : List ℕ} → memory ≡ w .memories i → withMemory i memory w ≡ w
+same-memory w i e =
+    ap (λ (f : ℕ → List ℕ). record { memories = f; underWay = w .underWay; records = w .records; ledgers = w .ledgers; rounds = w .rounds })
+    (ap (λ (m : List ℕ). change i m (w .memories)) e ∙ change-self i (w .memories))
+
+-- a refused set up, frame, start call or commit
 pub refused-set-up : (n : ℕ) (w : World) (i : ℕ) (o : Opening) (list : List ℕ) → (setUp o list (w .memories i) .answer .number ≡ 0 → ⊥) →
     afterCall n w (setsUp i o list) ≡ w
 unfolding afterCall
-refused-set-up n w i o list h =
-    ap (λ (f : ℕ → List ℕ). record { memories = f; underWay = w .underWay; records = w .records; ledgers = w .ledgers; rounds = w .rounds })
-    (ap (λ (m : List ℕ). change i m (w .memories)) (set-up-refused o list (w .memories i) h) ∙ change-self i (w .memories))
+refused-set-up n w i o list h = same-memory w i (set-up-refused o list (w .memories i) h)
 
--- a refused frame, start call or commit
 pub refused-frame : (n : ℕ) (w : World) (i : ℕ) (frame output : List ℕ) → eqb (taken (w .memories i) frame output .answer .number) 0 ≡ false
     → afterCall n w (takes i frame output) ≡ w
-unfolding afterCall
-refused-frame n w i frame output h = rw h
+unfolding afterCall taken
+refused-frame n w i frame output h = rw h (same-memory w i (refused-memory (takeBytes frame) (w .memories i) output h))
 
 pub refused-start : (n : ℕ) (w : World) (i : ℕ) (output : List ℕ) → eqb (started (w .memories i) output .answer .number) 0 ≡ false →
     afterCall n w (starts i output) ≡ w
-unfolding afterCall
-refused-start n w i output h = rw h
+unfolding afterCall started
+refused-start n w i output h = rw h (same-memory w i (refused-memory start (w .memories i) output h))
 
 pub refused-commit : (n : ℕ) (w : World) (i : ℕ) (output : List ℕ) → eqb (committed (w .memories i) output .answer .number) 0 ≡ false →
     afterCall n w (commits i output) ≡ w
-unfolding afterCall
-refused-commit n w i output h = rw h
+unfolding afterCall committed
+refused-commit n w i output h = rw h (same-memory w i (refused-memory commit (w .memories i) output h))
 
 -- work that does no event leaves the gateway and writes nothing
 record NoEvent (g : Gateway) (p : Progress) : Type 0 where

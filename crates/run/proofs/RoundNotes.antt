@@ -12,7 +12,7 @@ use Rattle.event_steps.specs.Models.{hour, first}
 use Rattle.round_steps.specs.RoundSteps
 use Rattle.round_steps.specs.RoundSteps.{RoundFrame}
 use Rattle.timewarp.specs.Worlds.{lowerAll}
-use Rattle.run.specs.SingleQueue.{SetUpInput}
+use Rattle.run.specs.Forecast.{SetUpInput}
 use Rattle.run.specs.World
 use Rattle.run.proofs.ForecastModel.{forecastModel}
 use Rattle.run.proofs.EventCalls.{notedAll}

@@ -29,7 +29,7 @@ use Rattle.gateway.proofs.Keeps.{start-keeps, bytes-keep}
 use Rattle.event_steps.specs.Models.{hour}
 use Rattle.timewarp.specs.Worlds as Worlds
 use Rattle.timewarp.proofs.CallChains.{steps-join}
-use Rattle.run.specs.SingleQueue.{SetUpInput}
+use Rattle.run.specs.Forecast.{SetUpInput}
 use Rattle.run.specs.World.{World, Carried, Rounds, kindIn, framesIn, isFrame, takenBySense, afterStarting, afterTaking}
 use Rattle.run.proofs.QueueViews.{viewOf}
 use Rattle.run.proofs.LeastHours.{least-outstanding, least-queued}

@@ -27,7 +27,8 @@ use Rattle.event_steps.proofs.QueueLaws.{first-taken, first-least, queue-ends}
 use Rattle.memory.specs.Records.{siteOf}
 use Rattle.gateway.specs.SettingUp.{settingsOf}
 use Rattle.gateway.specs.Committing.{recordFor}
-use Rattle.run.specs.SingleQueue.{SetUpInput, Queue, openingQueue, earliest, others, doOne, stepOn, steps, turnsFor, wholeRecord}
+use Rattle.run.specs.Forecast.{SetUpInput}
+use Rattle.run.specs.SingleQueue.{Queue, openingQueue, earliest, others, doOne, stepOn, steps, turnsFor, wholeRecord}
 use Rattle.run.proofs.EventOrders.{keys-agree}
 use Rattle.run.proofs.ForecastModel.{forecastModel, siteAt, sendsAt, sends-all-sent, sends-origins}
 use Rattle.run.proofs.SavedStates.{stateAt}

@@ -11,7 +11,7 @@ use Rattle.gateway.specs.Undoing.{processedOf}
 use Rattle.lists.specs.Lists.{fromFirst}
 use Rattle.gateway.specs.Taking.{isLater, isCancelOf, isPlain, takePlain, takeCancel}
 use Rattle.gateway.proofs.Maintaining.{Kept}
-use Rattle.run.specs.SingleQueue.{SetUpInput}
+use Rattle.run.specs.Forecast.{SetUpInput}
 use Rattle.run.proofs.SavedStates.{Saved}
 use Rattle.run.proofs.EventCalls.{Stands, notedAll, rolled, plainBack, cancelBack}
 

@@ -14,7 +14,7 @@ use Rattle.frame.specs.declared.Sense.{Sense}
 use Rattle.frame.specs.declared.Sense.the-variants.{Plain, Cancel, Acknowledgment, CancelAcknowledgment}
 use Rattle.gateway.specs.Calls.{taken}
 use Rattle.timewarp.specs.Worlds as Worlds
-use Rattle.run.specs.SingleQueue.{SetUpInput}
+use Rattle.run.specs.Forecast.{SetUpInput}
 use Rattle.run.specs.World.{World, kindIn, framesIn, isFrame, afterTaking}
 use Rattle.run.proofs.BothWorlds.{Both, Keeps, forecastSetting}
 use Rattle.run.proofs.EventTakingsOnBytes.{event-taken-kept}

@@ -3,15 +3,17 @@ use mathlib.Core.Path.{_≡_, refl, sym, _∙_, ap, subst}
 use Prim.Native.Nat.{ℕ, _≤_, _<_}
 use native.Mathlib.Omega.{arith}
 use mathlib.Core.List.{List, _++_}
+use Rattle.lists.proofs.ListLaws.{all-each}
 use Rattle.timewarp.specs.Worlds as Worlds
 use Rattle.timewarp.proofs.Theorem.{never-falls}
-use Rattle.run.specs.SingleQueue.{SetUpInput}
+use Rattle.run.specs.Forecast.{SetUpInput, Forecast}
+use Rattle.run.specs.SingleQueue.{SingleQueueEnds}
 use Rattle.run.specs.World.{World, Call, openingWorld, afterCalls, AllAllowed}
-use Rattle.run.specs.Demand3.{Forecast, Claim, Demand3, agreed}
+use Rattle.run.specs.Demand3.{Claim, Demand3, agreed}
 use Rattle.run.proofs.FigureGraph.{figureGraph}
 use Rattle.run.proofs.ClaimParts.{beginning-part, whole-part, waiting-part, underWay-part}
-use Rattle.run.proofs.RoundClaims.{rounds-hold, rounds-fewer}
-use Rattle.run.proofs.OpeningWorlds.{single-queue}
+use Rattle.run.proofs.RoundClaims.{phase-open, rounds-hold, rounds-fewer}
+use Rattle.run.proofs.OpeningWorlds.{single-queue, queue-ends}
 use Rattle.run.proofs.BothWorlds.{Both, Keeps, forecastSetting, model, good-world}
 use Rattle.run.proofs.OpeningRelation.{opening-both}
 use Rattle.run.proofs.KeptRelation.{calls-keep, calls-after, allowed-parts}
@@ -56,9 +58,12 @@ module _ (n last : ℕ) (setups : ℕ → SetUpInput) (lent : ℕ → List ℕ) 
       record {
         beginning = λ i l. beginning-part n last setups (figureGraph n some) refl w (k .world) b i l (single i);
         whole = λ i l. whole-part n last setups (figureGraph n some) refl w (k .world) b i l (single i);
+        soundMemories = k .both .bytes;
         neverFell = never-fell calls h;
         boundWaiting = waiting-part n last setups (figureGraph n some) refl w (k .world) b;
+        goodForms = λ c m. all-each (k .both .passing) c m .form;
         boundUnderWay = underWay-part n last setups (figureGraph n some) refl w (k .world) b;
+        openRound = phase-open n some (model n some last setups) refl (k .both .rounds);
         rounds = rounds-hold n some (model n some last setups) refl (good-world n some last setups (k .both)) (k .both .rounds .counted);
         fewer = rounds-fewer n some (model n some last setups) refl (good-world n some last setups (k .both)) (k .both .rounds .counted);
       }
@@ -66,3 +71,7 @@ module _ (n last : ℕ) (setups : ℕ → SetUpInput) (lent : ℕ → List ℕ) 
 -- The theorem.
 pub demand3 : Demand3
 demand3 n last setups lent forecast calls h = claimed n last setups lent forecast calls h
+
+-- And the single queue ends.
+pub single-queue-ends : SingleQueueEnds
+single-queue-ends n last setups lent forecast = queue-ends n last setups lent forecast (figureGraph n (forecast .some)) refl

@@ -15,7 +15,7 @@ use Rattle.event_steps.specs.Models.{Model, NotLater, stateAfter, sentBy}
 use Rattle.event_steps.specs.Gateways.{Event, cancel, message, gatewayOf, networkOf}
 use Rattle.event_steps.specs.EventSteps.{undoes}
 use Rattle.timewarp.proofs.CallChains.{insert-append}
-use Rattle.run.specs.SingleQueue.{SetUpInput}
+use Rattle.run.specs.Forecast.{SetUpInput}
 use Rattle.run.proofs.ForecastModel.{forecastModel, siteAt, sendsAt}
 use Rattle.run.proofs.QueueViews.{doneWith, doneAfter, Marked, marked, pending, processed, waiting}
 use Rattle.run.proofs.SavedStates.{Saved, entry}

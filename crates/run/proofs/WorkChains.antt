@@ -24,7 +24,7 @@ use Rattle.gateway.proofs.Replies.{Good}
 use Rattle.gateway.proofs.Searches.{pending-member}
 use Rattle.round_steps.specs.Arcs.{Graph}
 use Rattle.timewarp.specs.Worlds.{World, none, lowerAll}
-use Rattle.run.specs.SingleQueue.{SetUpInput}
+use Rattle.run.specs.Forecast.{SetUpInput}
 use Rattle.run.specs.Ledger as Ledger
 use Rattle.run.specs.Ledger.{didOne, didSome}
 use Rattle.run.specs.World.{Carried, carry}

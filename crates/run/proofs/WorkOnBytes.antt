@@ -11,7 +11,7 @@ use Rattle.gateway.specs.Calls.{CallResult, workedOff}
 use Rattle.gateway.specs.declared.Worked.{Worked}
 use Rattle.gateway.proofs.Keeps.{work-keeps}
 use Rattle.timewarp.specs.Worlds as Worlds
-use Rattle.run.specs.SingleQueue.{SetUpInput}
+use Rattle.run.specs.Forecast.{SetUpInput}
 use Rattle.run.specs.World.{World, framesIn, afterWorking}
 use Rattle.run.proofs.FigureGraph.{figureGraph}
 use Rattle.run.proofs.WorkChains.{WorkGoes, work-goes}

@@ -1,14 +1,13 @@
 -- What is claimed of every run beyond demand 3.
 use mathlib.Core.Path.{_≡_}
 use Prim.Native.Nat.{ℕ, _<_}
-use mathlib.Core.List.{List, [], List·Memᴰ}
+use mathlib.Core.List.{List, List·Memᴰ}
 use Rattle.frame.specs.Limits.{nothingDue, addressee}
 use Rattle.frame.specs.Reasons.{reading}
 use Rattle.gateway.specs.Calls.{taken, started, committed, workedOff, setUp}
-use Rattle.gateway.specs.Claims.{SoundBytes}
-use Rattle.run.specs.SingleQueue.{SetUpInput, openingQueue, steps, turnsFor}
+use Rattle.run.specs.Forecast.{SetUpInput, Forecast}
 use Rattle.run.specs.World.{World, Call, works, takes, starts, commits, setsUp, Carried, openingWorld, afterCall, afterCalls, AllAllowed}
-use Rattle.run.specs.Demand3.{Forecast, agreed, NothingToCommit}
+use Rattle.run.specs.Demand3.{agreed, NothingToCommit}
 
 -- the gateway that a frame is addressed to
 abbrev pub receiver : List ℕ → ℕ
@@ -52,18 +51,3 @@ NothingChanged =
     → (calls : List Call) → AllAllowed n (openingWorld setups lent) calls
     → let w = afterCalls n (openingWorld setups lent) calls in
     (c : Call) → DoesNothing n w c → afterCall n w c ≡ w
-
--- In every run every memory stays sound, so that no call answers 10.
-abbrev pub AlwaysSound : Type 0
-AlwaysSound =
-    (n last : ℕ) (setups : ℕ → SetUpInput) (lent : ℕ → List ℕ) → Forecast n last setups lent
-    → (calls : List Call) → AllAllowed n (openingWorld setups lent) calls
-    → let w = afterCalls n (openingWorld setups lent) calls in
-    (i : ℕ) → i < n → SoundBytes (w .memories i)
-
--- The single queue ends: the steps by which `wholeRecord` is defined leave its list empty.
-abbrev pub SingleQueueEnds : Type 0
-SingleQueueEnds =
-    (n last : ℕ) (setups : ℕ → SetUpInput) (lent : ℕ → List ℕ) → Forecast n last setups lent
-    → let q = openingQueue n setups in
-    steps setups (turnsFor last (q .list)) q .list ≡ []

@@ -1,7 +1,8 @@
 -- The run of demand 3, in the words of document 01's section of that name.
+pub mod Forecast
+pub mod SingleQueue
 pub mod Ledger
 pub mod World
 pub mod Demand3
 pub mod Further
 pub mod ExampleRun
-pub mod SingleQueue

@@ -1,4 +1,5 @@
 -- The single queue: a plain machine, fed the settings and opening lists of the N set-ups and nothing more.
+use mathlib.Core.Path.{_≡_}
 use Prim.Native.Nat.{ℕ, zero, suc, _+_, _-_}
 use mathlib.Core.Bool.{cond}
 use mathlib.Core.List.{List, [], _∷_, _++_, map}
@@ -12,12 +13,7 @@ use Rattle.memory.specs.Validity.{later}
 use Rattle.memory.specs.Records.{siteOf}
 use Rattle.gateway.specs.Committing.{recordFor}
 use Rattle.gateway.specs.SettingUp.{settingsOf, cutFrames}
-use Rattle.gateway.specs.declared.Opening.{Opening}
-
--- What a gateway was set up with: its settings and its opening list.
-pub record SetUpInput : Type 0 where
-  pub opening : Opening
-  pub list : List ℕ
+use Rattle.run.specs.Forecast.{SetUpInput, Forecast}
 
 -- the messages of an opening list
 unfoldable pub openingMessages : List ℕ → List Message
@@ -76,3 +72,10 @@ unfoldable pub wholeRecord : ℕ → ℕ → (ℕ → SetUpInput) → ℕ → Li
 wholeRecord n last setups i =
     let q = openingQueue n setups in
     steps setups (turnsFor last (q .list)) q .records i
+
+-- With the list empty it ends, and it always does: those steps leave it empty.
+abbrev pub SingleQueueEnds : Type 0
+SingleQueueEnds =
+    (n last : ℕ) (setups : ℕ → SetUpInput) (lent : ℕ → List ℕ) → Forecast n last setups lent
+    → let q = openingQueue n setups in
+    steps setups (turnsFor last (q .list)) q .list ≡ []

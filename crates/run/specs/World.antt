@@ -17,7 +17,8 @@ use Rattle.frame.specs.declared.Sense.the-variants.{Plain, Cancel, Acknowledgme
 use Rattle.gateway.specs.SettingUp.{cutFrames}
 use Rattle.gateway.specs.Calls.{taken, started, committed, workedOff, setUp}
 use Rattle.gateway.specs.declared.Opening.{Opening}
-use Rattle.run.specs.SingleQueue.{SetUpInput, openingMessages}
+use Rattle.run.specs.Forecast.{SetUpInput}
+use Rattle.run.specs.SingleQueue.{openingMessages}
 use Rattle.run.specs.Ledger.{Ledger, afterPlain, afterCancel, didSome, committedOne}
 
 -- A call of the list: at a gateway, with any output; work with any B, any bytes as a frame.
@@ -161,23 +162,31 @@ afterCommitting i memory written w = record {
   rounds = w .rounds;
 }
 
--- the world after a call; a refused one leaves it as it was
+-- the world in which a call at gateway i left this memory and nothing else
+abbrev pub withMemory : ℕ → List ℕ → World → World
+withMemory i memory w = record {
+  memories = change i memory (w .memories);
+  underWay = w .underWay;
+  records = w .records;
+  ledgers = w .ledgers;
+  rounds = w .rounds;
+}
+
+-- the world after a call; a refused one writes nothing, and its memory is what it left
 unfoldable pub afterCall : ℕ → World → Call → World
 afterCall n w (works i b output) =
     let r = workedOff b (w .memories i) output in
     afterWorking i (r .answer .count) (r .memory) (framesIn (r .answer .written) (r .output)) w
 afterCall n w (takes i frame output) =
     let r = taken (w .memories i) frame output in
-    cond (eqb (r .answer .number) 0) (afterTaking n i frame (r .memory) (framesIn (r .answer .written) (r .output)) w) w
+    cond (eqb (r .answer .number) 0) (afterTaking n i frame (r .memory) (framesIn (r .answer .written) (r .output)) w) (withMemory i (r .memory) w)
 afterCall n w (starts i output) =
     let r = started (w .memories i) output in
-    cond (eqb (r .answer .number) 0) (afterStarting n i (r .memory) (framesIn (r .answer .written) (r .output)) w) w
+    cond (eqb (r .answer .number) 0) (afterStarting n i (r .memory) (framesIn (r .answer .written) (r .output)) w) (withMemory i (r .memory) w)
 afterCall n w (commits i output) =
     let r = committed (w .memories i) output in
-    cond (eqb (r .answer .number) 0) (afterCommitting i (r .memory) (take (r .answer .written) (r .output)) w) w
-afterCall n w (setsUp i opening list) =
-    let r = setUp opening list (w .memories i) in
-    record { memories = change i (r .memory) (w .memories); underWay = w .underWay; records = w .records; ledgers = w .ledgers; rounds = w .rounds }
+    cond (eqb (r .answer .number) 0) (afterCommitting i (r .memory) (take (r .answer .written) (r .output)) w) (withMemory i (r .memory) w)
+afterCall n w (setsUp i opening list) = withMemory i (setUp opening list (w .memories i) .memory) w
 
 -- the world after a list of calls
 unfoldable pub afterCalls : ℕ → World → List Call → World
