@@ -80,6 +80,11 @@ impl Comparison {
         Ok((answer, output[..answer.written].to_vec()))
     }
 
+    /// What a call with an ample output would answer: it is made on a copy of the memory.
+    pub fn would_answer(&mut self, call: Call, memory: &[u8]) -> Result<u32, Wrong> {
+        self.call(call, &mut memory.to_vec(), AMPLE).map(|(answer, _)| answer.number)
+    }
+
     pub fn set_up(
         &mut self,
         memory: &mut [u8],
