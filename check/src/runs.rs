@@ -2,9 +2,8 @@
 
 use crate::compare::{Call, Comparison, AMPLE};
 use crate::draw::{self, Site};
-use crate::hostile;
 use crate::world::{opening, World};
-use crate::Wrong;
+use crate::{events, hostile, Wrong};
 use interface::{memory_length, Opening, MOST_PLACES};
 use peer::forecast;
 use peer::frame::Frame;
@@ -29,6 +28,9 @@ pub fn all(seed: u32, comparison: &mut Comparison) -> Result<(), Wrong> {
         let gateways = generator.word() % 70_000;
         let own = generator.word() % (gateways + 2);
         comparison.route(gateways, own, generator.below(7).into())?;
+    }
+    for _ in 0..20 {
+        events::two_events(&mut generator, comparison)?;
     }
     Ok(())
 }
