@@ -53,7 +53,7 @@ fn event(generator: &mut Generator, site: &Site) -> Frame {
     let acknowledges = matches!(sense, Sense::Acknowledgment | Sense::AcknowledgmentOfCancel);
     if acknowledges && generator.below(8) != 0 {
         (message.from, message.to) = (message.to, message.from);
-        agree(&mut message);
+        message = agreeing(message);
     }
     Frame::Event { sense, message }
 }
@@ -72,9 +72,7 @@ fn message(generator: &mut Generator, site: &Site) -> Message {
     let origin = any_gateway(generator, site);
     let hour = hour(generator, site);
     let lamp = *generator.pick(&LAMPS);
-    let mut message = Message { hour, kind, origin, lamp, quantity: 0, from, to };
-    agree(&mut message);
-    message
+    agreeing(Message { hour, kind, origin, lamp, quantity: 0, from, to })
 }
 
 fn restock(generator: &mut Generator, site: &Site) -> Frame {
@@ -85,14 +83,16 @@ fn restock(generator: &mut Generator, site: &Site) -> Frame {
     plain(Message { hour, kind, origin: 0, lamp: [0; 18], quantity, from: own, to: own })
 }
 
-/// Makes the gateways of a message agree as its kind demands.
-fn agree(message: &mut Message) {
-    match message.kind {
-        Kind::Failure => (message.from, message.origin) = (message.to, message.to),
-        Kind::Delivery => message.origin = message.to,
-        Kind::Restock => message.from = message.to,
-        Kind::Request => {}
-    }
+/// The message with the gateways that its kind demands, and zero for each field that the kind lacks.
+pub fn agreeing(message: Message) -> Message {
+    let Message { kind, origin, lamp, quantity, from, to, .. } = message;
+    let (origin, lamp, quantity, from) = match kind {
+        Kind::Failure => (to, lamp, 0, to),
+        Kind::Request => (origin, lamp, 0, from),
+        Kind::Delivery => (to, lamp, 0, from),
+        Kind::Restock => (0, [0; 18], quantity, to),
+    };
+    Message { origin, lamp, quantity, from, ..message }
 }
 
 /// A Start, Lvt or Update, mostly along an arc.

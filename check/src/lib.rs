@@ -3,6 +3,7 @@
 
 pub mod compare;
 pub mod draw;
+pub mod events;
 pub mod hostile;
 pub mod ledger;
 pub mod peer_calls;

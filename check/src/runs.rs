@@ -2,9 +2,8 @@
 
 use crate::compare::{Call, Comparison, AMPLE};
 use crate::draw::{self, Site};
-use crate::hostile;
 use crate::world::{opening, World};
-use crate::Wrong;
+use crate::{events, hostile, Wrong};
 use interface::{memory_length, Opening, MOST_PLACES};
 use peer::forecast;
 use peer::frame::Frame;
@@ -15,7 +14,8 @@ use peer::model::NOTHING_DUE;
 const ROOMS: [&[usize]; 2] =
     [&[AMPLE], &[AMPLE, AMPLE, AMPLE, 0, 3, 4, 7, 8, 15, 16, 27, 28, 40, 41, 54, 56, 84, 90]];
 
-/// Turns after which a run that does not go on is left.
+/// Turns after which a run that has changed no agreed time and committed nothing must be blocked. A round of the few
+/// gateways here takes about ten.
 const PATIENCE: usize = 60;
 
 /// All runs of one seed.
@@ -28,6 +28,9 @@ pub fn all(seed: u32, comparison: &mut Comparison) -> Result<(), Wrong> {
         let gateways = generator.word() % 70_000;
         let own = generator.word() % (gateways + 2);
         comparison.route(gateways, own, generator.below(7).into())?;
+    }
+    for _ in 0..20 {
+        events::two_events(&mut generator, comparison)?;
     }
     Ok(())
 }
@@ -136,32 +139,52 @@ fn bring(
     world.bring(comparison, place, room)
 }
 
-/// Turns: every gateway works, every frame then under way is brought, gateway 0 starts a round, every gateway commits.
-/// Whether every record became whole.
+/// Turns until every record is whole, or too few places stop the run. Whether every record became whole.
 fn finish(world: &mut World, comparison: &mut Comparison) -> Result<bool, Wrong> {
     let mut progress = world.progress();
+    let mut rounds = world.completed_rounds();
     let mut idle = 0;
-    while idle < PATIENCE {
-        if world.is_whole(comparison)? {
-            return Ok(true);
+    while !world.is_whole(comparison)? {
+        if idle == PATIENCE {
+            check_stuck(world, rounds, comparison)?;
+            return Ok(false);
         }
-        for own in 0..world.gateways() {
-            world.work(comparison, own, 4, AMPLE)?;
-        }
-        for _ in 0..world.frames_under_way() {
-            world.bring(comparison, 0, AMPLE)?;
-        }
-        if world.agreed(0) != NOTHING_DUE {
-            world.start(comparison, 0, AMPLE)?;
-        }
-        for own in 0..world.gateways() {
-            while world.commit(comparison, own, AMPLE)? {}
-        }
+        turn(world, comparison)?;
+        idle += 1;
         let now = world.progress();
-        idle = if now == progress { idle + 1 } else { 0 };
-        progress = now;
+        if now != progress {
+            (progress, rounds, idle) = (now, world.completed_rounds(), 0);
+        }
     }
-    Ok(false)
+    Ok(true)
+}
+
+/// A turn: every gateway works, every frame then under way is brought, gateway 0 starts a round, every gateway commits.
+fn turn(world: &mut World, comparison: &mut Comparison) -> Result<(), Wrong> {
+    for own in 0..world.gateways() {
+        world.work(comparison, own, 4, AMPLE)?;
+    }
+    for _ in 0..world.frames_under_way() {
+        world.bring(comparison, 0, AMPLE)?;
+    }
+    if world.agreed(0) != NOTHING_DUE {
+        world.start(comparison, 0, AMPLE)?;
+    }
+    for own in 0..world.gateways() {
+        while world.commit(comparison, own, AMPLE)? {}
+    }
+    Ok(())
+}
+
+/// A run that does not go on is blocked, and has completed a round since it last went on; `rounds` were completed then.
+fn check_stuck(world: &World, rounds: usize, comparison: &mut Comparison) -> Result<(), Wrong> {
+    if !world.is_blocked(comparison)? {
+        return Err("no progress, yet not blocked".into());
+    }
+    if world.completed_rounds() == rounds {
+        return Err("no progress, and no round is completed".into());
+    }
+    Ok(())
 }
 
 /// A hostile call on a copy of a memory: a frame out of nowhere, or damaged, or a memory with something changed.

@@ -1,6 +1,6 @@
 //! A run of demand 3 over lent memories: what is under way, the records, and the claim after each call.
 
-use crate::compare::{Call, Comparison, AMPLE};
+use crate::compare::{Call, Comparison};
 use crate::ledger::Ledger;
 use crate::Wrong;
 use interface::{Answer, Opening};
@@ -62,7 +62,12 @@ impl World {
         self.agreed[usize::from(own)]
     }
 
-    /// What a run that goes on must change at last.
+    /// Rounds that every gateway has taken the Update of.
+    pub fn completed_rounds(&self) -> usize {
+        self.under_way.completed_rounds()
+    }
+
+    /// What a run that goes on must change at last: the agreed times and the bytes committed.
     pub fn progress(&self) -> (Vec<Hour>, usize) {
         (self.agreed.clone(), self.records.iter().map(Vec::len).sum())
     }
@@ -153,13 +158,12 @@ impl World {
     }
 
     /// Every gateway has agreed on nothing due and has nothing left to commit: then each record must be whole.
-    pub fn is_whole(&mut self, comparison: &mut Comparison) -> Result<bool, Wrong> {
+    pub fn is_whole(&self, comparison: &mut Comparison) -> Result<bool, Wrong> {
         if self.agreed.iter().any(|&agreed| agreed != NOTHING_DUE) {
             return Ok(false);
         }
-        for memory in &mut self.memories {
-            let (answer, _) = comparison.call(Call::Commit, &mut memory.clone(), AMPLE)?;
-            if answer.number != 6 {
+        for memory in &self.memories {
+            if comparison.would_answer(Call::Commit, memory)? != 6 {
                 return Ok(false);
             }
         }
@@ -167,6 +171,23 @@ impl World {
             return Err("the records are not those of the single queue".into());
         }
         Ok(true)
+    }
+
+    /// Too few places stop the run: every work answers 5 or 6, every message, cancel and acknowledgment under way is
+    /// refused with 5, and there is a 5 among these answers.
+    pub fn is_blocked(&self, comparison: &mut Comparison) -> Result<bool, Wrong> {
+        let mut answers = Vec::new();
+        for memory in &self.memories {
+            answers.push(comparison.would_answer(Call::Work { budget: 1 }, memory)?);
+        }
+        for Carried { frame, .. } in self.under_way.carried() {
+            if let Frame::Event { .. } = frame {
+                let memory = &self.memories[usize::from(frame.addressee())];
+                let bytes = frame::write(frame);
+                answers.push(comparison.would_answer(Call::Take { frame: &bytes }, memory)?);
+            }
+        }
+        Ok(answers.contains(&5) && answers.iter().all(|number| matches!(number, 5 | 6)))
     }
 
     fn accept(&mut self, own: u8, brought: Carried, output: &[u8]) -> Result<(), Wrong> {

@@ -9,8 +9,8 @@ use crate::under_way::Wrong;
 /// Events that a gateway works off in a turn.
 const TURN_BUDGET: u32 = 4;
 
-/// Turns after which a run that has changed no agreed time and committed nothing is stuck. A round
-/// of the few gateways here takes about ten.
+/// Turns after which a run that has changed no agreed time and committed nothing must be blocked. A
+/// round of the few gateways here takes about ten.
 const PATIENCE: usize = 200;
 
 /// How a run came to its end.
@@ -24,22 +24,33 @@ pub enum End {
 /// Turns until the run is finished or stuck.
 pub fn finish(run: &mut Run) -> Result<End, Wrong> {
     let mut progress = run.progress();
+    let mut rounds = run.completed_rounds();
     let mut idle = 0;
     while !run.is_finished() {
-        turn(run)?;
-        let now = run.progress();
-        idle = if now == progress { idle + 1 } else { 0 };
-        progress = now;
         if idle == PATIENCE {
-            let blocked = run.is_blocked();
-            return if blocked {
-                Ok(End::Stuck)
-            } else {
-                Err("no progress, yet not blocked".into())
-            };
+            check_stuck(run, rounds)?;
+            return Ok(End::Stuck);
+        }
+        turn(run)?;
+        idle += 1;
+        let now = run.progress();
+        if now != progress {
+            (progress, rounds, idle) = (now, run.completed_rounds(), 0);
         }
     }
     Ok(End::Finished)
+}
+
+/// A run that does not go on is blocked, and has completed a round since it last went on; `rounds`
+/// were completed then.
+fn check_stuck(run: &Run, rounds: usize) -> Result<(), Wrong> {
+    if !run.is_blocked() {
+        return Err("no progress, yet not blocked".into());
+    }
+    if run.completed_rounds() == rounds {
+        return Err("no progress, and no round is completed".into());
+    }
+    Ok(())
 }
 
 /// One turn: every gateway works; every frame then under way is brought, oldest first; gateway 0

@@ -16,6 +16,5 @@ pub mod routing;
 pub mod run;
 pub mod samples;
 pub mod stream;
-pub mod table;
 pub mod trials;
 pub mod under_way;

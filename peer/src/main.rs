@@ -1,11 +1,11 @@
 //! The second program: its subcommands.
 
-use peer::{arcs, examples, samples, stream, table, trials};
+use peer::{arcs, examples, samples, stream, trials};
 use std::io::{self, Read, Write};
 use std::process::ExitCode;
 
-const USAGE: &str = "usage: peer arcs | frames | order | model | examples | \
-                     sample-frames SEED COUNT | run SEED COUNT";
+const USAGE: &str =
+    "usage: peer arcs | frames | examples | sample-frames SEED COUNT | run SEED COUNT";
 
 fn main() -> ExitCode {
     let arguments: Vec<String> = std::env::args().skip(1).collect();
@@ -25,8 +25,6 @@ fn run(words: &[&str]) -> io::Result<Option<Vec<u8>>> {
     Ok(match words {
         ["arcs"] => Some(arcs::listing(&input(arcs::LONGEST_INPUT as u64 + 1)?).into_bytes()),
         ["frames"] => Some(stream::frame_lines(&input(u64::MAX)?).into_bytes()),
-        ["order"] => Some(stream::order_lines(&input(u64::MAX)?).into_bytes()),
-        ["model"] => Some(table::lines().into_bytes()),
         ["examples"] => Some(examples::lines().map_err(io::Error::other)?.into_bytes()),
         ["sample-frames", seed, count] => sample_frames(seed, count),
         ["run", seed, count] => return trials(seed, count),

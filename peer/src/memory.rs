@@ -10,7 +10,8 @@ const HEADER: usize = 256;
 const QUEUE_PLACE: usize = 64;
 const OUTSTANDING_PLACE: usize = 32;
 
-/// Where the note stands in the header; it is not looked at while no round is open.
+/// Where the phase and the note stand in the header.
+const PHASE: usize = 3;
 pub const NOTE: Range<usize> = 24..28;
 
 /// Why memory is not sound: refusal 10's reasons, in the order in which they are looked for.
@@ -83,7 +84,7 @@ pub fn read(memory: &[u8]) -> Result<Gateway, Unsound> {
         return Err(Unsound::Counts);
     }
     let mut round = Round::new(nodes, own);
-    round.phase = phase(&round, memory[3], memory[4], number(&memory[NOTE]))?;
+    round.phase = phase(&round, memory[PHASE], memory[4], number(&memory[NOTE]))?;
 
     let settings = Settings { own, supplier, last_hour };
     let check = |message: Message, here: u8| check_message(message, nodes, &settings, here);
@@ -146,6 +147,16 @@ pub fn write(gateway: &Gateway, memory: &mut [u8]) {
     for (place, sent) in places.zip(&gateway.outstanding) {
         place.copy_from_slice(&sent_bytes(sent));
     }
+}
+
+/// Whether the header of a memory says that the gateway is idle: its note is not looked at then.
+pub fn is_idle(memory: &[u8]) -> bool {
+    memory.get(PHASE) == Some(&0)
+}
+
+/// Whether an idle gateway's memory has a note other than zero. Set up and the end of a round leave zero.
+pub fn has_unused_note(memory: &[u8]) -> bool {
+    is_idle(memory) && memory.get(NOTE).is_some_and(|note| note != [0; 4])
 }
 
 /// The queue in event order: of equal messages the processed ones first.

@@ -96,15 +96,22 @@ impl Run {
             && self.gateways.iter().all(nothing_to_commit)
     }
 
-    /// No gateway can work, and no message, cancel or acknowledgment under way would be accepted.
+    /// Too few places stop the run: every work answers 5 or 6, every message, cancel and
+    /// acknowledgment under way is refused with 5, and there is a 5 among these answers.
     pub fn is_blocked(&self) -> bool {
-        let idle = |gateway: &Gateway| gateway.clone().work(1, AMPLE).count == 0;
-        let refused = |Carried { frame, .. }: &Carried| {
-            let mut gateway = self.gateways[usize::from(frame.addressee())].clone();
-            let is_event = matches!(frame, Frame::Event { .. });
-            !is_event || gateway.take(&frame::write(frame), AMPLE).is_err()
-        };
-        self.gateways.iter().all(idle) && self.under_way.carried().iter().all(refused)
+        let mut answers = Vec::new();
+        for gateway in &self.gateways {
+            answers.push(gateway.clone().work(1, AMPLE).why);
+        }
+        for Carried { frame, .. } in self.under_way.carried() {
+            if let Frame::Event { .. } = frame {
+                let mut gateway = self.gateways[usize::from(frame.addressee())].clone();
+                answers.push(gateway.take(&frame::write(frame), AMPLE).err());
+            }
+        }
+        let no_room = Some(Refusal::NoRoom);
+        let refused = |answer: &_| [no_room, Some(Refusal::Nothing)].contains(answer);
+        answers.contains(&no_room) && answers.iter().all(refused)
     }
 
     pub fn work(&mut self, own: u8, budget: u32, room: usize) -> Result<(), Wrong> {

@@ -253,12 +253,8 @@ mod tests {
     }
 
     #[test]
-    fn a_sample_shows_all_outcomes() {
-        let sample = frames(1, WHOLE_SAMPLE);
-        let lines = stream::frame_lines(&sample);
+    fn many_damaged_frames_are_refused() {
+        let lines = stream::frame_lines(&frames(1, WHOLE_SAMPLE));
         assert!(lines.lines().filter(|&line| line == "1").count() > 150);
-        for outcome in ["-1", "0", "1"] {
-            assert!(stream::order_lines(&sample).lines().any(|line| line == outcome));
-        }
     }
 }

@@ -1,7 +1,6 @@
 //! Streams of candidate frames: for each item one length byte, then that many bytes.
 
-use crate::frame::{self, Frame};
-use std::cmp::Ordering;
+use crate::frame;
 
 /// The items of a stream; `None` for a last item that is cut.
 fn items(mut stream: &[u8]) -> Vec<Option<&[u8]>> {
@@ -39,30 +38,12 @@ pub fn frame_lines(stream: &[u8]) -> String {
     text
 }
 
-/// A line for each two consecutive messages of kinds 0 to 3: -1, 0 or 1 for the event order of
-/// the earlier item against the later. Other items are skipped.
-pub fn order_lines(stream: &[u8]) -> String {
-    let mut messages = Vec::new();
-    for item in items(stream) {
-        if let Some(Frame::Event { message, .. }) = item.and_then(frame::read) {
-            messages.push(message);
-        }
-    }
-    let line = |ordering| match ordering {
-        Ordering::Less => "-1\n",
-        Ordering::Equal => "0\n",
-        Ordering::Greater => "1\n",
-    };
-    messages.windows(2).map(|pair| line(pair[0].cmp(&pair[1]))).collect()
-}
-
 #[cfg(test)]
 mod tests {
     use super::*;
 
     const START: [u8; 4] = [7, 4, 1, 2];
     const RESTOCK: [u8; 10] = [79, 3, 6, 6, 0, 0, 0, 5, 1, 2];
-    const LATER_RESTOCK: [u8; 10] = [79, 3, 6, 6, 0, 0, 1, 0, 1, 2];
 
     fn stream(items: &[&[u8]]) -> Vec<u8> {
         let mut stream = Vec::new();
@@ -86,12 +67,5 @@ mod tests {
         assert_eq!(frame_lines(&whole[..6]), "4 1 2 0 0 0 0 -\n1\n");
         assert_eq!(frame_lines(&whole[..5]), "4 1 2 0 0 0 0 -\n");
         assert_eq!(frame_lines(&[5, 7, 4, 1, 2]), "1\n", "a whole frame in a cut item");
-    }
-
-    #[test]
-    fn the_order_of_neighbours_in_the_stream() {
-        let bytes = stream(&[&RESTOCK, &START, &LATER_RESTOCK, &[], &LATER_RESTOCK, &RESTOCK]);
-        assert_eq!(order_lines(&bytes), "-1\n0\n1\n");
-        assert_eq!(order_lines(&stream(&[&RESTOCK])), "");
     }
 }
