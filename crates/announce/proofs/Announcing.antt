@@ -10,7 +10,7 @@ use lib.ListN.{length, length-append}
 use borrow.Author.Tests.{ne-eqb, eqb-true, eqb-false, le-leb, lt-leb}
 use Rattle.lists.specs.Lists.{joined}
 use Rattle.buffer.specs.Slice.{Bytes, write, Puts}
-use Rattle.buffer.proofs.Writes.{write-nil, write-join, length-write}
+use Rattle.buffer.proofs.Writes.{write-nil}
 use Rattle.model.specs.Messages.{kindNumber}
 use Rattle.model.specs.declared.Kind.{Kind}
 use Rattle.frame.specs.Layout.{wholeLength}
@@ -89,40 +89,25 @@ module _ (kind : Kind) (hour own : ℕ) where
       unfolding bytes
       put-none e = rw (none-bytes e) (sym (write-nil 0 m))
 
-      module _ (n : to .count ≡ 0 → ⊥) {f : Frame} (is : f ≡ frameInRound kind hour own (to .first)) where
-        pub first-room : 0 + length (written f) ≤ length m
-        unfolding bytes first
-        first-room = rw (is, zero-add) (by-count (eqb (to .count) 1) refl)
-          where
-            by-count : (b : Bool) → eqb (to .count) 1 ≡ b → length (written (frameInRound kind hour own (to .first))) ≤ length m
-            by-count true d = rw (one-bytes (eqb-true (to .count) 1 d)) at room
-            by-count false d = let r = rw (two-bytes n (eqb-false (to .count) 1 d), length-append) at room in omega arith
-
-        module _ {m₁ : List ℕ} {next : ℕ} (p : Puts 0 (written f) m m₁ next) where
-          pub put-one : to .count ≡ 1 → m₁ ≡ write 0 (bytesOfFrames (framesInRound kind hour own (listed to))) m
+      module _ {f : Frame} (is : f ≡ frameInRound kind hour own (to .first)) where
+        module _ (e : to .count ≡ 1) where
+          pub one-room : 0 + length (written f) ≤ length m
           unfolding bytes first
-          put-one e = p .output ∙ rw (one-bytes e, is)
+          one-room = rw (is, zero-add) (rw (one-bytes e) at room)
 
-          module _ (o : to .count ≡ 1 → ⊥) {g : Frame} (is₂ : g ≡ frameInRound kind hour own (to .second)) where
-            both : length first + length second ≤ length m
-            unfolding bytes
-            both = rw (two-bytes n o, length-append) at room
+          pub put-one : {m₁ : List ℕ} {end : ℕ} → Puts 0 (written f) m m₁ end → m₁ ≡ write 0 (bytesOfFrames (framesInRound kind hour own (listed to))) m
+          unfolding bytes first
+          put-one p = p .output ∙ rw (one-bytes e, is)
 
-            at-next : next ≡ length first
-            unfolding first
-            at-next = p .position ∙ rw (is, zero-add)
+        module _ (n : to .count ≡ 0 → ⊥) (o : to .count ≡ 1 → ⊥) {g : Frame} (is₂ : g ≡ frameInRound kind hour own (to .second)) where
+          pub two-room : 0 + length (written f ++ written g) ≤ length m
+          unfolding bytes first second
+          two-room = rw (is, is₂, zero-add) (rw (two-bytes n o) at room)
 
-            pub second-room : next + length (written g) ≤ length m₁
-            unfolding first second
-            second-room = rw (at-next, is₂, p .output, length-write 0 (written f) m first-room) both
-
-            pub put-two : {m₂ : List ℕ} {end : ℕ} → Puts next (written g) m₁ m₂ end → m₂ ≡ write 0 (bytesOfFrames (framesInRound kind hour own (listed to))) m
-            unfolding bytes first second
-            put-two q =
-                let r = both in
-                q .output ∙ rw (at-next, is₂, p .output, is, two-bytes n o)
-                (sym (rw zero-add at (sym (write-join 0 (written (frameInRound kind hour own (to .first))) (written (frameInRound kind hour
-                own (to .second))) m (omega arith)))))
+          pub put-both : {m₁ : List ℕ} {end : ℕ} → Puts 0 (written f ++ written g) m m₁ end → m₁ ≡ write 0 (bytesOfFrames (framesInRound kind
+              hour own (listed to))) m
+          unfolding bytes first second
+          put-both p = p .output ∙ rw (two-bytes n o, is, is₂)
 
 -- the header and the frames
 module _ (m : List ℕ) (h : Header) (c : Changed m h) (bytes : Bytes m) where

@@ -14,6 +14,7 @@ use model::Kind;
 use model::Message;
 use model::kind_number;
 use writer::outgoing::put_frame;
+use writer::outgoing::put_two;
 ghost use mathlib.Core.Path.{_≡_};
 ghost use Prim.Native.Nat.{_≤_};
 ghost use lib.ListN.{length};
@@ -55,11 +56,12 @@ fn put_each(output: &mut [u8], kind: Kind, hour: u32, own: u8, to: Few)
     if to.count == 0 {
         return;
     }
-    let next = put_frame(output, 0, round_frame(kind, hour, own, to.first));
+    let first = round_frame(kind, hour, own, to.first);
     if to.count == 1 {
+        put_frame(output, 0, first);
         return;
     }
-    put_frame(output, next, round_frame(kind, hour, own, to.second));
+    put_two(output, 0, first, round_frame(kind, hour, own, to.second));
 }
 
 fn round_frame(kind: Kind, hour: u32, from: u8, to: u8) -> Frame

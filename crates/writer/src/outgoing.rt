@@ -2,6 +2,7 @@
 use crate::put;
 use frame::Frame;
 ghost use mathlib.Core.Path.{_≡_};
+ghost use mathlib.Core.List.{_++_};
 ghost use Prim.Native.Nat.{_+_, _≤_};
 ghost use lib.ListN.{length};
 ghost use Rattle.buffer.specs.Slice.{Puts};
@@ -47,4 +48,12 @@ pub fn put_frame(output: &mut [u8], at: usize, frame: Frame) -> usize
     ensures { λ r. ⌜ Puts at (written frame) (now (output .entry)) (now (output .exit)) r ⌝ }
 {
     position(put_next(writer_at(output, at), frame))
+}
+
+// Puts two frames one behind the other from position at on, and gives the position behind the second.
+pub fn put_two(output: &mut [u8], at: usize, first: Frame, second: Frame) -> usize
+    requires { ⌜ at + length (written first ++ written second) ≤ length (now output) ⌝ }
+    ensures { λ r. ⌜ Puts at (written first ++ written second) (now (output .entry)) (now (output .exit)) r ⌝ }
+{
+    position(put_next(put_next(writer_at(output, at), first), second))
 }

@@ -1,5 +1,5 @@
 -- `announce::put_each` meets its contract.
-use Rattle.announce.proofs.Announcing.{put-none, first-room, put-one, second-room, put-two}
+use Rattle.announce.proofs.Announcing.{put-none, one-room, put-one, two-room, put-both}
 use borrow.Author.Needs.{needs}
 use Rattle.announce.proofs.put_each.Statement.{statement}
 use Rattle.announce.proofs.put_each.Tie as tie
@@ -11,7 +11,7 @@ round-frame-requires : tie.Need-round-frame-requires
 round-frame-requires c κs = search needs
 
 put-frame-requires : tie.Need-put-frame-requires
-put-frame-requires c κs = search first-room
+put-frame-requires c κs = search one-room
 
 same-length : tie.Need-same-length
 same-length c = search needs
@@ -22,14 +22,14 @@ returns-2 c = search put-one
 round-frame-requires-2 : tie.Need-round-frame-requires-2
 round-frame-requires-2 c κs = search needs
 
-put-frame-requires-2 : tie.Need-put-frame-requires-2
-put-frame-requires-2 c κs = search second-room
+put-two-requires : tie.Need-put-two-requires
+put-two-requires c κs = search two-room
 
 same-length-2 : tie.Need-same-length-2
 same-length-2 c = search needs
 
 returns-3 : tie.Need-returns-3
-returns-3 c = search put-two
+returns-3 c = search put-both
 
 pub put-each-spec : {M : Type 1} → statement M
 put-each-spec =
@@ -41,6 +41,6 @@ put-each-spec =
     same-length
     returns-2
     round-frame-requires-2
-    put-frame-requires-2
+    put-two-requires
     same-length-2
     returns-3)
