@@ -3,7 +3,7 @@
 use crate::peer_calls::{Peer, UNSOUND};
 use crate::tally::{Called, Lacking, Tally};
 use crate::Wrong;
-use interface::{ample_output, Answer, Calls, Opening, MOST_PLACES};
+use interface::{ample_output, AgreedTime, Answer, Calls, Opening, MOST_PLACES};
 use library::Library;
 use peer::memory;
 use plain::Plain;
@@ -13,6 +13,10 @@ const FILL: u8 = 0xa5;
 
 /// An output length that is enough for every call.
 pub const AMPLE: usize = ample_output(MOST_PLACES);
+
+/// What the library is compared with.
+const OTHERS: [(&str, &dyn Calls); 2] =
+    [("plain Rust", &Plain), ("the second implementation", &Peer)];
 
 /// Makes calls and counts them.
 #[derive(Default)]
@@ -93,9 +97,7 @@ impl Comparison {
     ) -> Result<u32, Wrong> {
         let before = memory.to_vec();
         let number = Library.set_up(memory, list, opening);
-        let others: [(&str, &dyn Calls); 2] =
-            [("plain Rust", &Plain), ("the second implementation", &Peer)];
-        for (name, other) in others {
+        for (name, other) in OTHERS {
             let mut copy = before.clone();
             let other_number = other.set_up(&mut copy, list, opening);
             if number != other_number {
@@ -115,15 +117,16 @@ impl Comparison {
         Ok(number)
     }
 
-    pub fn agreed_time(&mut self, memory: &[u8]) -> Result<u32, Wrong> {
+    pub fn agreed_time(&mut self, memory: &[u8]) -> Result<AgreedTime, Wrong> {
         let time = Library.agreed_time(memory);
-        for other in [Plain.agreed_time(memory), Peer.agreed_time(memory)] {
-            if time != other {
-                return Err(format!("agreed time: {time:?}, by another {other:?}"));
+        for (name, other) in OTHERS {
+            let other_time = other.agreed_time(memory);
+            if time != other_time {
+                return Err(format!("agreed time: {time:?}, by {name} {other_time:?}"));
             }
         }
         self.tally.count(Called::AgreedTime, time.number);
-        Ok(time.hour)
+        Ok(time)
     }
 
     pub fn route(&mut self, gateways: u32, own: u32, count: usize) -> Result<(), Wrong> {
@@ -133,12 +136,19 @@ impl Comparison {
             (number, neighbours)
         };
         let found = answer(&Library);
-        for other in [answer(&Plain), answer(&Peer)] {
-            if found != other {
-                return Err(format!("route of {own} of {gateways}: {found:?}, other {other:?}"));
+        for (name, other) in OTHERS {
+            let other_found = answer(other);
+            if found != other_found {
+                let differs = format!("{found:?}, by {name} {other_found:?}");
+                return Err(format!("route of {own} of {gateways}: {differs}"));
             }
         }
-        self.tally.count(Called::Route, found.0);
+        let (number, neighbours) = found;
+        let written = if number == 0 { 4 } else { 0 };
+        if neighbours[written..].iter().any(|&neighbour| neighbour != FILL.into()) {
+            return Err(format!("route of {own} of {gateways} wrote more than {written} numbers"));
+        }
+        self.tally.count(Called::Route, number);
         Ok(())
     }
 
@@ -155,7 +165,8 @@ impl Comparison {
     }
 }
 
-/// What a call that was refused with 5 lacked: output bytes where an ample output helps it on.
+/// What a call that was answered with 5 lacked, to be counted: output bytes where an ample output helps it on, else queue
+/// places where a frame was brought to a full queue, else outstanding places.
 fn lacking(call: Call, before: &[u8]) -> Lacking {
     let enough = left(&Plain, call, before, AMPLE);
     if enough.answer.number != 5 {
@@ -167,6 +178,14 @@ fn lacking(call: Call, before: &[u8]) -> Lacking {
     } else {
         Lacking::OutstandingPlaces
     }
+}
+
+/// An error where a call's number is not the expected one.
+pub fn check_number(number: u32, expected: u32) -> Result<(), Wrong> {
+    if number == expected {
+        return Ok(());
+    }
+    Err(format!("answered with {number} in place of {expected}"))
 }
 
 fn left(calls: &impl Calls, call: Call, memory: &[u8], room: usize) -> Left {
@@ -197,12 +216,15 @@ fn pass_over_unused_note(before: &[u8], by_library: &Left, by_peer: &mut Left) {
     }
 }
 
-/// A refusal writes nothing, and bytes past the written ones stay.
+/// A refusal writes nothing, nor does work without an event, and bytes past the written ones stay.
 fn check_promises(call: Call, before: &[u8], left: &Left) -> Result<(), Wrong> {
-    let Answer { number, written, .. } = left.answer;
-    let refused = number != 0 && !matches!(call, Call::Work { .. });
-    if refused && (written != 0 || left.memory != before) {
-        return Err(format!("{call:?} refused with {number} changed something"));
+    let Answer { number, written, events } = left.answer;
+    let nothing_done = match call {
+        Call::Work { .. } => events == 0,
+        _ => number != 0,
+    };
+    if nothing_done && (written != 0 || left.memory != before) {
+        return Err(format!("{call:?} answered {number}, did nothing and changed something"));
     }
     if left.output[written..].iter().any(|&byte| byte != FILL) {
         return Err(format!("{call:?} wrote past its {written} bytes"));
