@@ -235,3 +235,36 @@ fn check_promises(call: Call, before: &[u8], left: &Left) -> Result<(), Wrong> {
 fn first_difference(one: &[u8], other: &[u8]) -> Option<usize> {
     one.iter().zip(other).position(|(a, b)| a != b)
 }
+
+#[cfg(test)]
+mod tests {
+    use super::*;
+
+    /// What a call left of a gateway in some phase and with some note.
+    fn left_of(phase: u8, note: u8) -> Left {
+        let mut memory = vec![0; 352];
+        memory[3] = phase;
+        memory[memory::NOTE].fill(note);
+        Left { answer: Answer::default(), memory, output: Vec::new() }
+    }
+
+    /// The bytes of the memory in which the second implementation may differ, after the same phase and note.
+    fn passed_over(phase: u8, note: u8) -> Vec<usize> {
+        let by_library = left_of(phase, note);
+        let may_differ = |at: &usize| {
+            let mut by_peer = left_of(phase, note);
+            by_peer.memory[*at] ^= 1;
+            pass_over_unused_note(&by_library.memory, &by_library, &mut by_peer);
+            equal(Call::Start, "peer", &by_library, &by_peer).is_ok()
+        };
+        (0..by_library.memory.len()).filter(may_differ).collect()
+    }
+
+    #[test]
+    fn only_an_unused_note_is_passed_over() {
+        assert_eq!(passed_over(0, 7), [24, 25, 26, 27]);
+        assert_eq!(passed_over(0, 0), []);
+        assert_eq!(passed_over(1, 7), []);
+        assert_eq!(passed_over(2, 7), []);
+    }
+}
