@@ -3,7 +3,7 @@
 use crate::peer_calls::{Peer, UNSOUND};
 use crate::tally::{Called, Lacking, Tally};
 use crate::Wrong;
-use interface::{ample_output, Answer, Calls, Opening, MOST_PLACES};
+use interface::{ample_output, AgreedTime, Answer, Calls, Opening, MOST_PLACES};
 use library::Library;
 use peer::memory;
 use plain::Plain;
@@ -13,6 +13,10 @@ const FILL: u8 = 0xa5;
 
 /// An output length that is enough for every call.
 pub const AMPLE: usize = ample_output(MOST_PLACES);
+
+/// What the library is compared with.
+const OTHERS: [(&str, &dyn Calls); 2] =
+    [("plain Rust", &Plain), ("the second implementation", &Peer)];
 
 /// Makes calls and counts them.
 #[derive(Default)]
@@ -93,9 +97,7 @@ impl Comparison {
     ) -> Result<u32, Wrong> {
         let before = memory.to_vec();
         let number = Library.set_up(memory, list, opening);
-        let others: [(&str, &dyn Calls); 2] =
-            [("plain Rust", &Plain), ("the second implementation", &Peer)];
-        for (name, other) in others {
+        for (name, other) in OTHERS {
             let mut copy = before.clone();
             let other_number = other.set_up(&mut copy, list, opening);
             if number != other_number {
@@ -115,15 +117,16 @@ impl Comparison {
         Ok(number)
     }
 
-    pub fn agreed_time(&mut self, memory: &[u8]) -> Result<u32, Wrong> {
+    pub fn agreed_time(&mut self, memory: &[u8]) -> Result<AgreedTime, Wrong> {
         let time = Library.agreed_time(memory);
-        for other in [Plain.agreed_time(memory), Peer.agreed_time(memory)] {
-            if time != other {
-                return Err(format!("agreed time: {time:?}, by another {other:?}"));
+        for (name, other) in OTHERS {
+            let other_time = other.agreed_time(memory);
+            if time != other_time {
+                return Err(format!("agreed time: {time:?}, by {name} {other_time:?}"));
             }
         }
         self.tally.count(Called::AgreedTime, time.number);
-        Ok(time.hour)
+        Ok(time)
     }
 
     pub fn route(&mut self, gateways: u32, own: u32, count: usize) -> Result<(), Wrong> {
@@ -133,12 +136,19 @@ impl Comparison {
             (number, neighbours)
         };
         let found = answer(&Library);
-        for other in [answer(&Plain), answer(&Peer)] {
-            if found != other {
-                return Err(format!("route of {own} of {gateways}: {found:?}, other {other:?}"));
+        for (name, other) in OTHERS {
+            let other_found = answer(other);
+            if found != other_found {
+                let differs = format!("{found:?}, by {name} {other_found:?}");
+                return Err(format!("route of {own} of {gateways}: {differs}"));
             }
         }
-        self.tally.count(Called::Route, found.0);
+        let (number, neighbours) = found;
+        let written = if number == 0 { 4 } else { 0 };
+        if neighbours[written..].iter().any(|&neighbour| neighbour != FILL.into()) {
+            return Err(format!("route of {own} of {gateways} wrote more than {written} numbers"));
+        }
+        self.tally.count(Called::Route, number);
         Ok(())
     }
 
@@ -155,7 +165,8 @@ impl Comparison {
     }
 }
 
-/// What a call that was refused with 5 lacked: output bytes where an ample output helps it on.
+/// What a call that was answered with 5 lacked, to be counted: output bytes where an ample output helps it on, else queue
+/// places where a frame was brought to a full queue, else outstanding places.
 fn lacking(call: Call, before: &[u8]) -> Lacking {
     let enough = left(&Plain, call, before, AMPLE);
     if enough.answer.number != 5 {
@@ -167,6 +178,14 @@ fn lacking(call: Call, before: &[u8]) -> Lacking {
     } else {
         Lacking::OutstandingPlaces
     }
+}
+
+/// An error where a call's number is not the expected one.
+pub fn check_number(number: u32, expected: u32) -> Result<(), Wrong> {
+    if number == expected {
+        return Ok(());
+    }
+    Err(format!("answered with {number} in place of {expected}"))
 }
 
 fn left(calls: &impl Calls, call: Call, memory: &[u8], room: usize) -> Left {
@@ -197,12 +216,15 @@ fn pass_over_unused_note(before: &[u8], by_library: &Left, by_peer: &mut Left) {
     }
 }
 
-/// A refusal writes nothing, and bytes past the written ones stay.
+/// A refusal writes nothing, nor does work without an event, and bytes past the written ones stay.
 fn check_promises(call: Call, before: &[u8], left: &Left) -> Result<(), Wrong> {
-    let Answer { number, written, .. } = left.answer;
-    let refused = number != 0 && !matches!(call, Call::Work { .. });
-    if refused && (written != 0 || left.memory != before) {
-        return Err(format!("{call:?} refused with {number} changed something"));
+    let Answer { number, written, events } = left.answer;
+    let nothing_done = match call {
+        Call::Work { .. } => events == 0,
+        _ => number != 0,
+    };
+    if nothing_done && (written != 0 || left.memory != before) {
+        return Err(format!("{call:?} answered {number}, did nothing and changed something"));
     }
     if left.output[written..].iter().any(|&byte| byte != FILL) {
         return Err(format!("{call:?} wrote past its {written} bytes"));
@@ -212,4 +234,37 @@ fn check_promises(call: Call, before: &[u8], left: &Left) -> Result<(), Wrong> {
 
 fn first_difference(one: &[u8], other: &[u8]) -> Option<usize> {
     one.iter().zip(other).position(|(a, b)| a != b)
+}
+
+#[cfg(test)]
+mod tests {
+    use super::*;
+
+    /// What a call left of a gateway in some phase and with some note.
+    fn left_of(phase: u8, note: u8) -> Left {
+        let mut memory = vec![0; 352];
+        memory[3] = phase;
+        memory[memory::NOTE].fill(note);
+        Left { answer: Answer::default(), memory, output: Vec::new() }
+    }
+
+    /// The bytes of the memory in which the second implementation may differ, after the same phase and note.
+    fn passed_over(phase: u8, note: u8) -> Vec<usize> {
+        let by_library = left_of(phase, note);
+        let may_differ = |at: &usize| {
+            let mut by_peer = left_of(phase, note);
+            by_peer.memory[*at] ^= 1;
+            pass_over_unused_note(&by_library.memory, &by_library, &mut by_peer);
+            equal(Call::Start, "peer", &by_library, &by_peer).is_ok()
+        };
+        (0..by_library.memory.len()).filter(may_differ).collect()
+    }
+
+    #[test]
+    fn only_an_unused_note_is_passed_over() {
+        assert_eq!(passed_over(0, 7), [24, 25, 26, 27]);
+        assert_eq!(passed_over(0, 0), []);
+        assert_eq!(passed_over(1, 7), []);
+        assert_eq!(passed_over(2, 7), []);
+    }
 }

@@ -1,7 +1,7 @@
 //! Two messages that differ in a field or two, done one after the other: the event order over the whole width of its
 //! fields, and the lamp model in states and at hours near which something stops.
 
-use crate::compare::{Call, Comparison, AMPLE};
+use crate::compare::{check_number, Call, Comparison, AMPLE};
 use crate::draw;
 use crate::Wrong;
 use interface::{memory_length, Opening};
@@ -47,23 +47,15 @@ pub fn two_events(generator: &mut Generator, comparison: &mut Comparison) -> Res
     let mut memory = vec![0; memory_length(opening.queue_places, opening.outstanding_places)];
     let (listed, taken): (Vec<_>, Vec<_>) = messages.into_iter().partition(may_open);
     let list: Vec<u8> = listed.into_iter().flat_map(bytes).collect();
-    accepted(comparison.set_up(&mut memory, &list, &opening)?)?;
+    check_number(comparison.set_up(&mut memory, &list, &opening)?, 0)?;
     for message in taken {
         let frame = bytes(message);
         let (answer, _) = comparison.call(Call::Take { frame: &frame }, &mut memory, AMPLE)?;
-        accepted(answer.number)?;
+        check_number(answer.number, 0)?;
     }
     write_state(generator, &mut memory);
     let (answer, _) = comparison.call(Call::Work { budget: 2 }, &mut memory, AMPLE)?;
-    accepted(answer.number)
-}
-
-/// Nothing here is to be refused.
-fn accepted(number: u32) -> Result<(), Wrong> {
-    if number == 0 {
-        return Ok(());
-    }
-    Err(format!("one of two events was refused with {number}"))
+    check_number(answer.number, 0)
 }
 
 /// A message to gateway `own` whose fields are all drawn; they need not agree.

@@ -1,12 +1,13 @@
 //! The runs: forecasts with random carriers, single gateways that are told anything, set-ups and routing.
 
-use crate::compare::{Call, Comparison, AMPLE};
+use crate::compare::{check_number, Call, Comparison, AMPLE};
 use crate::draw::{self, Site};
+use crate::tally::Situation;
 use crate::world::{opening, World};
 use crate::{events, hostile, Wrong};
 use interface::{memory_length, Opening, MOST_PLACES};
 use peer::forecast;
-use peer::frame::Frame;
+use peer::frame::{self, Frame, Sense};
 use peer::generator::Generator;
 use peer::model::NOTHING_DUE;
 
@@ -56,20 +57,19 @@ pub fn forecast_run(
     calls: usize,
 ) -> Result<(), Wrong> {
     let setups = forecast::draw(generator);
-    let Some(mut world) = World::new(&setups, comparison)? else {
-        return Err("a drawn set-up was refused".into());
-    };
+    let mut world = World::new(&setups, comparison)?;
     let habits = Habits::draw(generator);
     for _ in 0..calls {
         random_call(&mut world, &habits, generator, comparison)?;
-        comparison
-            .tally
-            .count_other("calls with a cancel waiting", u64::from(world.waiting_cancels() > 0));
+        if world.waiting_cancels() > 0 {
+            comparison.tally.count_situation(Situation::CallsWithCancelWaiting);
+        }
         let own = generator.below(world.gateways());
         probe(&world.memories[usize::from(own)], generator, comparison)?;
     }
     let whole = finish(&mut world, comparison)?;
-    comparison.tally.count_other(if whole { "forecasts whole" } else { "forecasts stuck" }, 1);
+    let situation = if whole { Situation::ForecastsWhole } else { Situation::ForecastsStuck };
+    comparison.tally.count_situation(situation);
     Ok(())
 }
 
@@ -234,13 +234,13 @@ pub fn single_gateway(
     };
     let mut memory =
         vec![generator.byte(); memory_length(opening.queue_places, opening.outstanding_places)];
-    comparison.set_up(&mut memory, &[], &opening)?;
+    check_number(comparison.set_up(&mut memory, &[], &opening)?, 0)?;
     let site = Site::of(&memory);
     let rooms = generator.pick(&ROOMS);
-    let mut sent: Vec<Vec<u8>> = Vec::new();
+    let mut expected: Vec<Vec<u8>> = Vec::new();
     for _ in 0..calls {
         let room = generator.pick(rooms);
-        let frame = told(generator, &site, &sent);
+        let frame = told(generator, &site, &expected);
         let call = match generator.below(16) {
             0..=2 => Call::Work { budget: generator.below(6).into() },
             3 => Call::Start,
@@ -248,8 +248,11 @@ pub fn single_gateway(
             _ => Call::Take { frame: &frame },
         };
         let (_, output) = comparison.call(call, &mut memory, room)?;
-        remember(&mut sent, &output);
-        comparison.agreed_time(&memory)?;
+        expected.extend(acknowledgments(&output));
+        if expected.len() > 40 {
+            expected.drain(..20);
+        }
+        check_number(comparison.agreed_time(&memory)?.number, 0)?;
         if generator.below(4) == 0 {
             probe(&memory, generator, comparison)?;
         }
@@ -257,30 +260,12 @@ pub fn single_gateway(
     Ok(())
 }
 
-/// A drawn frame, or the acknowledgment of something that the gateway sent.
-fn told(generator: &mut Generator, site: &Site, sent: &[Vec<u8>]) -> Vec<u8> {
-    if sent.is_empty() || generator.below(3) != 0 {
+/// A drawn frame, or one of the acknowledgments.
+fn told(generator: &mut Generator, site: &Site, acknowledgments: &[Vec<u8>]) -> Vec<u8> {
+    if acknowledgments.is_empty() || generator.below(3) != 0 {
         return draw::frame(generator, site);
     }
-    let mut frame = sent[usize::from(generator.half()) % sent.len()].clone();
-    let sense = if frame[0] & 128 == 0 { 2 } else { 3 };
-    frame.resize(27, 0);
-    frame[0] |= 128;
-    frame.push(sense);
-    frame
-}
-
-/// Keeps some of the messages and cancels that a gateway sent.
-fn remember(sent: &mut Vec<Vec<u8>>, output: &[u8]) {
-    for frame in peer::frame::list(output).into_iter().flatten() {
-        let bytes = peer::frame::write(&frame);
-        if matches!(bytes.last(), Some(1)) && bytes.len() == 28 || bytes.len() == 27 {
-            sent.push(bytes);
-        }
-    }
-    if sent.len() > 40 {
-        sent.drain(..20);
-    }
+    acknowledgments[usize::from(generator.half()) % acknowledgments.len()].clone()
 }
 
 /// Set-ups with settings in and out of their ranges, and opening lists whole, damaged, cut and too long.
@@ -337,7 +322,7 @@ fn change_setting(generator: &mut Generator, opening: &mut Opening) {
     *settings.into_iter().nth(chosen).expect("one of seven") = odd;
 }
 
-/// A gateway with all 512 places in use: long work, long undoing, and what no longer fits.
+/// A gateway with all 512 queue places in use: long work, long undoing, and what no longer fits.
 pub fn most_places(comparison: &mut Comparison) -> Result<(), Wrong> {
     for (stock, outstanding_places) in [(0, MOST_PLACES), (65_535, MOST_PLACES), (100, 300)] {
         let opening = Opening {
@@ -350,30 +335,59 @@ pub fn most_places(comparison: &mut Comparison) -> Result<(), Wrong> {
             outstanding_places,
         };
         let mut memory = vec![0; memory_length(MOST_PLACES, outstanding_places)];
-        comparison.set_up(&mut memory, &[], &opening)?;
-        for number in 0..511u32 {
-            comparison.call(
-                Call::Take { frame: &request(1000 - number % 100, number) },
-                &mut memory,
-                AMPLE,
-            )?;
+        check_number(comparison.set_up(&mut memory, &[], &opening)?, 0)?;
+        for number in 1..MOST_PLACES {
+            let frame = request(1000 - number % 100, number);
+            let (answer, _) = comparison.call(Call::Take { frame: &frame }, &mut memory, AMPLE)?;
+            check_number(answer.number, 0)?;
         }
-        let (_, output) = comparison.call(Call::Work { budget: 600 }, &mut memory, AMPLE)?;
         let first = request(1, 7);
-        comparison.call(Call::Take { frame: &first }, &mut memory.clone(), 28 * 512 - 1)?;
-        comparison.call(Call::Take { frame: &first }, &mut memory, AMPLE)?;
-        for frame in output.chunks(27) {
-            let acknowledgment = [&[191], &frame[1..], &[2]].concat();
-            comparison.call(Call::Take { frame: &acknowledgment }, &mut memory, 0)?;
-        }
-        comparison.call(Call::Take { frame: &first }, &mut memory.clone(), 28 * 512 - 1)?;
-        comparison.call(Call::Take { frame: &first }, &mut memory, AMPLE)?;
-        comparison.call(Call::Take { frame: &first }, &mut memory, AMPLE)?;
+        undo_all(&first, &mut memory, comparison)?;
+        check_number(comparison.would_answer(Call::Take { frame: &first }, &memory)?, 5)?;
         let cancel = [&[191], &first[1..], &[1]].concat();
-        comparison.call(Call::Work { budget: 600 }, &mut memory, AMPLE)?;
-        comparison.call(Call::Take { frame: &cancel }, &mut memory, AMPLE)?;
+        undo_all(&cancel, &mut memory, comparison)?;
     }
     Ok(())
+}
+
+/// Works off as much as there are places for. Then a frame comes that undoes all of it: it finds too few outstanding
+/// places; with all acknowledged, an output one byte too short; and then what it needs.
+fn undo_all(frame: &[u8], memory: &mut [u8], comparison: &mut Comparison) -> Result<(), Wrong> {
+    let take = Call::Take { frame };
+    let (_, sent) = comparison.call(Call::Work { budget: 600 }, memory, AMPLE)?;
+    check_number(comparison.would_answer(take, memory)?, 5)?;
+    acknowledge(&sent, memory, comparison)?;
+    let needed = 28 + sent.len() / 27 * 28;
+    let (answer, _) = comparison.call(take, memory, needed - 1)?;
+    check_number(answer.number, 5)?;
+    let (answer, output) = comparison.call(take, memory, needed)?;
+    check_number(answer.number, 0)?;
+    acknowledge(&output, memory, comparison)
+}
+
+/// Brings the acknowledgment of every message and cancel in an output.
+fn acknowledge(output: &[u8], memory: &mut [u8], comparison: &mut Comparison) -> Result<(), Wrong> {
+    for frame in acknowledgments(output) {
+        let (answer, _) = comparison.call(Call::Take { frame: &frame }, memory, 0)?;
+        check_number(answer.number, 0)?;
+    }
+    Ok(())
+}
+
+/// The acknowledgments of the messages and cancels in an output.
+fn acknowledgments(output: &[u8]) -> Vec<Vec<u8>> {
+    let acknowledgment = |frame| {
+        let Frame::Event { sense, message } = frame else {
+            return None;
+        };
+        let sense = match sense {
+            Sense::Plain => Sense::Acknowledgment,
+            Sense::Cancel => Sense::AcknowledgmentOfCancel,
+            Sense::Acknowledgment | Sense::AcknowledgmentOfCancel => return None,
+        };
+        Some(frame::write(&Frame::Event { sense, message }))
+    };
+    frame::list(output).into_iter().flatten().filter_map(acknowledgment).collect()
 }
 
 /// A Request from gateway 0 to gateway 1.

@@ -58,12 +58,26 @@ pub enum Lacking {
 const LACKING: [Lacking; 3] =
     [Lacking::QueuePlaces, Lacking::OutstandingPlaces, Lacking::OutputBytes];
 
+/// What else is counted, of the runs of forecasts.
+#[derive(Clone, Copy, Debug, PartialEq, Eq, PartialOrd, Ord)]
+pub enum Situation {
+    /// Calls after which some cancel waits.
+    CallsWithCancelWaiting,
+    /// Forecasts whose records became whole.
+    ForecastsWhole,
+    /// Forecasts that too few places stopped.
+    ForecastsStuck,
+}
+
+const SITUATIONS: [Situation; 3] =
+    [Situation::CallsWithCancelWaiting, Situation::ForecastsWhole, Situation::ForecastsStuck];
+
 #[derive(Clone, Debug, Default)]
 pub struct Tally {
     answers: BTreeMap<(Called, u32), u64>,
     unsound: BTreeMap<Unsound, u64>,
     lacking: BTreeMap<Lacking, u64>,
-    others: BTreeMap<&'static str, u64>,
+    situations: BTreeMap<Situation, u64>,
 }
 
 impl Called {
@@ -102,9 +116,8 @@ impl Tally {
         *self.lacking.entry(lacking).or_default() += 1;
     }
 
-    /// Counts something else that is worth knowing.
-    pub fn count_other(&mut self, what: &'static str, times: u64) {
-        *self.others.entry(what).or_default() += times;
+    pub fn count_situation(&mut self, situation: Situation) {
+        *self.situations.entry(situation).or_default() += 1;
     }
 
     pub fn calls(&self) -> u64 {
@@ -116,7 +129,7 @@ impl Tally {
         self.answers.get(&(called, number)).copied().unwrap_or(0)
     }
 
-    /// Answers and reasons that can be and were never met.
+    /// Answers, reasons and situations that can be and were never met.
     pub fn gaps(&self) -> Vec<String> {
         let mut gaps = Vec::new();
         for (called, numbers) in ANSWERS {
@@ -129,6 +142,9 @@ impl Tally {
         }
         for lacking in LACKING.iter().filter(|lacking| !self.lacking.contains_key(lacking)) {
             gaps.push(format!("5 was never answered for too few {lacking:?}"));
+        }
+        for situation in SITUATIONS.iter().filter(|met| !self.situations.contains_key(met)) {
+            gaps.push(format!("there were no {situation:?}"));
         }
         gaps
     }
@@ -165,8 +181,8 @@ impl fmt::Display for Tally {
         for (lacking, times) in &self.lacking {
             writeln!(formatter, "5 for too few {lacking:?}: {times}")?;
         }
-        for (what, times) in &self.others {
-            writeln!(formatter, "{what}: {times}")?;
+        for (situation, times) in &self.situations {
+            writeln!(formatter, "{situation:?}: {times}")?;
         }
         writeln!(formatter, "{} calls", self.calls())
     }

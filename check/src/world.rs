@@ -1,9 +1,9 @@
 //! A run of demand 3 over lent memories: what is under way, the records, and the claim after each call.
 
-use crate::compare::{Call, Comparison};
+use crate::compare::{check_number, Call, Comparison};
 use crate::ledger::Ledger;
 use crate::Wrong;
-use interface::{Answer, Opening};
+use interface::{AgreedTime, Answer, Opening};
 use peer::frame::{self, Frame, Sense};
 use peer::gateway::Setup;
 use peer::model::{Hour, NOTHING_DUE};
@@ -23,27 +23,25 @@ pub struct World {
 }
 
 impl World {
-    /// The memories of a forecast just set up; `None` if a set-up is refused.
-    pub fn new(setups: &[Setup], comparison: &mut Comparison) -> Result<Option<World>, Wrong> {
+    /// The memories of a forecast just set up; its set-ups are not to be refused.
+    pub fn new(setups: &[Setup], comparison: &mut Comparison) -> Result<World, Wrong> {
         let mut memories = Vec::new();
         let mut ledgers = Vec::new();
         for setup in setups {
             let mut memory = vec![0x5a; setup.memory];
-            if comparison.set_up(&mut memory, &setup.opening, &opening(setup))? != 0 {
-                return Ok(None);
-            }
+            check_number(comparison.set_up(&mut memory, &setup.opening, &opening(setup))?, 0)?;
             memories.push(memory);
             ledgers.push(opening_ledger(setup));
         }
         let bytes = |record: &Vec<_>| record.iter().flat_map(record::bytes).collect();
-        Ok(Some(World {
+        Ok(World {
             under_way: UnderWay::new(memories.len()),
             records: vec![Vec::new(); memories.len()],
             whole: queue::records(setups).iter().map(bytes).collect(),
             agreed: vec![0; memories.len()],
             memories,
             ledgers,
-        }))
+        })
     }
 
     pub fn gateways(&self) -> u8 {
@@ -144,14 +142,10 @@ impl World {
     ) -> Result<bool, Wrong> {
         let at = usize::from(own);
         let (answer, output) = comparison.call(Call::Commit, &mut self.memories[at], room)?;
-        if answer.number == 0 {
-            if self.ledgers[at].commit().is_none() {
-                return Err(format!("{own} commits what was not done"));
-            }
-            self.records[at].extend(&output);
-            if !self.whole[at].starts_with(&self.records[at]) {
-                return Err(format!("the record of {own} is no beginning of the single queue's"));
-            }
+        match answer.number {
+            0 => self.record(own, &output)?,
+            5 | 6 => {}
+            number => return Err(format!("commit of {own} answered {number}")),
         }
         self.check(comparison)?;
         Ok(answer.number == 0)
@@ -190,6 +184,19 @@ impl World {
         Ok(answers.contains(&5) && answers.iter().all(|number| matches!(number, 5 | 6)))
     }
 
+    /// A commit of gateway `own` wrote these bytes.
+    fn record(&mut self, own: u8, output: &[u8]) -> Result<(), Wrong> {
+        let at = usize::from(own);
+        if self.ledgers[at].commit().is_none() {
+            return Err(format!("{own} commits what was not done"));
+        }
+        self.records[at].extend(output);
+        if !self.whole[at].starts_with(&self.records[at]) {
+            return Err(format!("the record of {own} is no beginning of the single queue's"));
+        }
+        Ok(())
+    }
+
     fn accept(&mut self, own: u8, brought: Carried, output: &[u8]) -> Result<(), Wrong> {
         let ledger = &mut self.ledgers[usize::from(own)];
         match brought.frame {
@@ -200,14 +207,15 @@ impl World {
         self.under_way.accept(own, brought, frames(own, output)?)
     }
 
-    /// No agreed time has fallen, and none is past an hour that waits or is under way.
+    /// Every memory is sound, no agreed time has fallen, and none is past an hour that waits or is under way.
     fn check(&mut self, comparison: &mut Comparison) -> Result<(), Wrong> {
         let under_way = self.under_way.least();
         let waiting = least(self.ledgers.iter().map(Ledger::least));
         for (own, memory) in self.memories.iter().enumerate() {
-            let agreed = comparison.agreed_time(memory)?;
-            check_agreed(own, self.agreed[own], agreed, waiting, under_way)?;
-            self.agreed[own] = agreed;
+            let AgreedTime { number, hour } = comparison.agreed_time(memory)?;
+            check_number(number, 0).map_err(|wrong| format!("agreed time of {own}: {wrong}"))?;
+            check_agreed(own, self.agreed[own], hour, waiting, under_way)?;
+            self.agreed[own] = hour;
         }
         Ok(())
     }

@@ -107,7 +107,14 @@ mod tests {
         let mut setup = forecast::setup(1, 0, 0, 0, 5, &opening);
         (setup.queue_places, setup.outstanding_places) = (2, 1);
         let mut run = Run::new(&[setup]).unwrap();
+        assert!(!run.is_blocked(), "it can work");
         assert_eq!(carrier::finish(&mut run), Ok(End::Stuck));
-        assert!(!run.agrees());
+        assert!(run.is_blocked() && !run.agrees());
+    }
+
+    #[test]
+    fn a_run_with_nothing_to_do_is_not_blocked() {
+        let run = Run::new(&[forecast::setup(1, 0, 0, 0, 5, &[])]).unwrap();
+        assert!(!run.is_blocked());
     }
 }
