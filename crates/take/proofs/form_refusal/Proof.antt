@@ -14,7 +14,7 @@ form-number-requires : tie.Need-form-number-requires
 form-number-requires c κs = search needs
 
 returns : tie.Need-returns
-returns c = c .form-number .ensures ∙ rw (c .before .form-where .ensures, c .before .before .before .kind-number .ensures)
+returns c = c .form-number .ensures ∙ rw (c .before .form-where .ensures, c .before .before .kind-number .ensures)
 
 pub form-refusal-spec : {M : Type 1} → statement M
 form-refusal-spec =
