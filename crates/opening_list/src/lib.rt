@@ -21,7 +21,7 @@ ghost use Rattle.lists.specs.Lists.{joined};
 ghost use Rattle.buffer.specs.Slice.{write};
 ghost use Rattle.memory.specs.Codec.{entryBytes};
 ghost use Rattle.gateway.specs.SettingUp.{mayOpen, openingRefusal, queued};
-ghost use Rattle.opening_list.specs.inside.Frames.{frameEnd, framesFrom, Checks, memoryEntered};
+ghost use Rattle.opening_list.specs.inside.Frames.{frameEnd, framesFrom, checkedAs, memoryEntered};
 
 // What the pass over the opening list finds: the first refusal, or 0, and how many frames stand before it or in all.
 pub struct Checked {
@@ -74,9 +74,9 @@ fn opening_refusal(bytes: &[u8], settings: Settings) -> u8
     check(frame, settings.n as u16, settings.own, settings.last)
 }
 
-// One pass: the first refusal, and the number of frames.
+// One pass: the first refusal, and the number of frames before it or in all.
 pub fn check_list(list: &[u8], settings: Settings) -> Checked
-    ensures { λ r. ⌜ Checks settings (framesFrom (now (list .entry)) 0) r ⌝ }
+    ensures { λ r. ⌜ r ≡ checkedAs settings (framesFrom (now (list .entry)) 0) ⌝ }
 {
     let mut count = 0;
     let mut at = 0;
