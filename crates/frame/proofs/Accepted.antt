@@ -119,7 +119,7 @@ kind-byte s p = by (table (getD s 0 0) (getD s 1 0) (p .map))
     by (start e h) = from 7 e refl
     by (hourly e h k) = from 15 e refl
 
-good-form : (form : Form) → isGood form ≡ true → form ≡ Good
+pub good-form : (form : Form) → isGood form ≡ true → form ≡ Good
 good-form Good e = refl
 good-form TooShort e = absurd (false≢true e)
 good-form WrongMap e = absurd (false≢true e)
