@@ -13,7 +13,7 @@ use Rattle.routing.specs.declared.Gateways.{Gateways}
 use Rattle.routing.specs.declared.Neighbours.{Neighbours}
 use Rattle.routing.specs.Arcs.{children}
 use Rattle.gateway.specs.Rounds.{bitOf, allBits}
-use Rattle.announce.specs.inside.Receivers.{listed}
+use Rattle.announce.specs.inside.Receivers.{few, listed, Holds}
 use Rattle.announce.specs.declared.receivers.Few.{Few}
 use Rattle.routing.proofs.FewArcs.{AtMostTwo}
 
@@ -36,16 +36,16 @@ few-listed (x ∷ []) r h a b d = rw (a, b)
 few-listed (x ∷ y ∷ []) r h a b d = rw (a, b, d)
 few-listed (x ∷ y ∷ z ∷ l) r h a b d = absurd (omega arith)
 
+pub few-holds : (l : List ℕ) {r : Few} → length l ≤ 2 → r .count ≡ length l → r .first ≡ getD l 0 0 → r .second ≡ getD l 1 0 → Holds l r
+few-holds l {r} h a b d = record { value = λ i. record { count = a i; first = b i; second = d i }; all = few-listed l r h a b d; two = omega arith }
+
 -- what routing gives fits the value, and the value holds it
 module _ {N : ℕ} {l : List ℕ} {g : Gateways} (small : N < 256) (few : AtMostTwo N l) (e : g ≡ gateways l) where
   pub narrow : (g .count ≤ 2) × (getD (g .number) 0 0 < 256) × (getD (g .number) 1 0 < 256)
   narrow = rw e (omega arith, omega arith, omega arith)
 
-  pub narrow-listed : {r : Few} → (r .count ≡ g .count) × (r .first ≡ getD (g .number) 0 0) × (r .second ≡ getD (g .number) 1 0) → (listed r
-      ≡ l) × (r .count ≤ 2)
-  narrow-listed {r} (a, b, d) =
-      let count : r .count ≡ length l = a ∙ rw e in
-      (few-listed l r (few .two) count (b ∙ rw e) (d ∙ rw e), omega arith)
+  pub narrow-listed : {r : Few} → (r .count ≡ g .count) × (r .first ≡ getD (g .number) 0 0) × (r .second ≡ getD (g .number) 1 0) → Holds l r
+  narrow-listed (a, b, d) = few-holds l (few .two) (a ∙ rw e) (b ∙ rw e) (d ∙ rw e)
 
 -- one of two branches for each number of gateways
 module _ (k : ℕ) (r : Few) where
@@ -89,21 +89,17 @@ module _ (r : Few) where
 
 -- whom an Update goes on to
 module _ (n own : ℕ) (r : Few) where
-  pub no-child : r .count ≡ 0 → n ≤ 2 * own + 1 → listed r ≡ children n own
-  unfolding listed children
-  no-child e h = rw (e, le-ltb (2 * own + 1) n h, le-ltb (2 * own + 2) n (omega arith))
+  pub no-child : Holds [] r → n ≤ 2 * own + 1 → Holds (children n own) r
+  unfolding children
+  no-child none h = rw (le-ltb (2 * own + 1) n h, le-ltb (2 * own + 2) n (omega arith)) none
 
-  pub one-child : r .count ≡ 1 → r .first ≡ 2 * own + 1 → 2 * own + 1 < n → n ≤ 2 * own + 1 + 1 → listed r ≡ children n own
-  unfolding listed children
-  one-child e f h k = rw (e, f, lt-ltb (2 * own + 1) n h, le-ltb (2 * own + 2) n (omega arith))
+  pub one-child : r .count ≡ 1 → r .first ≡ 2 * own + 1 → r .second ≡ 0 → 2 * own + 1 < n → n ≤ 2 * own + 1 + 1 → Holds (children n own) r
+  unfolding children
+  one-child e f g h k =
+      rw (lt-ltb (2 * own + 1) n h, le-ltb (2 * own + 2) n (omega arith)) (few-holds ((2 * own + 1) ∷ []) (omega arith) e f g)
 
-  pub two-children : r .count ≡ 2 → r .first ≡ 2 * own + 1 → r .second ≡ 2 * own + 1 + 1 → 2 * own + 1 + 1 < n → listed r ≡ children n own
-  unfolding listed children
+  pub two-children : r .count ≡ 2 → r .first ≡ 2 * own + 1 → r .second ≡ 2 * own + 1 + 1 → 2 * own + 1 + 1 < n → Holds (children n own) r
+  unfolding children
   two-children e f g h =
-      let s : 2 * own + 1 + 1 ≡ 2 * own + 2 = omega arith in
-      rw (e, f, g, lt-ltb (2 * own + 1) n (omega arith), lt-ltb (2 * own + 2) n (omega arith), s)
-
--- nobody is told
-pub none-listed : {r : Few} → (r .count ≡ 0) × (r .first ≡ 0) × (r .second ≡ 0) → listed r ≡ []
-unfolding listed
-none-listed (a, b, d) = rw a
+      rw (lt-ltb (2 * own + 1) n (omega arith), lt-ltb (2 * own + 2) n (omega arith))
+      (few-holds ((2 * own + 1) ∷ (2 * own + 2) ∷ []) (omega arith) e f (g ∙ omega arith))

@@ -2,13 +2,14 @@
 use neighbours::neighbours_of;
 use routing::Gateways;
 ghost use mathlib.Core.Path.{_≡_};
+ghost use mathlib.Core.List.{[]};
 ghost use Prim.Native.Nat.{_≤_, _<_};
 ghost use lib.ListN.{getD};
 ghost use Rattle.routing.specs.Arcs.{from, to, children};
 ghost use Rattle.gateway.specs.Rounds.{bitOf, allBits};
-ghost use Rattle.announce.specs.inside.Receivers.{listed};
+ghost use Rattle.announce.specs.inside.Receivers.{Holds, listed};
 
-// At most two gateways.
+// At most two gateways: their count, and their numbers with zeros behind.
 pub struct Few {
     pub count: u8,
     pub first: u8,
@@ -18,7 +19,7 @@ pub struct Few {
 // The gateways that gateway own of n hears from.
 pub fn heard(n: u8, own: u8) -> Few
     requires { ⌜ own < n ⌝ }
-    ensures { λ r. ⌜ (listed r ≡ from n own) × (r .count ≤ 2) ⌝ }
+    ensures { λ r. ⌜ Holds (from n own) r ⌝ }
 {
     let around = neighbours_of(n as u32, own as u32);
     let from = around.from;
@@ -28,7 +29,7 @@ pub fn heard(n: u8, own: u8) -> Few
 // The gateways that it tells.
 pub fn told(n: u8, own: u8) -> Few
     requires { ⌜ own < n ⌝ }
-    ensures { λ r. ⌜ (listed r ≡ to n own) × (r .count ≤ 2) ⌝ }
+    ensures { λ r. ⌜ Holds (to n own) r ⌝ }
 {
     let around = neighbours_of(n as u32, own as u32);
     let to = around.to;
@@ -49,7 +50,7 @@ fn narrowed(among: Gateways) -> Few
 
 // Nobody.
 pub fn nobody() -> Few
-    ensures { λ r. ⌜ (r .count ≡ 0) × (r .first ≡ 0) × (r .second ≡ 0) ⌝ }
+    ensures { λ r. ⌜ Holds [] r ⌝ }
 {
     Few {
         count: 0,
@@ -60,7 +61,7 @@ pub fn nobody() -> Few
 
 // The gateways that an Update goes on to.
 pub fn children(n: u8, own: u8) -> Few
-    ensures { λ r. ⌜ (listed r ≡ children n own) × (r .count ≤ 2) ⌝ }
+    ensures { λ r. ⌜ Holds (children n own) r ⌝ }
 {
     let left = 2 * (own as u16) + 1;
     if (n as u16) <= left {

@@ -6,7 +6,7 @@ use model::State;
 use model::event::Reply;
 ghost use mathlib.Core.Path.{_≡_};
 ghost use mathlib.Core.List.{[]};
-ghost use Rattle.model.specs.Doing.{after, counted, shelved, notPast, reply, requestHours, sent, sentBy};
+ghost use Rattle.model.specs.Doing.{after, counted, shelved, notPast, reply, requestHours, replyWith, replyTo};
 
 // The hours from a message to the one that it sends.
 const REQUEST_HOURS: u32 = 1;
@@ -46,7 +46,7 @@ pub fn state_after(state: State, kind: Kind) -> State
 
 // What doing a message sends: every kind, in every state.
 pub fn reply_to(site: Site, state: State, message: Message) -> Reply
-    ensures { λ r. ⌜ sentBy r ≡ sent site state message ⌝ }
+    ensures { λ r. ⌜ r ≡ replyTo site state message ⌝ }
 {
     let kind = message.kind;
     match kind {
@@ -71,7 +71,7 @@ pub fn reply_to(site: Site, state: State, message: Message) -> Reply
 
 // The Request to the supplier for that origin.
 fn request_for(site: Site, cause: Message, origin: u8) -> Reply
-    ensures { λ r. ⌜ sentBy r ≡ notPast (site .last) (reply site cause requestHours (site .supplier) (Kind.Request origin)) ⌝ }
+    ensures { λ r. ⌜ r ≡ replyWith cause (notPast (site .last) (reply site cause requestHours (site .supplier) (Kind.Request origin))) ⌝ }
 {
     let request = Kind::Request { origin };
     sending(site, cause, REQUEST_HOURS, site.supplier, request)
@@ -99,9 +99,9 @@ fn count(counter: u32) -> u32
     }
 }
 
-// No message is sent.
+// No message is sent: the reply holds the cause.
 fn silent(message: Message) -> Reply
-    ensures { λ r. ⌜ sentBy r ≡ [] ⌝ }
+    ensures { λ r. ⌜ r ≡ replyWith message [] ⌝ }
 {
     Reply {
         sends: false,
@@ -111,7 +111,7 @@ fn silent(message: Message) -> Reply
 
 // A message is sent so many hours after its cause, unless that is past the last hour.
 fn sending(site: Site, cause: Message, hours: u32, to: u8, kind: Kind) -> Reply
-    ensures { λ r. ⌜ sentBy r ≡ notPast (site .last) (reply site cause hours to kind) ⌝ }
+    ensures { λ r. ⌜ r ≡ replyWith cause (notPast (site .last) (reply site cause hours to kind)) ⌝ }
 {
     let hour = (cause.hour as u64) + (hours as u64);
     if (site.last as u64) < hour {

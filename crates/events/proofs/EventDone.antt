@@ -13,7 +13,8 @@ use Rattle.lists.specs.inside.Positions.{firstWhere}
 use Rattle.lists.proofs.PositionLaws.{first-bound}
 use Rattle.buffer.specs.Slice.{part, write}
 use Rattle.buffer.proofs.Writes.{write-nil}
-use Rattle.model.specs.Doing.{after, sent, sentBy}
+use Rattle.model.specs.Doing.{after, replyTo, sentBy}
+use Rattle.model.proofs.Sending.{reply-sends}
 use Rattle.model.specs.declared.Message.{Message}
 use Rattle.model.specs.declared.State.{State}
 use Rattle.model.specs.declared.Site.{Site}
@@ -114,7 +115,7 @@ processedIn state g = withState state (withQueue (processedNext (g .state) (g .q
 -- doing the message in queue place k
 module _ {before memory : List ℕ} {t : Turn} {g : Gateway} (reached : Reached before memory t g) {k : ℕ} (below : k < t .header .queued)
     (first : k ≡ firstWhere isPending (g .queue)) {e : Entry} (read : e ≡ entryOf (part memory (queueAt k) queueSize))
-    {site : Site} (site-is : site ≡ siteOf (t .header .settings)) (reply : Reply) (gives : sentBy reply ≡ sent site (t .header .state) (e .message))
+    {site : Site} (site-is : site ≡ siteOf (t .header .settings)) (reply : Reply) (gives : reply ≡ replyTo site (t .header .state) (e .message))
     {next : State} (next-is : next ≡ after (t .header .state) (e .message .kind)) where
   header-is : t .header ≡ headerOf g
   header-is = reached .placed .header
@@ -130,7 +131,7 @@ module _ {before memory : List ℕ} {t : Turn} {g : Gateway} (reached : Reached 
 
   done-is : done (e .message) g ≡ record { gateway = sentAll false (sentBy reply) (processedIn next g); frames = framesFor false (sentBy reply) }
   unfolding done
-  done-is = rw (next-is, gives, site-is, header-is)
+  done-is = rw (next-is, reply-sends site (t .header .state) (e .message) gives, site-is, header-is)
 
   fits-is : (room : ℕ) → fits room (done (e .message) g) ≡ roomFor (t .header) room reply
   fits-is room =

@@ -26,14 +26,13 @@ fn main() {
     );
 }
 
-// Prints whether n gateways share a bottom row: whether more than one gateway is in both trees. (With n one less than a power of two the
-// shared row is a single gateway, and this would not tell; 22 and 23 are no such numbers.)
+// Prints whether the two trees of n gateways share a bottom row, as Figure 2's row says.
 fn print_sharing(n: u32)
     requires { ⌜ (1 ≤ n) × (n ≤ 65535) ⌝ }
 {
     let middles = mids_of(n);
     io::print_decimal(STDOUT_FILENO, n as u64);
-    if middles.mid0 > middles.mid1 {
+    if middles.shared {
         io::write_all(STDOUT_FILENO, b" shared\n");
     } else {
         io::write_all(STDOUT_FILENO, b" not shared\n");

@@ -1,11 +1,18 @@
 -- How long a frame is at most.
+use mathlib.Core.Path.{_≡_}
+use mathlib.Core.Bool.{Bool, true, false, cond}
 use Prim.Native.Nat.{_+_, _≤_}
 use native.Mathlib.Omega.{arith}
+use lib.Dec.{leb}
+use lib.ListN.{length}
 use Rattle.model.specs.Messages.{kindNumber}
 use Rattle.model.specs.declared.Kind.{Kind}
 use Rattle.model.specs.declared.Kind.the-variants.{Failure, Request, Delivery, Restock, Start, Lvt, Update}
 use Rattle.frame.specs.Layout.{wholeLength}
-use Rattle.frame.specs.Kinds.{mapOfKind}
+use Rattle.frame.specs.Kinds.{mapOf, mapOfKind, senseNumber}
+use Rattle.frame.specs.Writing.{written}
+use Rattle.frame.specs.declared.Frame.{Frame}
+use Rattle.frame.proofs.Output.{whole-size}
 
 -- a kind's whole length is small, and so are two of them
 pub kind-small : (kind : Kind) → wholeLength (mapOfKind (kindNumber kind)) ≤ 28
@@ -28,3 +35,12 @@ sense-small (Restock quantity) = omega arith
 sense-small Start = omega arith
 sense-small Lvt = omega arith
 sense-small Update = omega arith
+
+-- no frame has more than twenty-eight bytes
+pub frame-small : (f : Frame) → length (f .message .lamp) ≡ 18 → length (written f) ≤ 28
+unfolding mapOf
+frame-small f lamp = rw (whole-size f lamp) (with-sense (leb 1 (senseNumber (f .sense))) (f .message .kind))
+  where
+    with-sense : (b : Bool) (kind : Kind) → wholeLength (cond b (mapOfKind (kindNumber kind) + 128) (mapOfKind (kindNumber kind))) ≤ 28
+    with-sense true kind = sense-small kind
+    with-sense false kind = kind-small kind

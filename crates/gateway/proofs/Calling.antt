@@ -1,15 +1,18 @@
 -- A law for each branch of a call before it looks at what it was asked: memory that is not sound, and memory that is.
-use mathlib.Core.Path.{_≡_, refl, sym, _∙_}
+use mathlib.Core.Path.{_≡_, refl, sym, _∙_, ap}
 use mathlib.Core.Bool.{Bool, true, false, cond, not}
 use mathlib.Core.List.{List}
 use Prim.Native.Nat.{ℕ}
 use lib.ListN.{length}
-use borrow.Author.Tests.{not-true, not-false}
+use borrow.Author.Tests.{not-true, not-false, le-leb}
 use Rattle.buffer.specs.Slice.{write}
 use Rattle.memory.specs.Codec.{headerAt, decode, encode}
 use Rattle.memory.specs.Records.{Gateway}
 use Rattle.memory.specs.Soundness.{sound}
-use Rattle.memory.specs.declared.Header.{Header}
+use Rattle.memory.specs.Layout.{headerSize}
+use Rattle.memory.specs.inside.Checking.{checkedAs}
+use Rattle.memory.specs.declared.Checked.{Checked}
+use Rattle.memory.proofs.SoundMemory.{sound-facts}
 use Rattle.gateway.specs.Effects.{Outcome}
 use Rattle.gateway.specs.Working.{Progress, worked}
 use Rattle.gateway.specs.Rounds.{start}
@@ -18,40 +21,41 @@ use Rattle.gateway.specs.inside.Premises.{Known}
 use Rattle.gateway.specs.declared.Answer.{Answer}
 use Rattle.gateway.specs.declared.Worked.{Worked}
 
--- `ok` and `h` are what was found in memory m
-module _ (m : List ℕ) {ok : Bool} {h : Header} (found : (ok ≡ sound m) × (ok ≡ true → h ≡ headerAt m)) where
-  unsound : not ok ≡ true → sound m ≡ false
-  unsound n = sym (found .0) ∙ not-true ok n
+-- what was found in memory m
+module _ (m : List ℕ) {r : Checked} (found : r ≡ checkedAs m) where
+  pub unsound : not (r .sound) ≡ true → sound m ≡ false
+  unsound n = sym (ap (λ (x : Checked). x .sound) found) ∙ not-true (r .sound) n
 
-  is-sound : not ok ≡ false → sound m ≡ true
-  is-sound n = sym (found .0) ∙ not-false ok n
+  is-sound : not (r .sound) ≡ false → sound m ≡ true
+  is-sound n = sym (ap (λ (x : Checked). x .sound) found) ∙ not-false (r .sound) n
 
-  header-read : not ok ≡ false → h ≡ headerAt m
-  header-read n = found .1 (not-false ok n)
+  header-read : not (r .sound) ≡ false → r .header ≡ headerAt m
+  header-read n =
+      ap (λ (x : Checked). x .header) found ∙ rw (le-leb headerSize (length m) (sound-facts m (is-sound n) .header))
 
-  pub known : not ok ≡ false → Known m h
+  pub known : not (r .sound) ≡ false → Known m (r .header)
   known n = record { soundness = is-sound n; header = header-read n }
 
   -- reading the agreed time
-  pub time-unsound : not ok ≡ true → record { number = 10; hour = 0 } ≡ agreedTime m
+  pub time-unsound : not (r .sound) ≡ true → record { number = 10; hour = 0 } ≡ agreedTime m
   unfolding agreedTime
   time-unsound n = rw (unsound n)
 
-  pub time-sound : not ok ≡ false → record { number = 0; hour = h .agreed } ≡ agreedTime m
+  pub time-sound : not (r .sound) ≡ false → record { number = 0; hour = r .header .agreed } ≡ agreedTime m
   unfolding agreedTime
   time-sound n = rw (is-sound n, header-read n)
 
   -- a call with an output
   module _ (call : ℕ → Gateway → Outcome) (output : List ℕ) where
-    pub call-unsound : not ok ≡ true → {r : Answer} → (r .number ≡ 10) × (r .written ≡ 0) → record {
-      answer = r;
+    pub call-unsound : not (r .sound) ≡ true → {a : Answer} → (a .number ≡ 10) × (a .written ≡ 0) → record {
+      answer = a;
       memory = m;
       output = output;
     } ≡ onSound call m output
     unfolding onSound
-    call-unsound n {r} (a, b) = rw (unsound n) (λ i. record { answer = record { number = a i; written = b i }; memory = m; output = output })
+    call-unsound n (p, q) = rw (unsound n) (λ i. record { answer = record { number = p i; written = q i }; memory = m; output = output })
 
-    pub call-sound : not ok ≡ false → {l : CallResult Answer} → l ≡ leaving (call (length output) (decode m)) m output → l ≡ onSound call m output
+    pub call-sound : not (r .sound) ≡ false → {l : CallResult Answer} → l ≡ leaving (call (length output) (decode m)) m output → l ≡ onSound call m output
     unfolding onSound
     call-sound n p = p ∙ rw (is-sound n)
 

@@ -1,34 +1,18 @@
 -- The lengths of the frames that calls put out: none has more than twenty-eight bytes.
 use mathlib.Core.Path.{_≡_, refl}
-use mathlib.Core.Bool.{Bool, true, false, cond}
+use mathlib.Core.Bool.{Bool}
 use mathlib.Core.List.{List, [], _∷_}
-use Prim.Native.Nat.{ℕ, _+_, _*_, _≤_}
+use Prim.Native.Nat.{ℕ, _*_, _≤_}
 use native.Mathlib.Omega.{arith}
-use lib.Dec.{leb}
 use lib.ListN.{length, length-append}
 use mathlib.Core.List.{List·Memᴰ·head as here, List·Memᴰ·tail as there}
 use Rattle.lists.specs.Lists.{_∈_, joined}
-use Rattle.model.specs.Messages.{kindNumber}
 use Rattle.model.specs.declared.Message.{Message}
 use Rattle.model.specs.declared.Kind.{Kind}
-use Rattle.frame.specs.Layout.{wholeLength}
-use Rattle.frame.specs.Kinds.{mapOf, mapOfKind, senseNumber}
-use Rattle.frame.specs.Writing.{written}
-use Rattle.frame.specs.declared.Frame.{Frame}
-use Rattle.frame.proofs.Output.{whole-size}
 use Rattle.memory.specs.Validity.{frameIf}
 use Rattle.gateway.specs.Effects.{bytesOfFrames, framesFor}
 use Rattle.gateway.specs.Rounds.{frameInRound, framesInRound}
-use Rattle.frame.proofs.Sizes.{kind-small}
-use Rattle.frame.proofs.Sizes.{sense-small}
-
-with-sense : (b : Bool) (kind : Kind) → wholeLength (cond b (mapOfKind (kindNumber kind) + 128) (mapOfKind (kindNumber kind))) ≤ 28
-with-sense true kind = sense-small kind
-with-sense false kind = kind-small kind
-
-pub frame-small : (f : Frame) → length (f .message .lamp) ≡ 18 → length (written f) ≤ 28
-unfolding mapOf
-frame-small f lamp = rw (whole-size f lamp) (with-sense (leb 1 (senseNumber (f .sense))) (f .message .kind))
+use Rattle.frame.proofs.Sizes.{frame-small}
 
 -- the frames of some messages or cancels
 pub messages-small : (cancel : Bool) (ms : List Message) → ((m : Message) → m ∈ ms → length (m .lamp) ≡ 18) → length (bytesOfFrames

@@ -8,14 +8,15 @@ use lib.Dec.{eqb}
 use lib.ListN.{length}
 use Rattle.buffer.specs.Slice.{Bytes, write}
 use Rattle.memory.specs.Records.{Gateway}
-use Rattle.memory.specs.Codec.{decode, encode}
+use Rattle.memory.specs.Codec.{headerAt, decode, encode}
 use Rattle.memory.specs.Soundness.{sound}
 use Rattle.gateway.proofs.Calling.{by-work}
 use Rattle.gateway.specs.Effects.{Outcome}
 use Rattle.gateway.specs.Rounds.{start}
 use Rattle.gateway.specs.Committing.{commit}
-use Rattle.gateway.specs.Calls.{CallResult, refusedWith, leaving, onSound, takeBytes, taken, started, committed, workedOff}
+use Rattle.gateway.specs.Calls.{CallResult, refusedWith, leaving, onSound, takeBytes, taken, started, committed, workedOff, agreedTime}
 use Rattle.gateway.specs.declared.Answer.{Answer}
+use Rattle.gateway.specs.declared.AgreedTime.{AgreedTime}
 use Rattle.gateway.proofs.Maintaining.{Proper}
 use Rattle.gateway.proofs.Keeps.{start-keeps, commit-keeps, bytes-keep, work-keeps}
 use Rattle.hurfaith.specs.Exported.{AnswersReadBack}
@@ -64,6 +65,14 @@ module _ (memory output : List ℕ) (bytes : Bytes memory) where
   worked-number b =
       by-work b memory output (λ a. a .why < 256) (λ e. omega (arith, work-keeps b (length output) (held memory output bytes e) .why)) (omega arith)
 
+time-number : (memory : List ℕ) → agreedTime memory .number < 256
+unfolding agreedTime
+time-number memory = by (sound memory)
+  where
+    by : (b : Bool) → cond {A = AgreedTime} b (record { number = 0; hour = headerAt memory .agreed }) (record { number = 10; hour = 0 }) .number < 256
+    by true = omega arith
+    by false = omega arith
+
 pub answers-read-back : AnswersReadBack
 answers-read-back =
     record {
@@ -75,4 +84,5 @@ answers-read-back =
       ofStarting = λ memory output bytes. read-back _ _ 0 (started-number memory output bytes) (omega (arith, started-small memory output bytes));
       ofCommitting = λ memory output bytes. read-back _ _ 0 (committed-number memory output bytes) (omega (arith, committed-small memory output bytes));
       ofWorking = λ b memory output bytes. read-back _ _ _ (worked-number memory output bytes b) (omega (arith, worked-small memory output bytes b));
+      ofReadingTime = λ memory. read-back _ _ _ (time-number memory) (omega arith);
     }

@@ -40,7 +40,8 @@ use Rattle.gateway.proofs.Accepting.{form-passed, Accepted, not-refused, accept
 use Rattle.gateway.proofs.Maintaining.{Proper, Standing, standing, fitting}
 use Rattle.gateway.proofs.Takings.{queue-of, plain-stands, cancel-stands}
 use Rattle.rollback.proofs.RollbackLaws.{sent-outstanding}
-use Rattle.hurfaith.proofs.FrameSizes.{frame-small, messages-small, round-small}
+use Rattle.frame.proofs.Sizes.{frame-small}
+use Rattle.hurfaith.proofs.FrameSizes.{messages-small, round-small}
 use Rattle.hurfaith.proofs.WrittenSizes.{either-small, either-frames, settled-small, few-children, finished-small, begun-small, call-small}
 
 module _ {g : Gateway} (p : Proper g) where

@@ -36,7 +36,8 @@ use Rattle.gateway.proofs.Takings.{done-stands}
 use Rattle.gateway.proofs.Keeps.{work-keeps}
 use Rattle.memory.proofs.Stored.{length-state}
 use Rattle.rollback.proofs.RollbackLaws.{sent-outstanding}
-use Rattle.hurfaith.proofs.FrameSizes.{frame-small, messages-small, round-small}
+use Rattle.frame.proofs.Sizes.{frame-small}
+use Rattle.hurfaith.proofs.FrameSizes.{messages-small, round-small}
 
 -- either of two outcomes, or of two effects
 pub either-small : (b : Bool) (u v : Outcome) {most : ℕ} → length (u .output) ≤ most → length (v .output) ≤ most → length (cond b u v .output) ≤ most

@@ -7,7 +7,7 @@ use lib.ListN.{length, drop}
 use Rattle.routing.specs.Answers.{neighboursOf}
 use Rattle.packing.specs.Packed.{packed, ReadBack, numberAt}
 use Rattle.buffer.specs.Slice.{Bytes}
-use Rattle.gateway.specs.Calls.{CallResult, taken, started, committed, workedOff}
+use Rattle.gateway.specs.Calls.{CallResult, taken, started, committed, workedOff, agreedTime}
 use Rattle.gateway.specs.declared.Answer.{Answer}
 use Rattle.gateway.specs.declared.Worked.{Worked}
 use Rattle.gateway.specs.declared.AgreedTime.{AgreedTime}
@@ -57,3 +57,4 @@ pub record AnswersReadBack : Type 0 where
   pub ofCommitting : (memory output : List ℕ) → Bytes memory → ReadBack (committed memory output .answer .number) (committed memory output .answer .written) 0
   pub ofWorking : (b : ℕ) (memory output : List ℕ) → Bytes memory
       → ReadBack (workedOff b memory output .answer .why) (workedOff b memory output .answer .written) (workedOff b memory output .answer .count)
+  pub ofReadingTime : (memory : List ℕ) → ReadBack (agreedTime memory .number) 0 (agreedTime memory .hour)

@@ -1,3 +1,4 @@
 -- What contracts inside the repository cite beside the definitions. No reader has to believe it.
 pub mod Fits
 pub mod Pieces
+pub mod Checking

@@ -77,7 +77,7 @@ pub struct Header {
     pub outstanding: u16,
 }
 
-// What is found in lent memory: whether it is sound, and its header, which counts only where it is.
+// What is found in lent memory: whether it is sound, and its header, of zeros where the memory is too short for one.
 pub struct Checked {
     pub sound: bool,
     pub header: Header,

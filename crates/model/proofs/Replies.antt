@@ -1,21 +1,22 @@
 -- What the code's branches come to, as the state after a message and what it sends.
 use mathlib.Core.Path.{_≡_, _∙_, subst⁻¹}
 use Prim.Native.Nat.{ℕ, _+_, _-_, _≤_, _<_}
-use mathlib.Core.List.{List, [], _∷_}
+use mathlib.Core.List.{[], _∷_}
 use borrow.Author.Tests.{lt-ltb, le-ltb, le-leb, lt-leb}
-use Rattle.model.specs.Doing.{after, counted, shelved, notPast, reply, sent, sentFor, requestHours, deliveryHours}
+use Rattle.model.specs.Doing.{after, counted, shelved, notPast, reply, sent, sentFor, requestHours, deliveryHours, replyWith, replyTo}
+use Rattle.model.specs.declared.event.Reply.{Reply}
 use Rattle.model.specs.declared.Kind.{Kind}
 use Rattle.model.specs.declared.Message.{Message}
 use Rattle.model.specs.declared.State.{State}
 use Rattle.model.specs.declared.Site.{Site}
 
-module _ (site : Site) (m : Message) (hours to : ℕ) (kind : Kind) {l : List Message} where
+module _ (site : Site) (m : Message) (hours to : ℕ) (kind : Kind) {r : Reply} where
   -- a message past the last hour is not sent
-  pub past : site .last < m .hour + hours → l ≡ [] → l ≡ notPast (site .last) (reply site m hours to kind)
+  pub past : site .last < m .hour + hours → r ≡ replyWith m [] → r ≡ replyWith m (notPast (site .last) (reply site m hours to kind))
   past h e = e ∙ rw (lt-leb (m .hour + hours) (site .last) h)
 
   -- any other is
-  pub in-time : m .hour + hours ≤ site .last → l ≡ reply site m hours to kind ∷ [] → l ≡ notPast (site .last) (reply site m hours to kind)
+  pub in-time : m .hour + hours ≤ site .last → r ≡ replyWith m (reply site m hours to kind ∷ []) → r ≡ replyWith m (notPast (site .last) (reply site m hours to kind))
   in-time h e = e ∙ rw (le-leb (m .hour + hours) (site .last) h)
 
 -- the state after each kind
@@ -65,16 +66,16 @@ module _ (s : State) (kind : Kind) where
   restocked e f = rw (e, f)
 
 -- what a message of each kind sends
-module _ (site : Site) (s : State) (m : Message) {l : List Message} where
+module _ (site : Site) (s : State) (m : Message) {r : Reply} where
   -- what is sent for the message's own kind
-  pub of-kind : (kind : Kind) → m .kind ≡ kind → l ≡ sentFor site s m kind → l ≡ sent site s m
+  pub of-kind : (kind : Kind) → m .kind ≡ kind → r ≡ replyWith m (sentFor site s m kind) → r ≡ replyTo site s m
   unfolding sent
-  of-kind kind e g = subst⁻¹ (λ (k : Kind). l ≡ sentFor site s m k) e g
+  of-kind kind e g = subst⁻¹ (λ (k : Kind). r ≡ replyWith m (sentFor site s m k)) e g
 
-  pub with-stock : (origin : ℕ) → m .kind ≡ Kind.Request origin → 0 < s .stock → l ≡ notPast (site .last) (reply site m deliveryHours origin
-      (Kind.Delivery origin)) → l ≡ sent site s m
+  pub with-stock : (origin : ℕ) → m .kind ≡ Kind.Request origin → 0 < s .stock → r ≡ replyWith m (notPast (site .last) (reply site m deliveryHours origin
+      (Kind.Delivery origin))) → r ≡ replyTo site s m
   with-stock origin e h g = of-kind (Kind.Request origin) e (rw (lt-ltb 0 (s .stock) h) g)
 
-  pub without-stock : (origin : ℕ) → m .kind ≡ Kind.Request origin → s .stock ≤ 0 → l ≡ notPast (site .last) (reply site m requestHours
-      (site .supplier) (Kind.Request origin)) → l ≡ sent site s m
+  pub without-stock : (origin : ℕ) → m .kind ≡ Kind.Request origin → s .stock ≤ 0 → r ≡ replyWith m (notPast (site .last) (reply site m requestHours
+      (site .supplier) (Kind.Request origin))) → r ≡ replyTo site s m
   without-stock origin e h g = of-kind (Kind.Request origin) e (rw (le-ltb 0 (s .stock) h) g)

@@ -7,13 +7,14 @@ use mathlib.Core.Bool.{Bool, true, false, cond}
 use lib.Dec.{leb, ltb, lit<}
 use lib.ListN.{length}
 use borrow.Author.Tests.{leb-true}
-use Rattle.model.specs.Doing.{notPast, reply, sent, sentFor, requestHours, deliveryHours}
+use Rattle.model.specs.Doing.{notPast, reply, sent, sentFor, requestHours, deliveryHours, replyWith, replyTo, sentBy}
 use Rattle.model.specs.Claims.{SendingLaws}
 use Rattle.model.specs.declared.Kind.{Kind}
 use Rattle.model.specs.declared.Kind.the-variants.{Failure, Request, Delivery, Restock, Start, Lvt, Update}
 use Rattle.model.specs.declared.Message.{Message}
 use Rattle.model.specs.declared.State.{State}
 use Rattle.model.specs.declared.Site.{Site}
+use Rattle.model.specs.declared.event.Reply.{Reply}
 
 -- at most one message, and what holds of it
 data Sends (site : Site) (m : Message) : List Message → Type 0 where
@@ -60,3 +61,12 @@ sending site s m =
       inside = λ x e. told site m sends x e .1;
       source = λ x e. told site m sends x e .2;
     }
+
+-- a reply sends what doing its message sends
+pub reply-sends : (site : Site) (s : State) (m : Message) {r : Reply} → r ≡ replyTo site s m → sentBy r ≡ sent site s m
+unfolding sent
+reply-sends site s m e = rw e (whole (sends-for site m s (m .kind)))
+  where
+    whole : {l : List Message} → Sends site m l → sentBy (replyWith m l) ≡ l
+    whole nothing = refl
+    whole (one x h k f) = refl

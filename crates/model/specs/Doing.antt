@@ -1,6 +1,6 @@
 -- Doing a message: the state after it, and what it sends.
 use Prim.Native.Nat.{ℕ, _+_, _-_, min}
-use mathlib.Core.Bool.{cond}
+use mathlib.Core.Bool.{true, false, cond}
 use mathlib.Core.List.{List, [], _∷_}
 use lib.Dec.{leb, ltb}
 use Rattle.model.specs.declared.Kind.{Kind}
@@ -75,6 +75,15 @@ sentFor site s m Update = []
 unfoldable pub sent : Site → State → Message → List Message
 sent site s m = sentFor site s m (m .kind)
 
--- the message that a reply holds, if it holds one
+-- a reply with what is sent; where nothing is sent it holds the cause
+abbrev pub replyWith : Message → List Message → Reply
+replyWith cause [] = record { sends = false; sent = cause }
+replyWith cause (m ∷ ms) = record { sends = true; sent = m }
+
+-- the reply to m, done in that state
+abbrev pub replyTo : Site → State → Message → Reply
+replyTo site s m = replyWith m (sent site s m)
+
+-- the message that a reply sends, if it sends one
 abbrev pub sentBy : Reply → List Message
 sentBy r = cond (r .sends) (r .sent ∷ []) []

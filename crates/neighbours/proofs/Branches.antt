@@ -29,12 +29,12 @@ pub record Widened (n pen0 : ℕ) : Type 0 where
   pub reached : 2 ^ k ≤ (n - 1) / 2 + 1
 
 pub mids-answer : {n pen0 A B : ℕ} {r : Row} → 1 ≤ n → (w : Widened n pen0) → (n - 1) / 2 + 1 ≤ pen0 → RowIs n (pen0 / 2 + 1) A B r
-    → (_≡_ {A = Middles} (record { mid0 = A; mid1 = B }) (midsOf n)) × (A < n) × (B < n)
+    → (_≡_ {A = Middles} (record { shared = r .shared; mid0 = A; mid1 = B }) (midsOf n)) × (A < n) × (B < n)
 mids-answer {n} {pen0} {A} {B} {r} h w e g =
     let p : pen0 / 2 + 1 ≡ 2 ^ w .k = omega (arith, w .power) in
     let are = middles-are n (w .k) h (record { low = omega (arith, w .reached); high = omega (arith, w .power) }) (subst (λ (P : ℕ). RowIs n P A B r) p g) in
     let s = mids n 0 h .split in
-    ((λ i. record { mid0 = are .0 i; mid1 = are .1 i }), omega (arith, are, s), omega (arith, are, s))
+    ((λ i. record { shared = are .0 i; mid0 = are .1 i; mid1 = are .2 i }), omega (arith, are, s), omega (arith, are, s))
 
 -- N within its range, and beyond it
 in-range : (n : ℕ) → 1 ≤ n → n ≤ 65535 → inRange n ≡ true

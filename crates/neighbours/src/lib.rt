@@ -38,7 +38,7 @@ fn two(first: u32, second: u32) -> Gateways
     }
 }
 
-// Figure 2's middles, for a caller that then asks for many gateways of one n. Its pen0 is half - 1 here, and its pen1 n - half.
+// Figure 2's row, for a caller that then asks for many gateways of one n. Its pen0 is half - 1 here, and its pen1 n - half.
 pub fn mids_of(n: u32) -> Middles
     requires { ⌜ (1 ≤ n) × (n ≤ 65535) ⌝ }
     ensures { λ r. ⌜ (r ≡ midsOf n) × (r .mid0 < n) × (r .mid1 < n) ⌝ }
@@ -51,11 +51,16 @@ pub fn mids_of(n: u32) -> Middles
     let half = pen0 / 2;
     if n - half <= 2 * half + 1 {
         Middles {
+            shared: true,
             mid0: n - half - 1,
             mid1: half,
         }
     } else {
-        Middles { mid0, mid1: n / 2 }
+        Middles {
+            shared: false,
+            mid0,
+            mid1: n / 2,
+        }
     }
 }
 

@@ -27,8 +27,9 @@ use Rattle.gateway.specs.declared.Answer.{Answer}
 use Rattle.gateway.specs.declared.Opening.{Opening}
 use Rattle.gateway.proofs.Openings.{length-queued, opened-keeps}
 use Rattle.opening_list.specs.declared.Checked.{Checked}
-use Rattle.opening_list.specs.inside.Frames.{framesFrom, Checks, openedHeader}
+use Rattle.opening_list.specs.inside.Frames.{framesFrom, checkedAs, openedHeader}
 use Rattle.opening_list.proofs.FramePositions.{frames-all}
+use Rattle.opening_list.proofs.Checking.{all-counted}
 
 -- what valid settings say
 pub record ValidOpening (o : Opening) (size : ℕ) : Type 0 where
@@ -66,9 +67,9 @@ module _ (o : Opening) (list m : List ℕ) where
       pub valid-settings : ValidOpening o (length m)
       valid-settings = valid-opening o (length m) is-valid
 
-      module _ {s : Settings} (t : s ≡ settingsOf o) {r : Checked} (k : Checks s (framesFrom list 0) r) where
+      module _ {s : Settings} (t : s ≡ settingsOf o) {r : Checked} (k : r ≡ checkedAs s (framesFrom list 0)) where
         first-is : r .number ≡ firstRefusal (settingsOf o) (cutFrames (length list) list)
-        first-is = k .number ∙ rw (t, frames-all list)
+        first-is = ap (λ (x : Checked). x .number) k ∙ rw (t, frames-all list)
 
         pub frame-refused : (r .number ≡ 0 → ⊥) → {a : Answer} → (a .number ≡ r .number) × (a .written ≡ 0) → record {
           answer = a;
@@ -81,7 +82,10 @@ module _ (o : Opening) (list m : List ℕ) where
 
         module _ (z : r .number ≡ 0) where
           count-is : r .count ≡ length (cutFrames (length list) list)
-          count-is = k .count z ∙ rw (frames-all list)
+          count-is =
+              ap (λ (x : Checked). x .count) k
+              ∙ all-counted s (framesFrom list 0) (sym (ap (λ (x : Checked). x .number) k) ∙ z)
+              ∙ rw (frames-all list)
 
           none-is : eqb (firstRefusal (settingsOf o) (cutFrames (length list) list)) 0 ≡ true
           none-is = eq-eqb _ 0 (sym first-is ∙ z)

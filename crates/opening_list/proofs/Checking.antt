@@ -1,11 +1,13 @@
 -- The pass over the opening list: a law for each branch of the code.
 use mathlib.Core.Path.{_≡_, refl, sym, _∙_, ap}
-use mathlib.Core.Bool.{true, false, cond}
-use mathlib.Core.List.{List, _∷_}
+use mathlib.Core.Bool.{true, false, cond, not}
+use mathlib.Core.List.{List, [], _∷_}
 use Prim.Native.Nat.{ℕ, suc, _+_, _-_, _≤_, _<_}
 use native.Mathlib.Omega.{arith}
+use native.Mathlib.Decide.{ℕ-discrete}
 use lib.Dec.{eqb}
 use lib.ListN.{length, take, drop}
+use Rattle.lists.specs.Lists.{beforeFirst}
 use borrow.Author.Tests.{eq-eqb, ne-eqb}
 use Rattle.model.specs.Messages.{kindNumber}
 use Rattle.frame.specs.Kinds.{senseNumber}
@@ -15,7 +17,7 @@ use Rattle.frame.specs.declared.Frame.{Frame}
 use Rattle.frame.specs.declared.Reading.{Reading}
 use Rattle.memory.specs.declared.Settings.{Settings}
 use Rattle.gateway.specs.SettingUp.{mayOpen, openingRefusal, firstRefusal}
-use Rattle.opening_list.specs.inside.Frames.{framesFrom, frameEnd, Checks}
+use Rattle.opening_list.specs.inside.Frames.{framesFrom, frameEnd, refusedFrame, checkedAs}
 use Rattle.opening_list.proofs.FramePositions.{end-between, frames-none, frames-next}
 
 -- whether a frame may stand in the list
@@ -47,18 +49,30 @@ pub record Passing (list : List ℕ) (s : Settings) (count at : ℕ) : Type 0 wh
   pub inside : at ≤ length list
   pub few : count ≤ at
   pub rest : firstRefusal s (framesFrom list 0) ≡ firstRefusal s (framesFrom list at)
-  pub counted : count + length (framesFrom list at) ≡ length (framesFrom list 0)
+  pub counted : count + length (beforeFirst (refusedFrame s) (framesFrom list at)) ≡ length (beforeFirst (refusedFrame s) (framesFrom list 0))
+
+-- where no frame is refused, all of them are counted
+pub all-counted : (s : Settings) (frames : List (List ℕ)) → firstRefusal s frames ≡ 0 → length (beforeFirst (refusedFrame s) frames) ≡ length frames
+unfolding firstRefusal beforeFirst
+all-counted s [] z = refl
+all-counted s (f ∷ fs) z = go (ℕ-discrete (openingRefusal s f) 0) (all-counted s fs)
+  where
+    go : Dec (openingRefusal s f ≡ 0) → (firstRefusal s fs ≡ 0 → length (beforeFirst (refusedFrame s) fs) ≡ length fs)
+        → length (beforeFirst (refusedFrame s) (f ∷ fs)) ≡ length (f ∷ fs)
+    go (yes e) rest = rw (eq-eqb (openingRefusal s f) 0 e) (ap suc (rest (rw (eq-eqb (openingRefusal s f) 0 e) at z)))
+    go (no d) rest = absurd (d (rw (ne-eqb (openingRefusal s f) 0 d) at z))
 
 pub pass-start : (list : List ℕ) (s : Settings) → Passing list s 0 0
 pass-start list s = record { inside = omega arith; few = omega arith; rest = refl; counted = omega arith }
 
 module _ (list : List ℕ) (s : Settings) (count at : ℕ) (p : Passing list s count at) where
-  pub pass-end : length list ≤ at → Checks s (framesFrom list 0) (record { number = 0; count = count })
-  unfolding firstRefusal
+  pub pass-end : length list ≤ at → record { number = 0; count = count } ≡ checkedAs s (framesFrom list 0)
+  unfolding firstRefusal beforeFirst
   pass-end h =
       let e = frames-none list at h in
-      let l : length (framesFrom list at) ≡ 0 = ap length e in
-      record { number = sym (p .rest ∙ rw e); count = λ z. omega (arith, p .counted) }
+      let none : 0 ≡ firstRefusal s (framesFrom list 0) = sym (p .rest ∙ rw e) in
+      let all : count ≡ length (beforeFirst (refusedFrame s) (framesFrom list 0)) = omega (arith, rw e at (p .counted)) in
+      λ i. record { number = none i; count = all i }
 
   module _ (h : at < length list) {end : ℕ} (e : end ≡ frameEnd list at) {number : ℕ} (n : number ≡ openingRefusal s (take (end - at) (drop at list))) where
     here : framesFrom list at ≡ take (end - at) (drop at list) ∷ framesFrom list end
@@ -68,16 +82,26 @@ module _ (list : List ℕ) (s : Settings) (count at : ℕ) (p : Passing list s c
     unfolding firstRefusal
     rest-here = p .rest ∙ rw (here, n)
 
-    pub pass-refused : (number ≡ 0 → ⊥) → Checks s (framesFrom list 0) (record { number = number; count = count })
-    pass-refused d = record { number = sym (rest-here ∙ rw (ne-eqb number 0 d)); count = λ z. absurd (d z) }
+    -- the frames that are counted from here on
+    counted-here : length (beforeFirst (refusedFrame s) (framesFrom list at))
+        ≡ length (cond (not (eqb number 0)) [] (take (end - at) (drop at list) ∷ beforeFirst (refusedFrame s) (framesFrom list end)))
+    unfolding beforeFirst
+    counted-here = rw (here, n)
+
+    pub pass-refused : (number ≡ 0 → ⊥) → record { number = number; count = count } ≡ checkedAs s (framesFrom list 0)
+    pass-refused d =
+        let found : number ≡ firstRefusal s (framesFrom list 0) = sym (rest-here ∙ rw (ne-eqb number 0 d)) in
+        let none = rw (ne-eqb number 0 d) at counted-here in
+        let all : count ≡ length (beforeFirst (refusedFrame s) (framesFrom list 0)) = omega (arith, none, p .counted) in
+        λ i. record { number = found i; count = all i }
 
     pub pass-turn : number ≡ 0 → Passing list s (count + 1) end
     pass-turn z =
         let b = end-between list at h e in
-        let l : length (framesFrom list at) ≡ suc (length (framesFrom list end)) = ap length here in
+        let one-more = rw (eq-eqb number 0 z) at counted-here in
         record {
           inside = b .inside;
           few = omega (arith, b .later, p .few);
           rest = rest-here ∙ rw (eq-eqb number 0 z);
-          counted = omega (arith, p .counted);
+          counted = omega (arith, one-more, p .counted);
         }

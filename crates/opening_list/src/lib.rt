@@ -24,7 +24,7 @@ ghost use Rattle.buffer.specs.Slice.{write};
 ghost use Rattle.memory.specs.Codec.{entryBytes};
 ghost use Rattle.frame.specs.Reasons.{formIn, formNumber};
 ghost use Rattle.gateway.specs.SettingUp.{mayOpen, openingRefusal, queued};
-ghost use Rattle.opening_list.specs.inside.Frames.{frameEnd, framesFrom, Checks, memoryEntered};
+ghost use Rattle.opening_list.specs.inside.Frames.{frameEnd, framesFrom, checkedAs, memoryEntered};
 
 // What the pass over the opening list finds: the first refusal, or 0, and how many frames stand before it or in all.
 pub struct Checked {
@@ -87,9 +87,9 @@ fn form_refusal(reading: Reading) -> u8
     form_number(form_where(may_open(frame), form))
 }
 
-// One pass: the first refusal, and the number of frames.
+// One pass: the first refusal, and the number of frames before it or in all.
 pub fn check_list(list: &[u8], settings: Settings) -> Checked
-    ensures { λ r. ⌜ Checks settings (framesFrom (now (list .entry)) 0) r ⌝ }
+    ensures { λ r. ⌜ r ≡ checkedAs settings (framesFrom (now (list .entry)) 0) ⌝ }
 {
     let mut count = 0;
     let mut at = 0;

@@ -14,6 +14,7 @@ use Rattle.routing.specs.Answers.{totalsOf}
 use Rattle.neighbours.proofs.Branches.{totals-are}
 use Rattle.listing.specs.declared.Rendered.{Rendered}
 use Rattle.listing.specs.Output.{firstLine, listing, numberIn, printed, RenderResult, rendered, rendering, arcLine}
+use Rattle.listing.proofs.Theorems.{laws}
 use Rattle.buffer.proofs.Putting.{puts-byte, puts-more}
 
 -- the two answers
@@ -71,6 +72,10 @@ pub rendering-is : (input m : List ℕ) {n : ℕ} → n ≡ numberIn input → r
 unfolding rendering printed
 rendering-is input m e = ap (λ (n : ℕ). rendered (listing n) m) e
 
+-- the output afterwards
+pub put-out : (input m : List ℕ) {r : Rendered} {now : List ℕ} → record { answer = r; out = now } ≡ rendering input m → now ≡ rendering input m .out
+put-out input m e = ap (λ (s : RenderResult). s .out) e
+
 -- what was put is within the output
 pub put-within : (input m : List ℕ) {r : Rendered} {now : List ℕ} → record { answer = r; out = now } ≡ rendering input m → r .length ≤ length m
 unfolding rendering rendered
@@ -79,3 +84,8 @@ put-within input m {r} e = go (decLe (length (printed input)) (length m))
     go : Dec (length (printed input) ≤ length m) → r .length ≤ length m
     go (yes h) = omega (arith, ap (λ (s : RenderResult). s .answer .length) (rw (le-leb (length (printed input)) (length m) h) at e))
     go (no h) = omega (arith, ap (λ (s : RenderResult). s .answer .length) (rw (lt-leb (length (printed input)) (length m) (omega arith)) at e))
+
+-- 1,100,000 bytes hold every listing
+pub whole-listing : (input m : List ℕ) → length m ≡ 1100000 → rendering input m .out ≡ write 0 (printed input) m
+unfolding rendering rendered
+whole-listing input m h = rw (le-leb (length (printed input)) (length m) (omega (arith, laws .held input)))

@@ -14,13 +14,20 @@ use model::quantity_of;
 use reader::read;
 use text::put_decimal;
 use writer::write;
+ghost use mathlib.Core.Path.{_≡_};
+ghost use mathlib.Core.Bool.{false};
 ghost use Prim.Native.Nat.{_+_, _≤_};
 ghost use lib.ListN.{length};
 ghost use Rattle.buffer.specs.Slice.{Puts};
+ghost use Rattle.frame.specs.Writing.{writing};
+ghost use Rattle.report.specs.inside.Again.{writtenAs};
 ghost use Rattle.report.specs.Line.{field, route, content, lampText, frameText, line};
 
-// Whether a frame, read and written again, has other bytes than it had.
-pub fn differs(item: &[u8]) -> bool {
+// Whether a frame, read and written again, has other bytes than it had: never, since frames and values are one to one. The
+// program frames asks it all the same, so that the writer too runs on every frame that is read.
+pub fn differs(item: &[u8]) -> bool
+    ensures { λ r. ⌜ r ≡ false ⌝ }
+{
     let reading = read(item);
     let form = reading.form;
     if !is_good(form) {
@@ -32,14 +39,13 @@ pub fn differs(item: &[u8]) -> bool {
 }
 
 // Whether a frame is written as that byte string, in a buffer lent for it.
-fn written_as(frame: Frame, item: &[u8], again: &mut [u8]) -> bool {
+fn written_as(frame: Frame, item: &[u8], again: &mut [u8]) -> bool
+    ensures { λ r. ⌜
+        (r ≡ writtenAs frame (now (item .entry)) (length (now (again .entry))))
+        × (now (again .exit) ≡ writing frame (now (again .entry)) .output) ⌝ }
+{
     match write(again, frame) {
-        WriteAnswer::Written(count) => {
-            if count > again.len() {
-                return false;
-            }
-            same(item, &again[..count])
-        }
+        WriteAnswer::Written(count) => same(item, &again[..count]),
         WriteAnswer::NoFrame => false,
         WriteAnswer::NoRoom => false,
     }

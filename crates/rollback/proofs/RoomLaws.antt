@@ -9,7 +9,8 @@ use lib.ListN.{length, take, drop, length-append, take-append-drop}
 use lib.Seq.{length-take-le}
 use borrow.Author.Tests.{le-leb, lt-leb, not-true, not-false}
 use Rattle.buffer.specs.Slice.{part, write}
-use Rattle.model.specs.Doing.{sent, sentBy}
+use Rattle.model.specs.Doing.{replyTo}
+use Rattle.model.proofs.Sending.{reply-sends}
 use Rattle.model.specs.declared.Message.{Message}
 use Rattle.model.specs.declared.Site.{Site}
 use Rattle.model.specs.declared.event.Reply.{Reply}
@@ -54,9 +55,9 @@ module _ (site : Site) (e : Entry) {processed : Bool} (test : processed ≡ proc
   none-sent-by h = (rw (processed-no e (sym test ∙ not-true processed h)), omega arith)
 
   module _ (h : not processed ≡ false) {made : Site} (site-is : made ≡ site) (reply : Reply)
-      (gives : sentBy reply ≡ sent made (e .before) (e .message)) where
+      (gives : reply ≡ replyTo made (e .before) (e .message)) where
     had : sentBack site (processedOf (e ∷ [])) ≡ cond (reply .sends) (reply .sent ∷ []) []
-    had = rw (processed-one e (sym test ∙ not-false processed h)) (back-one e site ∙ rw (← site-is) (sym gives))
+    had = rw (processed-one e (sym test ∙ not-false processed h)) (back-one e site ∙ rw (← site-is) (sym (reply-sends made (e .before) (e .message) gives)))
 
     pub one-sent-by : reply .sends ≡ true → (1 ≡ length (sentBack site (processedOf (e ∷ [])))) × (1 ≤ 1)
     one-sent-by k = (rw (had, k), omega arith)

@@ -12,7 +12,8 @@ use Rattle.lists.specs.Lists.{All, cons, joined}
 use Rattle.lists.proofs.ListLaws.{all-right}
 use Rattle.buffer.specs.Slice.{part, write}
 use Rattle.buffer.proofs.Writes.{write-nil, write-join, length-write}
-use Rattle.model.specs.Doing.{sent, sentBy}
+use Rattle.model.specs.Doing.{sent, replyTo}
+use Rattle.model.proofs.Sending.{reply-sends}
 use Rattle.model.specs.declared.Message.{Message}
 use Rattle.model.specs.declared.Site.{Site}
 use Rattle.model.specs.declared.event.Reply.{Reply}
@@ -77,7 +78,7 @@ module _ {before memory output : List ℕ} {g : Gateway} {s : Sending} {e : Entr
       (record { placed = rw (rolled-none g) (may .placed); put = sym (write-nil (s .written) output); position = omega arith })
 
   module _ (h : not processed ≡ false) {site : Site} (site-is : site ≡ siteOf (s .header .settings)) (reply : Reply)
-      (gives : sentBy reply ≡ sent site (e .before) (e .message)) where
+      (gives : reply ≡ replyTo site (e .before) (e .message)) where
     -- the state before it
     abbrev restored : Sending
     restored = record {
@@ -99,7 +100,7 @@ module _ {before memory output : List ℕ} {g : Gateway} {s : Sending} {e : Entr
     is-processed = processed-one e (sym test ∙ not-false processed h)
 
     had-sent : sent (siteOf (g .settings)) (e .before) (e .message) ≡ cond (reply .sends) (reply .sent ∷ []) []
-    had-sent = rw (← settings-are, ← site-is) (sym gives)
+    had-sent = rw (← settings-are, ← site-is) (sym (reply-sends site (e .before) (e .message) gives))
 
     messages : sentByEntries g (e ∷ []) ≡ cond (reply .sends) (reply .sent ∷ []) []
     messages = rw is-processed (back-one e (siteOf (g .settings)) ∙ had-sent)

@@ -11,7 +11,7 @@ use lib.IntN.{ℤ, pos, natAbs, _+ℤ_, _-ℤ_, _*ℤ_}
 use lib.Signed.{quotZ}
 use borrow.Author.Tests.{lt-ltb, le-ltb, eq-eqb, ne-eqb}
 use Rattle.routing.specs.Figure2.{Row, widen, share, setFrom, setTo, gvtcfg, oddZ}
-use Rattle.routing.specs.Arcs.{figure2, loopEnd, from, to, mid0, mid1}
+use Rattle.routing.specs.Arcs.{figure2, loopEnd, from, to, shared, mid0, mid1}
 use Rattle.routing.proofs.Difference.{Diff, diff-as, diff-pos, diff-plus, diff-minus, diff-from, diff-double, diff-is, le-yes, le-no, eq-yes, eq-no}
 use Rattle.routing.proofs.Shape.{Split, From, To}
 
@@ -270,14 +270,16 @@ pub to-is : (N i : ℕ) → i < N → {l : List ℕ} → To N (mid0 N) (mid1 N) 
 unfolding to
 to-is N i h {l} g = ap (map natAbs) (figure-to N i h g) ∙ naturals l
 
--- the power and the branch fix the middles
-same-middles : {N P A B C D : ℕ} {r q : Row} → RowIs N P A B r → RowIs N P C D q → (A ≡ C) × (B ≡ D)
-same-middles (one-row a b c) (one-row d e f) = omega arith
+-- the power and the branch fix the row
+same-middles : {N P A B C D : ℕ} {r q : Row} → RowIs N P A B r → RowIs N P C D q → (r .shared ≡ q .shared) × (A ≡ C) × (B ≡ D)
+same-middles (one-row a b c) (one-row d e f) = (refl, omega arith, omega arith)
 same-middles (one-row a b c) (two-rows d e f) = absurd (omega arith)
 same-middles (two-rows a b c) (one-row d e f) = absurd (omega arith)
-same-middles (two-rows a b c) (two-rows d e f) = omega arith
+same-middles (two-rows a b c) (two-rows d e f) = (refl, omega arith, omega arith)
 
-pub middles-are : (N k : ℕ) {A B : ℕ} {r : Row} → 1 ≤ N → Fit N (2 ^ k) → RowIs N (2 ^ k) A B r → (A ≡ mid0 N) × (B ≡ mid1 N)
+pub middles-are : (N k : ℕ) {A B : ℕ} {r : Row} → 1 ≤ N → Fit N (2 ^ k) → RowIs N (2 ^ k) A B r
+    → (r .shared ≡ shared N) × (A ≡ mid0 N) × (B ≡ mid1 N)
+unfolding shared
 middles-are N k {A} {B} {r} h f g =
     let m = mids N 0 h in
     same-middles (subst (λ (j : ℕ). RowIs N (2 ^ j) A B r) (one-fit k (m .k) f (m .fit)) g) (m .is)

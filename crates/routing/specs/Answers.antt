@@ -8,7 +8,7 @@ use Rattle.routing.specs.declared.Gateways.{Gateways}
 use Rattle.routing.specs.declared.Neighbours.{Neighbours}
 use Rattle.routing.specs.declared.Middles.{Middles}
 use Rattle.routing.specs.declared.Totals.{Totals}
-use Rattle.routing.specs.Arcs.{from, to, mid0, mid1, arcCount, roundMessages}
+use Rattle.routing.specs.Arcs.{from, to, shared, mid0, mid1, arcCount, roundMessages}
 
 -- At most two gateways as a value: their count, and their numbers with zeros behind.
 abbrev pub gateways : List ℕ → Gateways
@@ -36,6 +36,6 @@ neighboursOf N own =
 unfoldable pub totalsOf : (N : ℕ) → Totals
 totalsOf N = cond (inRange N) (record { answer = 0; arcs = arcCount N; messages = roundMessages N }) noTotals
 
--- Figure 2's Mid0 and Mid1 as a value.
+-- Figure 2's row as a value.
 abbrev pub midsOf : (N : ℕ) → Middles
-midsOf N = record { mid0 = mid0 N; mid1 = mid1 N }
+midsOf N = record { shared = shared N; mid0 = mid0 N; mid1 = mid1 N }

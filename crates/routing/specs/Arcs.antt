@@ -1,7 +1,7 @@
 -- The arcs of N gateways by Figure 2, their count, the messages of a round, and what holds of them.
 use mathlib.Core.Path.{_≡_}
 use mathlib.Core.Logic.{_↔_, _⊎_}
-use mathlib.Core.Bool.{true, cond}
+use mathlib.Core.Bool.{Bool, true, cond}
 use mathlib.Core.List.{List, [], _∷_, _++_, map}
 use Prim.Native.Nat.{ℕ, zero, suc, _+_, _*_, _-_, _^_, _≤_, _<_}
 use lib.Dec.{ltb}
@@ -27,6 +27,10 @@ to N i = map natAbs (figure2 N i .to)
 -- Figure 2's pen0 after its loop, for at most so many turns.
 abbrev pub loopEnd : (N turns : ℕ) → ℤ
 loopEnd N turns = widen turns (quotZ (pos N -ℤ pos 1) (pos 2)) (pos 1)
+
+-- Whether the two trees share the bottom row, by Figure 2; the same at every gateway.
+unfoldable pub shared : (N : ℕ) → Bool
+shared N = figure2 N 0 .row .shared
 
 -- Figure 2's last values of Mid0 and Mid1, the same at every gateway.
 unfoldable pub mid0 : (N : ℕ) → ℕ

@@ -21,8 +21,9 @@ pub struct Totals {
     pub messages: u32,
 }
 
-// Figure 2's Mid0 and Mid1, the same for all gateways of one N.
+// Figure 2's row, the same for all gateways of one N: whether the two trees share the bottom row, Mid0 and Mid1.
 pub struct Middles {
+    pub shared: bool,
     pub mid0: u32,
     pub mid1: u32,
 }

@@ -2,7 +2,7 @@
 use mathlib.Core.Path.{_≡_, refl, sym, _∙_}
 use Prim.Native.Nat.{ℕ, _<_, _≤_}
 use native.Mathlib.Nat.{add-zero}
-use mathlib.Core.Bool.{Bool, true, false, not, _&&_, and-false, false≢true}
+use mathlib.Core.Bool.{Bool, true, false, not, _&&_, and-false}
 use mathlib.Core.List.{List}
 use lib.Dec.{leb}
 use lib.ListN.{length, getD}
@@ -15,6 +15,7 @@ use Rattle.memory.specs.Validity.{settingsValid, roundPossible, ordered, proces
 use Rattle.memory.specs.Soundness.{entryExact, sentExact, sound}
 use Rattle.soundness.specs.inside.Passes.{headerSound, queueSound, outstandingSound}
 use Rattle.memory.specs.declared.Header.{Header}
+use Rattle.memory.specs.inside.Checking.{blankHeader, checkedAs}
 use Rattle.memory.proofs.Chains.{refuted, granted, above, within}
 use Rattle.memory.proofs.Validated.{ValidSettings, settings-facts, facts-settings}
 use Rattle.lists.proofs.BoolLaws.{and-left, and-right}
@@ -124,9 +125,12 @@ module _ (m : List ℕ) where
   unfolding sound
   sound-short h = rw (lt-leb headerSize (length m) h)
 
-  -- whatever header is given beside it
-  pub checked-short : length m < 256 → {h : Header} → (false ≡ sound m) × (false ≡ true → h ≡ headerAt m)
-  checked-short h = (sound-short h, λ e. absurd (false≢true e))
+  -- memory too short for a header, and memory long enough for one
+  pub checked-short : length m < 256 → {h : Header} → h ≡ blankHeader → record { sound = false; header = h } ≡ checkedAs m
+  checked-short l e = rw (lt-leb headerSize (length m) l, e) (λ i. record { sound = sound-short l i; header = blankHeader })
+
+  pub checked-long : 256 ≤ length m → {h : Header} {ok : Bool} → h ≡ headerAt m → ok ≡ sound m → record { sound = ok; header = h } ≡ checkedAs m
+  checked-long l e s = rw (le-leb headerSize (length m) l, e, s)
 
   module _ {h : Header} {ok : Bool} (e : h ≡ headerAt m) (p : ok ≡ headerSound m) where
     pub sound-header : not ok ≡ true → false ≡ sound m

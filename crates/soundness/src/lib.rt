@@ -23,17 +23,17 @@ use validity::sent_valid;
 use validity::settings_valid;
 use validity::size_for;
 ghost use mathlib.Core.Path.{_≡_};
-ghost use mathlib.Core.Bool.{true};
 ghost use Prim.Native.Nat.{_+_, _*_, _≤_};
 ghost use lib.ListN.{length};
 ghost use Rattle.memory.specs.Layout.{headerSize, queueSize, outstandingSize, queueAt};
 ghost use Rattle.memory.specs.Codec.{headerAt};
 ghost use Rattle.memory.specs.Soundness.{sound};
+ghost use Rattle.memory.specs.inside.Checking.{blankHeader, checkedAs};
 ghost use Rattle.soundness.specs.inside.Passes.{headerSound, entryAccepted, queueSound, outstandingSound};
 
 // Whether lent memory is sound, and its header. To memory that is not, every call answers 10.
 pub fn checked(memory: &[u8]) -> Checked
-    ensures { λ r. ⌜ (r .sound ≡ sound (now (memory .entry))) × (r .sound ≡ true → r .header ≡ headerAt (now (memory .entry))) ⌝ }
+    ensures { λ r. ⌜ r ≡ checkedAs (now (memory .entry)) ⌝ }
 {
     if memory.len() < HEADER_SIZE {
         return Checked {
@@ -49,7 +49,9 @@ pub fn checked(memory: &[u8]) -> Checked
 }
 
 // A header of zeros, for memory that is too short for one.
-fn no_header() -> Header {
+fn no_header() -> Header
+    ensures { λ r. ⌜ r ≡ blankHeader ⌝ }
+{
     Header {
         settings: Settings {
             n: 0,

@@ -1,7 +1,7 @@
 -- A law for each branch of taking an Lvt.
 use mathlib.Core.Path.{_≡_, sym, _∙_}
 use mathlib.Core.Bool.{Bool, true, false, not, _&&_}
-use mathlib.Core.List.{List}
+use mathlib.Core.List.{List, []}
 use Prim.Native.Nat.{ℕ, _+_, min}
 use lib.Dec.{leb}
 use lib.ListN.{length}
@@ -16,11 +16,10 @@ use Rattle.gateway.specs.Effects.{settled}
 use Rattle.gateway.specs.Rounds.{leastQueued, framesInRound, finished, isIdle, bitOf, allBits, stands, oneLvt, takeLvt, valueIn}
 use Rattle.gateway.specs.Calls.{CallResult, leaving}
 use Rattle.gateway.specs.inside.Premises.{Known, withHeader, changedTo}
-use Rattle.announce.specs.inside.Receivers.{listed}
+use Rattle.announce.specs.inside.Receivers.{listed, Holds}
 use Rattle.places.specs.inside.Searching.{entriesIn}
 use Rattle.announce.specs.declared.receivers.Few.{Few}
 use Rattle.gateway.specs.declared.Answer.{Answer}
-use Rattle.announce.proofs.Neighbours.{none-listed}
 use Rattle.phases.proofs.Changing.{gateway-is, out-of-turn}
 use Rattle.gateway.proofs.Knowing.{agreed-is, queue-places, round-is, settings-are}
 
@@ -32,11 +31,11 @@ module _ (m : List ℕ) (h : Header) (k : Known m h) where
 
     pub more-lvts : (value : ℕ) {next : Header} {round : Round} {nobody : Few} → (arrived ≡ all → ⊥) → next ≡ changedTo h (h .agreed) round
         → round ≡ record { phase = Stopped; arrived = arrived; note = value }
-        → (nobody .count ≡ 0) × (nobody .first ≡ 0) × (nobody .second ≡ 0)
+        → Holds [] nobody
         → record { gateway = withHeader next (decode m); frames = framesInRound Lvt 0 (next .settings .own) (listed nobody) } ≡ oneLvt all
         arrived value (decode m)
     unfolding oneLvt
-    more-lvts value {next} {round} {nobody} n e r z = rw (none-listed z, e, gateway-is m h k (h .agreed) round, agreed-is m h k, r, ne-eqb arrived all n)
+    more-lvts value {next} {round} {nobody} n e r z = rw (z .all, e, gateway-is m h k (h .agreed) round, agreed-is m h k, r, ne-eqb arrived all n)
 
   -- the value before an Lvt
   pub value-idle : h .round .phase ≡ Idle → 0 ≡ valueIn (h .round .phase) (decode m)

@@ -1,7 +1,7 @@
 -- A law for each branch of taking a Start.
 use mathlib.Core.Path.{_≡_, sym, _∙_}
 use mathlib.Core.Bool.{Bool, true, false, not, _&&_}
-use mathlib.Core.List.{List}
+use mathlib.Core.List.{List, []}
 use Prim.Native.Nat.{ℕ, _+_}
 use lib.Dec.{leb}
 use lib.ListN.{length}
@@ -16,9 +16,8 @@ use Rattle.gateway.specs.Effects.{settled}
 use Rattle.gateway.specs.Rounds.{framesInRound, begun, isIdle, bitOf, allBits, stands, oneStart, takeStart}
 use Rattle.gateway.specs.Calls.{CallResult, leaving}
 use Rattle.gateway.specs.inside.Premises.{Known, withHeader, changedTo}
-use Rattle.announce.specs.inside.Receivers.{listed}
+use Rattle.announce.specs.inside.Receivers.{listed, Holds}
 use Rattle.announce.specs.declared.receivers.Few.{Few}
-use Rattle.announce.proofs.Neighbours.{none-listed}
 use Rattle.gateway.specs.declared.Answer.{Answer}
 use Rattle.phases.proofs.Changing.{gateway-is, out-of-turn}
 use Rattle.gateway.proofs.Knowing.{agreed-is, round-is, settings-are}
@@ -31,12 +30,12 @@ module _ (m : List ℕ) (h : Header) (k : Known m h) where
 
     pub more-starts : {next : Header} {round : Round} {nobody : Few} → (arrived ≡ all → ⊥) → next ≡ changedTo h (h .agreed) round → round ≡
         record { phase = Idle; arrived = arrived; note = h .round .note }
-        → (nobody .count ≡ 0) × (nobody .first ≡ 0) × (nobody .second ≡ 0)
+        → Holds [] nobody
         → record { gateway = withHeader next (decode m); frames = framesInRound Start 0 (next .settings .own) (listed nobody) } ≡ oneStart
         all arrived (decode m)
     unfolding oneStart
     more-starts {next} {round} {nobody} n e r z = rw (
-      none-listed z,
+      z .all,
       e,
       gateway-is m h k (h .agreed) round,
       agreed-is m h k,

@@ -1,23 +1,24 @@
 -- Laws of several events of work: before the first, one more, and when work ends; and of work on memory that is not sound.
 use mathlib.Core.Path.{_≡_, refl, sym, _∙_, ap, subst}
-use mathlib.Core.Bool.{Bool, true, not}
+use mathlib.Core.Bool.{true, not}
 use mathlib.Core.List.{List, _++_}
 use Prim.Native.Nat.{ℕ, _+_, _-_, _≤_, _<_}
 use native.Mathlib.Nat.{zero-add}
 use native.Mathlib.Omega.{arith}
 use lib.ListN.{length, length-append}
-use borrow.Author.Tests.{not-true}
 use Rattle.buffer.specs.Slice.{Bytes, write}
 use Rattle.buffer.proofs.Writes.{write-nil, write-join, length-write}
 use Rattle.memory.specs.Records.{Gateway}
 use Rattle.memory.specs.Codec.{headerFront, headerBack, decode, encode}
-use Rattle.memory.specs.Soundness.{sound}
+use Rattle.memory.specs.inside.Checking.{checkedAs}
 use Rattle.memory.specs.declared.Header.{Header}
+use Rattle.memory.specs.declared.Checked.{Checked}
 use Rattle.memory.proofs.Validated.{valid-facts}
 use Rattle.memory.proofs.SoundMemory.{sound-facts, reading-laws}
 use Rattle.gateway.specs.Working.{Progress, worked}
 use Rattle.gateway.specs.Calls.{workedOff}
 use Rattle.gateway.specs.inside.Premises.{Known}
+use Rattle.gateway.proofs.Calling.{unsound}
 use Rattle.gateway.specs.declared.Worked.{Worked}
 use Rattle.effects.proofs.PlacedLaws.{placed-first, placed-inside, placed-last}
 use Rattle.replies.specs.inside.Turns.{Ready, Reached, Turned, Turns}
@@ -192,7 +193,7 @@ module _ {before output₀ memory output : List ℕ} {t : Turn} {budget count : 
       f
 
 -- work on memory that is not sound
-pub work-unsound : (budget : ℕ) (m output : List ℕ) {ok : Bool} → ok ≡ sound m → not ok ≡ true
+pub work-unsound : (budget : ℕ) (m output : List ℕ) {r : Checked} → r ≡ checkedAs m → not (r .sound) ≡ true
     → record { answer = record { count = 0; why = 10; written = 0 }; memory = m; output = output } ≡ workedOff budget m output
 unfolding workedOff
-work-unsound budget m output {ok} e n = rw (sym e ∙ not-true ok n)
+work-unsound budget m output found n = rw (unsound m found n)

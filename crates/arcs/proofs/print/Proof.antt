@@ -2,7 +2,7 @@
 use mathlib.Core.Path.{sym}
 use native.Mathlib.Omega.{arith}
 use lib.Seq.{length-take-le}
-use Rattle.rendering.proofs.Whole.{put-within}
+use Rattle.rendering.proofs.Whole.{put-out, put-within}
 use borrow.Author.Needs.{needs}
 use Rattle.arcs.proofs.print.Statement.{statement}
 use Rattle.arcs.proofs.print.Tie as tie
@@ -24,4 +24,4 @@ print-spec =
     slice-aggregate-write-all
     (λ c κs. search needs)
     (λ c. search needs)
-    (λ c. search needs))
+    (λ c. search put-out))

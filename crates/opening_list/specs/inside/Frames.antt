@@ -1,9 +1,11 @@
 -- What the functions inside set up are told and promise: the frames of the opening list by their positions, a message entered, the header.
 -- The call's own contract does not cite this file.
-use mathlib.Core.Path.{_≡_}
 use Prim.Native.Nat.{ℕ, _+_, min}
+use mathlib.Core.Bool.{Bool, not}
 use mathlib.Core.List.{List}
+use lib.Dec.{eqb}
 use lib.ListN.{length, drop, getD}
+use Rattle.lists.specs.Lists.{beforeFirst}
 use Rattle.lists.specs.inside.Positions.{firstWhere}
 use Rattle.model.specs.declared.Message.{Message}
 use Rattle.frame.specs.Layout.{wholeLength}
@@ -11,7 +13,7 @@ use Rattle.memory.specs.declared.Settings.{Settings}
 use Rattle.memory.specs.declared.Header.{Header}
 use Rattle.gateway.specs.Undoing.{pendingEntry}
 use Rattle.gateway.specs.Rounds.{idle}
-use Rattle.gateway.specs.SettingUp.{settingsOf, cutFrames, firstRefusal}
+use Rattle.gateway.specs.SettingUp.{settingsOf, cutFrames, openingRefusal, firstRefusal}
 use Rattle.places.specs.inside.Searching.{passes, entriesIn}
 use Rattle.gateway.specs.declared.Opening.{Opening}
 use Rattle.places.specs.declared.search.Search.the-variants.{Later}
@@ -26,10 +28,13 @@ framesFrom list at = cutFrames (length (drop at list)) (drop at list)
 unfoldable pub frameEnd : List ℕ → ℕ → ℕ
 frameEnd list at = min (length list) (at + wholeLength (getD list at 0))
 
--- what the pass over the frames finds: the first refusal; and where there is none, how many they are
-pub record Checks (s : Settings) (frames : List (List ℕ)) (r : Checked) : Type 0 where
-  pub number : r .number ≡ firstRefusal s frames
-  pub count : r .number ≡ 0 → r .count ≡ length frames
+-- a frame that is refused
+abbrev pub refusedFrame : Settings → List ℕ → Bool
+refusedFrame s f = not (eqb (openingRefusal s f) 0)
+
+-- what the pass over the frames finds: the first refusal, or 0, and how many frames stand before it or in all
+abbrev pub checkedAs : Settings → List (List ℕ) → Checked
+checkedAs s frames = record { number = firstRefusal s frames; count = length (beforeFirst (refusedFrame s) frames) }
 
 -- the memory after a message has entered the first count queue places, behind those that are not later
 unfoldable pub memoryEntered : ℕ → Message → List ℕ → List ℕ

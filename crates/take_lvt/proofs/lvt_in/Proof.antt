@@ -1,5 +1,4 @@
 -- `take_lvt::lvt_in` meets its contract.
-use native.Mathlib.Omega.{arith}
 use Rattle.phases.proofs.Changing.{as-effect, still}
 use Rattle.take_lvt.proofs.Arriving.{all-lvts, more-lvts}
 use borrow.Author.Needs.{needs}
@@ -36,7 +35,7 @@ announce-requires : tie.Need-announce-requires
 announce-requires c κs =
     let at-changed = c .before .before .before in
     let start = at-changed .before .before .before .before .before in
-    (still _ _ (start .pre) (at-changed .changed .ensures), omega (arith, c .nobody .ensures .0))
+    (still _ _ (start .pre) (at-changed .changed .ensures), c .nobody .ensures .two)
 
 same-length-3 : tie.Need-same-length-3
 same-length-3 c = search needs

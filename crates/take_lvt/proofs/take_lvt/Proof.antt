@@ -45,7 +45,7 @@ returns-2 c =
     let at-is-idle = at-if1 .before in
     let start = at-is-idle .before .before .before .before .before in
     lvt-not-awaited _ _ (start .pre) _ _ (at-is-idle .is-idle .ensures) (at-told .told .result) (at-bit-of .bit-of .ensures .0)
-    (at-awaited .awaited .ensures) _ (at-if1 .if1 .left) (at-told .told .ensures .0) (at-if2 .if2 .taken) (c .refused2 .ensures)
+    (at-awaited .awaited .ensures) _ (at-if1 .if1 .left) (at-told .told .ensures .all) (at-if2 .if2 .taken) (c .refused2 .ensures)
 
 value-in-requires : tie.Need-value-in-requires
 value-in-requires c κs = search needs
@@ -91,7 +91,7 @@ returns-3 c =
     let at-is-idle = at-if1 .before in
     let start = at-is-idle .before .before .before .before .before in
     lvt-awaited _ _ (start .pre) (start .args .output .now) _ (at-is-idle .is-idle .ensures) (at-told .told .result)
-    (at-bit-of .bit-of .ensures .0) (at-awaited .awaited .ensures) _ (at-if1 .if1 .left) (at-told .told .ensures .0) (at-if2 .if2 .left)
+    (at-bit-of .bit-of .ensures .0) (at-awaited .awaited .ensures) _ (at-if1 .if1 .left) (at-told .told .ensures .all) (at-if2 .if2 .left)
     (at-all-bits .all-bits .ensures) (at-value-in .value-in .ensures) (at-lesser .lesser .ensures) (at-lvt-in .lvt-in .ensures)
 
 pub take-lvt-spec : {M : Type 1} → statement M

@@ -45,7 +45,7 @@ returns-2 c =
     let at-is-idle = at-if1 .before in
     let start = at-is-idle .before .before .before .before .before in
     start-not-awaited _ _ (start .pre) _ _ (at-is-idle .is-idle .ensures) (at-heard .heard .result) (at-bit-of .bit-of .ensures .0)
-    (at-awaited .awaited .ensures) (at-if1 .if1 .left) (at-heard .heard .ensures .0) (at-if2 .if2 .taken) (c .refused2 .ensures)
+    (at-awaited .awaited .ensures) (at-if1 .if1 .left) (at-heard .heard .ensures .all) (at-if2 .if2 .taken) (c .refused2 .ensures)
 
 all-bits-requires : tie.Need-all-bits-requires
 all-bits-requires c κs = search needs
@@ -83,7 +83,7 @@ returns-3 c =
     let at-is-idle = at-if1 .before in
     let start = at-is-idle .before .before .before .before .before in
     start-awaited _ _ (start .pre) (start .args .output .now) _ (at-is-idle .is-idle .ensures) (at-heard .heard .result)
-    (at-bit-of .bit-of .ensures .0) (at-awaited .awaited .ensures) (at-if1 .if1 .left) (at-heard .heard .ensures .0) (at-if2 .if2 .left)
+    (at-bit-of .bit-of .ensures .0) (at-awaited .awaited .ensures) (at-if1 .if1 .left) (at-heard .heard .ensures .all) (at-if2 .if2 .left)
     (at-all-bits .all-bits .ensures) (at-start-in .start-in .ensures)
 
 pub take-start-spec : {M : Type 1} → statement M

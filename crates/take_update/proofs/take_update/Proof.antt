@@ -37,7 +37,7 @@ announce-requires : tie.Need-announce-requires
 announce-requires c κs =
     let at-changed = c .before .before .before in
     let start = at-changed .before .before .before .before .before .before .before .before .before .before in
-    (still _ _ (start .pre) (at-changed .changed .ensures), c .children .ensures .1)
+    (still _ _ (start .pre) (at-changed .changed .ensures), c .children .ensures .two)
 
 same-length : tie.Need-same-length
 same-length c = search needs
@@ -55,7 +55,7 @@ returns-3 c =
     let at-if1 = at-if2 .before .before in
     let start = at-if1 .before .before .before .before .before .before in
     update-taken _ _ (start .pre) (start .args .output .now) _ _ _ (at-if1 .if1 .left) (at-if2 .if2 .left) (at-larger .larger .ensures)
-    (at-changed .changed .ensures) (at-children .children .ensures .0) (at-announce .announce .ensures)
+    (at-changed .changed .ensures) (at-children .children .ensures .all) (at-announce .announce .ensures)
 
 pub take-update-spec : {M : Type 1} → statement M
 take-update-spec =

@@ -12,7 +12,7 @@ same-length : tie.Need-same-length
 same-length c = search needs
 
 returns : tie.Need-returns
-returns c = work-unsound _ _ _ (c .before .before .checked .ensures .0) (c .if1 .taken)
+returns c = work-unsound _ _ _ (c .before .before .checked .ensures) (c .if1 .taken)
 
 work-off-requires : tie.Need-work-off-requires
 work-off-requires c κs = known _ (c .before .before .before .before .checked .ensures) (c .before .before .if1 .left)

@@ -1,5 +1,4 @@
 -- `announce::receivers::children` meets its contract.
-use native.Mathlib.Omega.{arith}
 use Rattle.announce.proofs.Neighbours.{no-child, one-child, two-children}
 use borrow.Author.Needs.{needs}
 use Rattle.announce.proofs.receivers.children.Statement.{statement}
@@ -15,7 +14,7 @@ nobody-requires : tie.Need-nobody-requires
 nobody-requires c κs = search needs
 
 returns : tie.Need-returns
-returns c = (search no-child, omega arith)
+returns c = search no-child
 
 add-if2 : tie.Need-add-if2
 add-if2 c = search needs
@@ -24,7 +23,7 @@ cast-t7 : tie.Need-cast-t7
 cast-t7 c = search needs
 
 returns-2 : tie.Need-returns-2
-returns-2 c = (search one-child, omega arith)
+returns-2 c = search one-child
 
 cast-t8 : tie.Need-cast-t8
 cast-t8 c = search needs
@@ -36,7 +35,7 @@ cast-t9 : tie.Need-cast-t9
 cast-t9 c = search needs
 
 returns-3 : tie.Need-returns-3
-returns-3 c = (search two-children, omega arith)
+returns-3 c = search two-children
 
 pub children-spec : {M : Type 1} → statement M
 children-spec =

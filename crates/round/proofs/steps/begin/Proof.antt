@@ -67,7 +67,7 @@ announce-requires : tie.Need-announce-requires
 announce-requires c κs =
     let at-changed = c .before .before .before in
     let start = at-changed .before .before .before .before .before .before .before .before .before .before .before .before in
-    (still _ _ (start .pre) (at-changed .changed .ensures), c .told .ensures .1)
+    (still _ _ (start .pre) (at-changed .changed .ensures), c .told .ensures .two)
 
 same-length-3 : tie.Need-same-length-3
 same-length-3 c = search needs
@@ -86,7 +86,7 @@ returns-2 c =
     let start = at-least-outstanding .before .before .before .before .before .before .before in
     as-effect (start .args .memory .now) (start .args .output .now) (at-announce .announce .ensures) (counting-on _ _ (start .pre)
     (at-changed .changed .ensures) _ _ (at-if1 .if1 .left) (at-least-outstanding .least-outstanding .ensures) refl
-    (at-counting .counting .ensures) (at-told .told .ensures .0))
+    (at-counting .counting .ensures) (at-told .told .ensures .all))
 
 pub begin-spec : {M : Type 1} → statement M
 begin-spec =

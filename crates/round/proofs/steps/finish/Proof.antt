@@ -21,7 +21,7 @@ announce-requires : tie.Need-announce-requires
 announce-requires c κs =
     let at-changed = c .before .before .before in
     let start = at-changed .before .before .before .before .before .before .before in
-    (still _ _ (start .pre) (at-changed .changed .ensures), c .children .ensures .1)
+    (still _ _ (start .pre) (at-changed .changed .ensures), c .children .ensures .two)
 
 same-length : tie.Need-same-length
 same-length c = search needs
@@ -38,7 +38,7 @@ returns c =
     let at-if1 = at-no-round .before in
     let start = at-if1 .before .before .before .before .before in
     as-effect (start .args .memory .now) (start .args .output .now) (at-announce .announce .ensures) (closing _ _ (start .pre)
-    (at-changed .changed .ensures) _ _ (at-if1 .if1 .taken) refl (at-no-round .no-round .ensures) (at-children .children .ensures .0))
+    (at-changed .changed .ensures) _ _ (at-if1 .if1 .taken) refl (at-no-round .no-round .ensures) (at-children .children .ensures .all))
 
 no-round-requires-2 : tie.Need-no-round-requires-2
 no-round-requires-2 c κs = search needs
@@ -53,7 +53,7 @@ announce-requires-2 : tie.Need-announce-requires-2
 announce-requires-2 c κs =
     let at-changed2 = c .before .before .before in
     let start = at-changed2 .before .before .before .before .before .before .before in
-    (still _ _ (start .pre) (at-changed2 .changed2 .ensures), c .heard .ensures .1)
+    (still _ _ (start .pre) (at-changed2 .changed2 .ensures), c .heard .ensures .two)
 
 same-length-3 : tie.Need-same-length-3
 same-length-3 c = search needs
@@ -70,7 +70,7 @@ returns-2 c =
     let at-if1 = at-no-round2 .before in
     let start = at-if1 .before .before .before .before .before in
     as-effect (start .args .memory .now) (start .args .output .now) (at-announce2 .announce2 .ensures) (passing-on _ _ (start .pre)
-    (at-changed2 .changed2 .ensures) _ _ (at-if1 .if1 .left) refl (at-no-round2 .no-round2 .ensures) (at-heard .heard .ensures .0))
+    (at-changed2 .changed2 .ensures) _ _ (at-if1 .if1 .left) refl (at-no-round2 .no-round2 .ensures) (at-heard .heard .ensures .all))
 
 pub finish-spec : {M : Type 1} → statement M
 finish-spec =
