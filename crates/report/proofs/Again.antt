@@ -73,7 +73,7 @@ rewritten {f} {m} (wrote v l) e = record {
 rewritten (crowded v l) e = absurd (omega arith)
 rewritten (formless v) e = absurd (omega arith)
 
-module _ (f : Frame) (item m : List ℕ) {out : List ℕ} {a : WriteAnswer} (w : outcomeOf a out ≡ writing f m) where
+module _ (f : Frame) (item m : List ℕ) {out : List ℕ} (a : WriteAnswer) (w : outcomeOf a out ≡ writing f m) where
   came : Writes f m (answerNumber a) (answerCount a) out
   came = subst (λ (o : WriteOutcome). Writes f m (o .number) (o .count) (o .output)) (sym w) (writes f m)
 
