@@ -25,7 +25,7 @@ fn main() -> ExitCode {
     for gap in &gaps {
         println!("{gap}");
     }
-    println!("{count} seeds from {seed} on: no difference, {} gaps", gaps.len());
+    println!("seeds from {seed} on, {count} of them: no difference, {} gaps", gaps.len());
     if gaps.is_empty() {
         ExitCode::SUCCESS
     } else {
