@@ -1,3 +1,4 @@
 -- Laws and proofs of what several calls share.
 pub mod Stores
 pub mod PlacedLaws
+pub mod StoredFrames

@@ -5,7 +5,7 @@ use Prim.Native.Nat.{ℕ, suc, _+_, _-_, _*_, _≤_, _<_}
 use native.Mathlib.Nat.{add-zero}
 use native.Mathlib.Omega.{arith}
 use mathlib.Core.Bool.{Bool}
-use mathlib.Core.List.{List, [], _∷_, _++_}
+use mathlib.Core.List.{List, [], _∷_, _++_, map}
 use lib.ListN.{length, getD, take, drop, length-append}
 use lib.Seq.{take-at, drop-at, split-at}
 use Rattle.lists.specs.Lists.{joined, All, nil, cons}
@@ -34,7 +34,7 @@ use Rattle.memory.proofs.Changes.{queueWritten, outstandingWritten, queue-over,
 use Rattle.gateway.specs.Effects.{withQueue, withState, withAgreed, withRound, loweredIn, noted, sentOne}
 use Rattle.gateway.specs.inside.Premises.{Known}
 use Rattle.memory.proofs.Places.{place-at}
-use Rattle.effects.specs.inside.Sending.{headerSent}
+use Rattle.effects.specs.inside.Sending.{headerSent, frameOf, storedFrames}
 use Rattle.effects.specs.inside.Placed.{Placed}
 
 -- sound memory as a call finds it
@@ -109,6 +109,22 @@ module _ {before memory : List ℕ} {h : Header} {g : Gateway} (p : Placed befor
         q = p .fits .header .settings .q;
         u = p .fits .header .settings .u;
       })
+
+  -- the frames of what is outstanding from some place on
+  pub placed-frames : (old new : List Sent) → g .outstanding ≡ old ++ new → {place count : ℕ} → place ≡ outstandingAt (g .settings .q) (length
+      old) → count ≡ length new → storedFrames memory place count ≡ map frameOf new
+  placed-frames old new e {place} {count} at n =
+      let from = outstandingAt (g .settings .q) 0 in
+      let k = length old in
+      let all = rw (e, length-append) at (read-stored sentBytes sentOf outstandingSize memory from (all-map sent-kept (p .fits .outstanding))
+      placed-outstanding) in
+      let cut = read-add sentOf outstandingSize memory from k (length new) in
+      let first = placesAt sentOf outstandingSize memory from k in
+      let rest = placesAt sentOf outstandingSize memory (from + outstandingSize * k) (length new) in
+      let there : place ≡ from + outstandingSize * k = omega arith in
+      rw (there, n)
+      (ap (map frameOf) (sym (drop-at first rest k (length-read sentOf outstandingSize memory from k)) ∙ (ap (drop k) (sym cut ∙ all) ∙ drop-at
+      old new k refl)))
 
   -- finishing: the header written over it
   pub placed-last : {after : List ℕ} → after ≡ write 6 (headerBack h) (write 0 (headerFront h) memory) → after ≡ encode g before

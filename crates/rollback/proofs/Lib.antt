@@ -4,3 +4,4 @@ pub mod SentMessages
 pub mod RoomLaws
 pub mod UndoLaws
 pub mod Settling
+pub mod StoredCancels

@@ -1,21 +1,24 @@
 -- Laws of undoing events on a gateway as a record of lists: one more event undone, what stays, and how much is sent.
 use mathlib.Core.Path.{_≡_, refl, sym, _∙_, ap}
 use mathlib.Core.Bool.{Bool, true, false, cond}
-use mathlib.Core.List.{List, [], _∷_, _++_, append-nil, append-assoc}
+use mathlib.Core.List.{List, [], _∷_, _++_, map, append-nil, append-assoc}
 use Prim.Native.Nat.{_+_}
-use native.Mathlib.Omega.{arith}
-use lib.ListN.{length, length-append}
-use Rattle.lists.proofs.ListLaws.{joined-append}
+use lib.ListN.{length, length-append, length-map}
 use Rattle.model.specs.Doing.{sent}
 use Rattle.model.specs.declared.Message.{Message}
 use Rattle.model.specs.declared.State.{State}
 use Rattle.model.specs.declared.Site.{Site}
-use Rattle.frame.specs.Writing.{written}
 use Rattle.memory.specs.Records.{Gateway, siteOf}
 use Rattle.memory.specs.Validity.{isProcessed, frameIf}
 use Rattle.memory.specs.declared.Entry.{Entry}
-use Rattle.gateway.specs.Effects.{bytesOfFrames, framesFor, withQueue, withState, sentOne, sentAll}
+use Rattle.memory.specs.declared.Sent.{Sent}
+use Rattle.gateway.specs.Effects.{framesFor, withQueue, withState, sentOne, sentAll}
 use Rattle.gateway.specs.Undoing.{processedOf, restored, sentBack, rolledBack}
+use Rattle.effects.specs.inside.Sending.{frameOf}
+
+-- a message or its cancel as it is outstanding
+abbrev pub sentAs : Bool → Message → Sent
+sentAs cancel m = record { message = m; cancel = cancel }
 
 -- sending some and then others
 pub sent-append : (cancel : Bool) (ms ns : List Message) (g : Gateway) → sentAll cancel (ms ++ ns) g ≡ sentAll cancel ns (sentAll cancel ms g)
@@ -45,10 +48,18 @@ module _ (cancel : Bool) where
   sent-queue [] g = refl
   sent-queue (m ∷ ms) g = sent-queue ms (sentOne cancel m g)
 
-  pub sent-outstanding : (ms : List Message) (g : Gateway) → length (sentAll cancel ms g .outstanding) ≡ length (g .outstanding) + length ms
+  -- they stand behind what was outstanding
+  pub sent-behind : (ms : List Message) (g : Gateway) → sentAll cancel ms g .outstanding ≡ g .outstanding ++ map (sentAs cancel) ms
   unfolding sentAll sentOne
-  sent-outstanding [] g = omega arith
-  sent-outstanding (m ∷ ms) g = sent-outstanding ms (sentOne cancel m g) ∙ rw length-append (omega arith)
+  sent-behind [] g = sym (append-nil (g .outstanding))
+  sent-behind (m ∷ ms) g = sent-behind ms (sentOne cancel m g) ∙ append-assoc (g .outstanding) (sentAs cancel m ∷ []) (map (sentAs cancel) ms)
+
+  pub sent-outstanding : (ms : List Message) (g : Gateway) → length (sentAll cancel ms g .outstanding) ≡ length (g .outstanding) + length ms
+  sent-outstanding ms g = ap length (sent-behind ms g) ∙ rw (length-append, length-map)
+
+  pub frames-of : (ms : List Message) → map frameOf (map (sentAs cancel) ms) ≡ framesFor cancel ms
+  frames-of [] = refl
+  frames-of (m ∷ ms) = ap (_∷_ (frameIf cancel m)) (frames-of ms)
 
 -- what undoing leaves as it was, and how many more are outstanding
 module _ (es : List Entry) (g : Gateway) where
@@ -63,6 +74,10 @@ module _ (es : List Entry) (g : Gateway) where
   pub rolled-outstanding : length (rolledBack es g .outstanding) ≡ length (g .outstanding) + length (sentBack (siteOf (g .settings)) es)
   unfolding rolledBack
   rolled-outstanding = sent-outstanding true (sentBack (siteOf (g .settings)) es) (withState (restored (g .state) es) g)
+
+  pub rolled-behind : rolledBack es g .outstanding ≡ g .outstanding ++ map (sentAs true) (sentBack (siteOf (g .settings)) es)
+  unfolding rolledBack
+  rolled-behind = sent-behind true (sentBack (siteOf (g .settings)) es) (withState (restored (g .state) es) g)
 
   pub rolled-with-queue : (queue : List Entry) → rolledBack es (withQueue queue g) ≡ withQueue queue (rolledBack es g)
   unfolding rolledBack
@@ -129,11 +144,3 @@ back-append site (e ∷ es) fs =
     ∙ (ap (λ (ms : List Message). ms ++ sentBack site (processedOf (e ∷ []))) (back-append site es fs)
     ∙ (append-assoc (sentBack site (processedOf fs)) (sentBack site (processedOf es)) (sentBack site (processedOf (e ∷ [])))
     ∙ ap (_++_ (sentBack site (processedOf fs))) (sym (back-more e site es))))
-
-frames-append : (cancel : Bool) (ms ns : List Message) → framesFor cancel (ms ++ ns) ≡ framesFor cancel ms ++ framesFor cancel ns
-frames-append cancel [] ns = refl
-frames-append cancel (m ∷ ms) ns = ap (_∷_ (frameIf cancel m)) (frames-append cancel ms ns)
-
-pub bytes-more : (cancel : Bool) (ms ns : List Message) → bytesOfFrames (framesFor cancel (ms ++ ns)) ≡ bytesOfFrames (framesFor cancel ms)
-    ++ bytesOfFrames (framesFor cancel ns)
-bytes-more cancel ms ns = rw (frames-append cancel ms ns) (joined-append written (framesFor cancel ms) (framesFor cancel ns))

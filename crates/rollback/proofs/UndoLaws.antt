@@ -8,92 +8,54 @@ use native.Mathlib.Omega.{arith}
 use lib.ListN.{length, take, drop, getD, length-append, take-append-drop, drop-of-length-le}
 use lib.Seq.{take-suc, drop-cons, getD-append-add, length-take-le, take-all, drop-drop}
 use borrow.Author.Tests.{not-true, not-false}
-use Rattle.lists.specs.Lists.{All, cons, joined}
+use Rattle.lists.specs.Lists.{All, cons}
 use Rattle.lists.proofs.ListLaws.{all-right}
 use Rattle.buffer.specs.Slice.{part, write}
-use Rattle.buffer.proofs.Writes.{write-nil, write-join, length-write}
 use Rattle.model.specs.Doing.{sent, replyTo}
 use Rattle.model.proofs.Sending.{reply-sends}
 use Rattle.model.specs.declared.Message.{Message}
 use Rattle.model.specs.declared.Site.{Site}
 use Rattle.model.specs.declared.event.Reply.{Reply}
-use Rattle.frame.specs.Writing.{written}
-use Rattle.memory.specs.Layout.{queueAt, queueSize}
+use Rattle.memory.specs.Layout.{queueAt, queueSize, outstandingAt, outstandingSize}
 use Rattle.memory.specs.Records.{Gateway, siteOf}
-use Rattle.memory.specs.Codec.{entryOf, entryBytes}
-use Rattle.memory.specs.Validity.{isProcessed, processedMark, frameIf}
+use Rattle.memory.specs.Codec.{entryOf, entryBytes, sentBytes}
+use Rattle.memory.specs.Validity.{isProcessed, processedMark}
 use Rattle.memory.specs.inside.Fits.{MessageFits, EntryFits}
 use Rattle.memory.specs.declared.Entry.{Entry}
 use Rattle.memory.specs.declared.Header.{Header}
-use Rattle.gateway.specs.Effects.{bytesOfFrames, framesFor, withQueue, withState, sentAll}
-use Rattle.gateway.specs.Undoing.{processedOf, pendingEntry, undone, sentBack, rolledBack}
+use Rattle.gateway.specs.Effects.{withQueue, withState, sentAll}
+use Rattle.gateway.specs.Undoing.{processedOf, pendingEntry, undone, rolledBack}
 use Rattle.effects.specs.inside.Placed.{Placed}
-use Rattle.effects.specs.declared.Sending.{Sending}
-use Rattle.effects.proofs.Stores.{MaySend, Sends}
+use Rattle.effects.specs.inside.Sending.{headerSent}
 use Rattle.effects.proofs.PlacedLaws.{placed-inside, placed-count, placed-entry, placed-state, placed-sent, placed-replaced}
-use Rattle.rollback.specs.inside.Undone.{sentByEntries, MaySendBack, AfterCancels, Between, undoneFrom}
+use Rattle.rollback.specs.inside.Undone.{sentByEntries, MaySendBack, Between, undoneFrom}
 use Rattle.rollback.proofs.RollbackLaws.{processed-one, processed-no, back-one, back-more, back-append, rolled-none, rolled-one}
-use Rattle.rollback.proofs.RollbackLaws.{rolled-more, rolled-settings, rolled-outstanding, rolled-with-queue, bytes-more}
+use Rattle.rollback.proofs.RollbackLaws.{rolled-more, rolled-settings, rolled-outstanding, rolled-with-queue}
 use Rattle.rollback.proofs.SentMessages.{Cancelled, sent-cancelled}
-
--- the bytes of the cancels of some messages
-abbrev pub cancelBytes : List Message → List ℕ
-cancelBytes ms = bytesOfFrames (framesFor true ms)
 
 all-first : {p : Entry → Type 0} {x : Entry} {xs : List Entry} → All p (x ∷ xs) → p x
 all-first (cons h hs) = h
 
--- some cancels and then others
-module _ {before output middle m : List ℕ} {g : Gateway} {s r : Sending} {ms : List Message} (ns : List Message)
-    (room : s .written + length (cancelBytes (ms ++ ns)) ≤ length output) (first : AfterCancels before g m output middle s ms r) where
-  both-bytes : length (cancelBytes (ms ++ ns)) ≡ length (cancelBytes ms) + length (cancelBytes ns)
-  both-bytes = rw (bytes-more true ms ns) (length-append (cancelBytes ms) (cancelBytes ns))
-
-  first-room : s .written + length (cancelBytes ms) ≤ length output
-  first-room = omega (arith, both-bytes)
-
-  middle-long : length middle ≡ length output
-  middle-long = rw (first .put) (length-write (s .written) (cancelBytes ms) output first-room)
-
-  pub bytes-left : r .written + length (cancelBytes ns) ≤ length middle
-  bytes-left = rw middle-long (omega (arith, both-bytes, first .position))
-
-  pub back-joined : {m′ output′ : List ℕ} {g′ : Gateway} {r′ : Sending} → AfterCancels before g′ m′ middle output′ r ns r′ → AfterCancels
-      before g′ m′ output output′ s (ms ++ ns) r′
-  back-joined second = record {
-    placed = second .placed;
-    put =
-        second .put
-        ∙ (rw (first .position, first .put, bytes-more true ms ns) (write-join (s .written) (cancelBytes ms) (cancelBytes ns) output first-room));
-    position = omega (arith, both-bytes, first .position, second .position);
-  }
-
 -- an event, if it is processed
-module _ {before memory output : List ℕ} {g : Gateway} {s : Sending} {e : Entry} (fits : EntryFits e)
-    (may : MaySendBack before g memory output s (sentByEntries g (e ∷ []))) {processed : Bool} (test : processed ≡ processedMark (e .mark)) where
-  pub left-alone : not processed ≡ true → AfterCancels before (rolledBack (processedOf (e ∷ [])) g) memory output output s (sentByEntries g (e ∷ [])) s
-  unfolding sentBack joined
-  left-alone h =
-      rw (processed-no e (sym test ∙ not-true processed h))
-      (record { placed = rw (rolled-none g) (may .placed); put = sym (write-nil (s .written) output); position = omega arith })
+module _ {before memory : List ℕ} {g : Gateway} {header : Header} {e : Entry} (fits : EntryFits e)
+    (may : MaySendBack before g memory header (sentByEntries g (e ∷ []))) {processed : Bool} (test : processed ≡ processedMark (e .mark)) where
+  pub left-alone : not processed ≡ true → Placed before memory header (rolledBack (processedOf (e ∷ [])) g)
+  left-alone h = rw (processed-no e (sym test ∙ not-true processed h), rolled-none g) (may .placed)
 
-  module _ (h : not processed ≡ false) {site : Site} (site-is : site ≡ siteOf (s .header .settings)) (reply : Reply)
+  module _ (h : not processed ≡ false) {site : Site} (site-is : site ≡ siteOf (header .settings)) (reply : Reply)
       (gives : reply ≡ replyTo site (e .before) (e .message)) where
     -- the state before it
-    abbrev restored : Sending
+    abbrev restored : Header
     restored = record {
-      header = record {
-        settings = s .header .settings;
-        state = e .before;
-        agreed = s .header .agreed;
-        round = s .header .round;
-        queued = s .header .queued;
-        outstanding = s .header .outstanding;
-      };
-      written = s .written;
+      settings = header .settings;
+      state = e .before;
+      agreed = header .agreed;
+      round = header .round;
+      queued = header .queued;
+      outstanding = header .outstanding;
     }
 
-    settings-are : s .header .settings ≡ g .settings
+    settings-are : header .settings ≡ g .settings
     settings-are = ap (λ (x : Header). x .settings) (may .placed .header)
 
     is-processed : processedOf (e ∷ []) ≡ e ∷ []
@@ -108,17 +70,14 @@ module _ {before memory output : List ℕ} {g : Gateway} {s : Sending} {e : Entr
     rolled : rolledBack (processedOf (e ∷ [])) g ≡ sentAll true (cond (reply .sends) (reply .sent ∷ []) []) (withState (e .before) g)
     rolled = rw is-processed (rolled-one e g ∙ rw had-sent)
 
-    placed-restored : Placed before memory (restored .header) (withState (e .before) g)
+    placed-restored : Placed before memory restored (withState (e .before) g)
     placed-restored = placed-state (may .placed) (fits .before) refl
 
-    pub only-restored : not (reply .sends) ≡ true → AfterCancels before (rolledBack (processedOf (e ∷ [])) g) memory output output s
-        (sentByEntries g (e ∷ [])) restored
-    unfolding joined sentAll
-    only-restored k =
-        rw (rolled, messages, not-true (reply .sends) k)
-        (record { placed = placed-restored; put = sym (write-nil (s .written) output); position = omega arith })
+    pub only-restored : not (reply .sends) ≡ true → Placed before memory restored (rolledBack (processedOf (e ∷ [])) g)
+    unfolding sentAll
+    only-restored k = rw (rolled, not-true (reply .sends) k) placed-restored
 
-    module _ (k : not (reply .sends) ≡ false) where
+    module _ (k : not (reply .sends) ≡ false) {place : ℕ} (at : place ≡ outstandingAt (header .settings .q) (header .outstanding)) where
       one-message : sentByEntries g (e ∷ []) ≡ reply .sent ∷ []
       one-message = messages ∙ rw (not-false (reply .sends) k)
 
@@ -133,45 +92,35 @@ module _ {before memory output : List ℕ} {g : Gateway} {s : Sending} {e : Entr
       places-left : length (g .outstanding) + 1 ≤ g .settings .u
       places-left = rw one-message at (may .places)
 
-      outstanding-is : s .header .outstanding ≡ length (g .outstanding)
+      outstanding-is : header .outstanding ≡ length (g .outstanding)
       outstanding-is = ap (λ (x : Header). x .outstanding) (may .placed .header)
 
-      place-left : s .header .outstanding < s .header .settings .u
+      place-left : header .outstanding < header .settings .u
       place-left = rw settings-are (omega (arith, places-left, outstanding-is))
 
-      one-bytes : cancelBytes (reply .sent ∷ []) ≡ written (frameIf true (reply .sent))
-      unfolding joined
-      one-bytes = append-nil (written (frameIf true (reply .sent)))
+      -- there is an outstanding place for it
+      pub place-free : place + outstandingSize ≤ length memory
+      place-free = let i = placed-inside (may .placed) in omega (arith, i .long, at, place-left)
 
-      bytes-room : s .written + length (written (frameIf true (reply .sent))) ≤ length output
-      bytes-room = rw (one-message, one-bytes) at (may .bytes)
+      pub counted : header .outstanding < 65535
+      counted = let i = placed-inside (may .placed) in omega (arith, i .u, place-left)
 
-      pub may-send : MaySend memory output restored true (reply .sent)
-      may-send =
-          let i = placed-inside (may .placed) in
-          let p = place-left in
-          record { place = omega (arith, i .long); counted = omega (arith, i .u); room = bytes-room }
-
-      pub sent-one : {memory′ output′ : List ℕ} {r : Sending} → Sends memory output memory′ output′ restored true (reply .sent) r
-          → AfterCancels before (rolledBack (processedOf (e ∷ [])) g) memory′ output output′ s (sentByEntries g (e ∷ [])) r
+      pub sent-one : {memory′ : List ℕ} {r : Header} → memory′ ≡ write place (sentBytes (record { message = reply .sent; cancel = true })) memory
+          → r ≡ headerSent (reply .sent .hour) restored → Placed before memory′ r (rolledBack (processedOf (e ∷ [])) g)
       unfolding sentAll
-      sent-one x =
-          rw (rolled, one-message, not-false (reply .sends) k)
-          (record {
-            placed = placed-sent placed-restored true (reply .sent) (the-fits all-cancelled) place-left (x .stored) (x .header);
-            put = x .put ∙ rw one-bytes;
-            position = x .position ∙ rw one-bytes;
-          })
+      sent-one stored is =
+          rw (rolled, not-false (reply .sends) k)
+          (placed-sent placed-restored true (reply .sent) (the-fits all-cancelled) place-left (rw at at stored) is)
 
 -- the entry in a queue place
-module _ {before memory output : List ℕ} {g : Gateway} {s : Sending} {k : ℕ} {xs : List Entry} {e : Entry} {zs : List Entry} (b : Between k (g .queue) xs e zs)
-    (may : MaySendBack before g memory output s (sentByEntries g (e ∷ []))) where
+module _ {before memory : List ℕ} {g : Gateway} {header : Header} {k : ℕ} {xs : List Entry} {e : Entry} {zs : List Entry} (b : Between k (g .queue) xs e zs)
+    (may : MaySendBack before g memory header (sentByEntries g (e ∷ []))) where
   counts : length (g .queue) ≡ k + suc (length zs)
   counts = rw (b .cut, length-append, b .place)
 
   -- it lies inside the memory
   pub record PlaceInside : Type 0 where
-    pub below : k < s .header .queued
+    pub below : k < header .queued
     pub long : queueAt k + queueSize ≤ length memory
     pub small : k < 65536
 
@@ -193,14 +142,12 @@ module _ {before memory output : List ℕ} {g : Gateway} {s : Sending} {k : ℕ}
       all-first (all-right xs (e ∷ zs) all)
 
   pub place-alone : {x : Entry} {processed : Bool} → x ≡ entryOf (part memory (queueAt k) queueSize) → processed ≡ processedMark (x .mark) →
-      not processed ≡ true
-      → AfterCancels before (withQueue (xs ++ (undone e ∷ zs)) (rolledBack (processedOf (e ∷ [])) g)) memory output output s (sentByEntries g (e ∷ [])) s
-  unfolding undone sentBack joined
+      not processed ≡ true → Placed before memory header (withQueue (xs ++ (undone e ∷ zs)) (rolledBack (processedOf (e ∷ [])) g))
+  unfolding undone
   place-alone {x} {processed} p test h =
       let same = entry-there p in
       let no : isProcessed e ≡ false = ap (λ (y : Entry). processedMark (y .mark)) (sym same) ∙ (sym test ∙ not-true processed h) in
-      rw (processed-no e no, rolled-none g, no, ← b .cut)
-      (record { placed = may .placed; put = sym (write-nil (s .written) output); position = omega arith })
+      rw (processed-no e no, rolled-none g, no, ← b .cut) (may .placed)
 
   module _ {x : Entry} {processed : Bool} (p : x ≡ entryOf (part memory (queueAt k) queueSize)) (test : processed ≡ processedMark (x .mark)) (h
       : not processed ≡ false)
@@ -222,45 +169,40 @@ module _ {before memory output : List ℕ} {g : Gateway} {s : Sending} {k : ℕ}
         in
         subst EntryFits (ap (λ (y : Entry). pendingEntry (y .message)) (sym (entry-there p)) ∙ (sym is-pending ∙ new-is)) f
 
-    pub may-undo : EntryFits x × MaySendBack before placeUndone memory′ output s (sentByEntries placeUndone (x ∷ []))
+    pub may-undo : EntryFits x × MaySendBack before placeUndone memory′ header (sentByEntries placeUndone (x ∷ []))
     may-undo =
         let same = entry-there p in (
           rw same entry-fits,
           rw same (record {
             placed = placed-replaced (may .placed) xs e zs (b .cut) (undone e) new-fits (sym (b .place)) (stored ∙ rw new-is);
             places = may .places;
-            bytes = may .bytes;
           }),
         )
 
-    pub place-undone : {memory″ output′ : List ℕ} {r : Sending}
-        → AfterCancels before (rolledBack (processedOf (x ∷ [])) placeUndone) memory″ output output′ s (sentByEntries placeUndone (x ∷ [])) r
-        → AfterCancels before (withQueue (xs ++ (undone e ∷ zs)) (rolledBack (processedOf (e ∷ [])) g)) memory″ output output′ s (sentByEntries g (e ∷ [])) r
+    pub place-undone : {memory″ : List ℕ} {r : Header} → Placed before memory″ r (rolledBack (processedOf (x ∷ [])) placeUndone)
+        → Placed before memory″ r (withQueue (xs ++ (undone e ∷ zs)) (rolledBack (processedOf (e ∷ [])) g))
     place-undone d = rw (entry-there p, rolled-with-queue (processedOf (e ∷ [])) g (xs ++ (undone e ∷ zs))) at d
 
 -- the events from a queue place on: those from place left on are undone
-pub record UndoneTo (before : List ℕ) (g : Gateway) (memory output output′ : List ℕ) (s : Sending) (left : ℕ) (r : Sending) : Type 0 where
+pub record UndoneTo (before : List ℕ) (g : Gateway) (memory : List ℕ) (left : ℕ) (r : Header) : Type 0 where
   pub place : left ≤ length (g .queue)
-  pub back : AfterCancels before (undoneFrom left g) memory output output′ s (sentByEntries g (drop left (g .queue))) r
+  pub back : Placed before memory r (undoneFrom left g)
 
-module _ {before memory output : List ℕ} {g : Gateway} {s : Sending} {k : ℕ} (low : k ≤ length (g .queue))
-    (may : MaySendBack before g memory output s (sentByEntries g (drop k (g .queue)))) where
+module _ {before memory : List ℕ} {g : Gateway} {header : Header} {k : ℕ} (low : k ≤ length (g .queue))
+    (may : MaySendBack before g memory header (sentByEntries g (drop k (g .queue)))) where
   none-behind : {left : ℕ} → length (g .queue) ≤ left → drop left (g .queue) ≡ []
   none-behind {left} h = drop-of-length-le (g .queue) h
 
-  pub undo-start : {left : ℕ} → left ≡ s .header .queued → UndoneTo before g memory output output s left s
-  unfolding undoneFrom processedOf sentBack joined
+  pub undo-start : {left : ℕ} → left ≡ header .queued → UndoneTo before g memory left header
+  unfolding undoneFrom processedOf
   undo-start {left} e =
       let n = placed-count (may .placed) in
       let none : drop left (g .queue) ≡ [] = none-behind {left = left} (omega arith) in
       let all : take left (g .queue) ≡ g .queue = take-all left (g .queue) (omega arith) in
-      record {
-        place = omega arith;
-        back = rw (none, all, append-nil, rolled-none g) (record { placed = may .placed; put = sym (write-nil (s .written) output); position = omega arith });
-      }
+      record { place = omega arith; back = rw (none, all, append-nil, rolled-none g) (may .placed) }
 
   -- the place before
-  module _ {memory′ output′ : List ℕ} {r : Sending} {left : ℕ} (above : k < left) (so-far : UndoneTo before g memory′ output output′ s left r) where
+  module _ {memory′ : List ℕ} {r : Header} {left : ℕ} (above : k < left) (so-far : UndoneTo before g memory′ left r) where
     one-down : suc (left - 1) ≡ left
     one-down = omega arith
 
@@ -311,12 +253,6 @@ module _ {before memory output : List ℕ} {g : Gateway} {s : Sending} {k : ℕ}
           ap (sentByEntries g) in-two
           ∙ (back-append (siteOf (g .settings)) skipped (drop (left - 1) (g .queue)) ∙ ap (λ (ms : List Message). ms ++ sentByEntries g skipped) from-here)
 
-      bytes-here : s .written + length (cancelBytes (behind ++ one)) ≤ length output
-      bytes-here =
-          let a = bytes-more true (behind ++ one) (sentByEntries g skipped) in
-          let b : s .written + length (cancelBytes ((behind ++ one) ++ sentByEntries g skipped)) ≤ length output = rw whole at (may .bytes) in
-          omega (arith, simp length-append at (ap length a))
-
       settings-there : gatewayAt .settings ≡ g .settings
       unfolding undoneFrom
       settings-there = rolled-settings (processedOf (drop left (g .queue))) g
@@ -332,10 +268,8 @@ module _ {before memory output : List ℕ} {g : Gateway} {s : Sending} {k : ℕ}
       one-there : sentByEntries gatewayAt (entryAt d ∷ []) ≡ one
       one-there = rw settings-there
 
-      pub may-here : MaySendBack before gatewayAt memory′ output′ r (sentByEntries gatewayAt (entryAt d ∷ []))
-      may-here =
-          rw one-there
-          (record { placed = so-far .back .placed; places = places-here; bytes = bytes-left one bytes-here (so-far .back) })
+      pub may-here : MaySendBack before gatewayAt memory′ r (sentByEntries gatewayAt (entryAt d ∷ []))
+      may-here = rw one-there (record { placed = so-far .back; places = places-here })
 
       gateway-next : withQueue (take (left - 1) (g .queue) ++ (undone (entryAt d) ∷ map undone (drop left (g .queue)))) (rolledBack
           (processedOf (entryAt d ∷ [])) gatewayAt) ≡ undoneFrom (left - 1) g
@@ -346,16 +280,12 @@ module _ {before memory output : List ℕ} {g : Gateway} {s : Sending} {k : ℕ}
           (rolled-with-queue (processedOf (entryAt d ∷ [])) (rolledBack (processedOf (drop left (g .queue))) g) (take left (g .queue) ++ map
           undone (drop left (g .queue)))))
 
-      pub undo-turn : {memory″ output″ : List ℕ} {r′ : Sending}
-          → AfterCancels before (withQueue (take (left - 1) (g .queue) ++ (undone (entryAt d) ∷ map undone (drop left (g .queue))))
-          (rolledBack (processedOf (entryAt d ∷ [])) gatewayAt)) memory″ output′ output″ r
-          (sentByEntries gatewayAt (entryAt d ∷ [])) r′
-          → UndoneTo before g memory″ output output″ s (left - 1) r′
-      undo-turn x = record {
-        place = omega (arith, so-far .place);
-        back = rw from-here (back-joined one bytes-here (so-far .back) (rw (gateway-next, one-there) at x));
-      }
+      pub undo-turn : {memory″ : List ℕ} {r′ : Header}
+          → Placed before memory″ r′ (withQueue (take (left - 1) (g .queue) ++ (undone (entryAt d) ∷ map undone (drop left (g .queue))))
+          (rolledBack (processedOf (entryAt d ∷ [])) gatewayAt))
+          → UndoneTo before g memory″ (left - 1) r′
+      undo-turn x = record { place = omega (arith, so-far .place); back = rw gateway-next at x }
 
-  pub undo-end : {memory′ output′ : List ℕ} {r : Sending} {left : ℕ} → k ≤ left → left ≤ k → UndoneTo before g memory′ output output′ s left r
-      → AfterCancels before (undoneFrom k g) memory′ output output′ s (sentByEntries g (drop k (g .queue))) r
+  pub undo-end : {memory′ : List ℕ} {r : Header} {left : ℕ} → k ≤ left → left ≤ k → UndoneTo before g memory′ left r → Placed before memory′ r
+      (undoneFrom k g)
   undo-end {left} a b x = let e : left ≡ k = omega arith in rw e at (x .back)

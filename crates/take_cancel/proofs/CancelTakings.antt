@@ -1,5 +1,5 @@
 -- A law for each branch of taking a cancel.
-use mathlib.Core.Path.{_≡_, sym, _∙_}
+use mathlib.Core.Path.{_≡_, refl, sym, _∙_}
 use mathlib.Core.Bool.{Bool, true, false, not, _&&_}
 use mathlib.Core.List.{List, [], _∷_, _++_, append-nil}
 use Prim.Native.Nat.{ℕ, _+_, _-_, _*_, _≤_, _<_}
@@ -12,14 +12,13 @@ use Rattle.lists.specs.inside.Positions.{firstWhere, pastLast}
 use Rattle.lists.specs.Lists.{any, joined}
 use Rattle.lists.proofs.PositionLaws.{first-bound, before-first, from-first}
 use Rattle.lists.proofs.ListLaws.{all-right}
-use Rattle.buffer.proofs.Writes.{length-write, write-join}
 use Rattle.buffer.specs.Slice.{Bytes, write, Puts}
 use Rattle.model.specs.declared.Message.{Message}
 use Rattle.frame.specs.Layout.{wholeLength}
 use Rattle.frame.specs.Kinds.{mapOf}
 use Rattle.frame.specs.Writing.{written}
 use Rattle.frame.specs.declared.Frame.{Frame}
-use Rattle.memory.specs.Layout.{queueAt, queueSize}
+use Rattle.memory.specs.Layout.{queueAt, queueSize, outstandingAt, outstandingSize}
 use Rattle.memory.specs.Records.{Gateway, siteOf}
 use Rattle.memory.specs.Codec.{placesAt, entryOf, headerFront, headerBack, decode, encode}
 use Rattle.memory.specs.inside.Fits.{MessageFits}
@@ -35,12 +34,13 @@ use Rattle.places.specs.inside.Searching.{passes, entriesIn}
 use Rattle.gateway.specs.declared.Answer.{Answer}
 use Rattle.places.specs.declared.search.Search.the-variants.{Later}
 use Rattle.effects.specs.inside.Placed.{Placed}
-use Rattle.effects.specs.declared.Sending.{Sending}
+use Rattle.effects.specs.inside.Sending.{storedFrames}
 use Rattle.effects.proofs.PlacedLaws.{placed-first, placed-rest, placed-last}
-use Rattle.rollback.specs.inside.Undone.{sentByEntries, MaySendBack, AfterCancels, takenOut}
+use Rattle.rollback.specs.inside.Undone.{sentByEntries, MaySendBack, takenOut}
 use Rattle.rollback.specs.inside.Entering.{MayEnter, struckOut}
 use Rattle.rollback.proofs.SentMessages.{back-cancelled, cancels-size}
 use Rattle.rollback.proofs.RollbackLaws.{rolled-settings, rolled-outstanding}
+use Rattle.rollback.proofs.StoredCancels.{Stored, cancels-stored, may-put, all-put}
 use Rattle.take_cancel.proofs.LastPositions.{tail-drop, past-bound, any-past, none-past, before-last, from-last}
 use Rattle.rollback.proofs.Settling.{fits-by, no-room, with-room}
 use Rattle.take_plain.proofs.PlainTakings.{reply-size, reply-room}
@@ -233,32 +233,26 @@ module _ (m output : List ℕ) (h : Header) (known : Known m h) (bytes : Bytes m
     sent-room = leb-true (h .outstanding + sent) (h .settings .u) (and-right used-enough sent-enough (and-left (used-enough && sent-enough)
         output-enough all-room))
 
-    pub struck-bytes : 0 + length (written reply) ≤ length output
-    struck-bytes = reply-room true x (fits-x .lamp) r e s (omega (arith, output-room))
+    pub may-strike : MaySendBack m held m h ms
+    may-strike = record { placed = as-found; places = rw (outstanding-count m h known, ← sent-is, ← settings-are m h known) sent-room }
 
-    module _ {out : List ℕ} {next : ℕ} (put : Puts 0 (written reply) output out next) where
-      next-is : next ≡ size
-      next-is = put .position ∙ rw (r, ← reply-size true x (fits-x .lamp) r e s) (omega arith)
+    -- it is taken out
+    module _ {memory : List ℕ} {next : Header} (taking : Placed m memory next (takenOut k held)) {free : ℕ} (at : free ≡ outstandingAt (h .settings .q)
+        (h .outstanding)) where
+      stored : Stored memory free sent ms
+      unfolding takenOut
+      stored = cancels-stored as-found (processedOf (drop k (held .queue))) taking refl refl at sent-is
 
-      pub may-strike : MaySendBack m held m out (record { header = h; written = next }) ms
-      may-strike = record {
-        placed = as-found;
-        places = rw (outstanding-count m h known, ← sent-is, ← settings-are m h known) sent-room;
-        bytes = rw (next-is, cancels, put .output, length-write 0 (written reply) output struck-bytes) output-room;
-      }
+      pub may-put-all : (free + outstandingSize * sent ≤ length memory) × (length (bytesOfFrames (reply ∷ storedFrames memory free sent)) ≤ length output)
+      may-put-all = may-put stored reply (rw (r, ← reply-size true x (fits-x .lamp) r e s, cancels) output-room)
 
-      pub struck-done : {memory out′ after : List ℕ} {so-far : Sending} → AfterCancels m (takenOut k held) memory out out′ (record {
-        header
-            = h;
-        written = next;
-      }) ms so-far
-          → after ≡ write 6 (headerBack (so-far .header)) (write 0 (headerFront (so-far .header)) memory)
-          → record { answer = record { number = 0; written = so-far .written }; memory = after; output = out′ } ≡ leaving (settled (length
-          output) held (struckOut k x held)) m output
-      unfolding struckOut joined
-      struck-done b q =
+      pub struck-done : {out after : List ℕ} {n : ℕ} → Puts 0 (bytesOfFrames (reply ∷ storedFrames memory free sent)) output out n
+          → after ≡ write 6 (headerBack next) (write 0 (headerFront next) memory)
+          → record { answer = record { number = 0; written = n }; memory = after; output = out } ≡ leaving (settled (length output) held (struckOut k
+          x held)) m output
+      unfolding struckOut
+      struck-done put q =
           with-room m output held (struckOut k x held) (needs-struck ∙ all-room)
-          (placed-last (b .placed) q)
-          (b .put ∙ rw (put .output, put .position, r) (write-join 0 (written (acknowledgment true x)) (bytesOfFrames (framesFor true ms))
-          output (rw r at struck-bytes)))
-          (b .position ∙ rw (put .position, r, length-append) (omega arith))
+          (placed-last taking q)
+          (all-put stored reply put .output ∙ rw r)
+          (all-put stored reply put .position ∙ rw r (omega arith))

@@ -1,6 +1,5 @@
 -- Laws of an entry that is taken out of the queue: those behind it are moved down and undone, then it is.
 use mathlib.Core.Path.{_≡_, refl, sym, _∙_, ap}
-use mathlib.Core.Bool.{true}
 use mathlib.Core.List.{List, [], _∷_, _++_, map}
 use Prim.Native.Nat.{ℕ, suc, _+_, _-_, _*_, _≤_, _<_}
 use native.Mathlib.Omega.{arith}
@@ -13,21 +12,21 @@ use Rattle.memory.specs.Records.{Gateway, siteOf}
 use Rattle.memory.specs.Codec.{entryOf}
 use Rattle.memory.specs.inside.Fits.{EntryFits}
 use Rattle.memory.specs.declared.Entry.{Entry}
+use Rattle.memory.specs.declared.Header.{Header}
 use Rattle.gateway.specs.Effects.{withQueue}
 use Rattle.gateway.specs.Undoing.{processedOf, undone, rolledBack}
-use Rattle.effects.specs.declared.Sending.{Sending}
+use Rattle.effects.specs.inside.Placed.{Placed}
 use Rattle.effects.proofs.PlacedLaws.{placed-inside, placed-count, placed-split, placed-fits, placed-removed}
-use Rattle.rollback.specs.inside.Undone.{sentByEntries, MaySendBack, AfterCancels, undoneFrom, takenOut}
-use Rattle.rollback.proofs.RollbackLaws.{back-more, rolled-more, rolled-settings, rolled-outstanding, rolled-with-queue, bytes-more}
-use Rattle.rollback.proofs.UndoLaws.{cancelBytes, bytes-left, back-joined}
+use Rattle.rollback.specs.inside.Undone.{sentByEntries, MaySendBack, undoneFrom, takenOut}
+use Rattle.rollback.proofs.RollbackLaws.{back-more, rolled-more, rolled-settings, rolled-outstanding, rolled-with-queue}
 
-module _ {m output : List ℕ} {g : Gateway} {s : Sending} {k : ℕ} (low : k < length (g .queue)) (may : MaySendBack m g m output s
-    (sentByEntries g (drop k (g .queue)))) where
+module _ {m : List ℕ} {g : Gateway} {header : Header} {k : ℕ} (low : k < length (g .queue)) (may : MaySendBack m g m header (sentByEntries g (drop k
+    (g .queue)))) where
   -- the places that are moved lie inside the memory
   pub record Movable : Type 0 where
-    pub below : k < s .header .queued
-    pub small : s .header .queued < 65536
-    pub long : queueAt k + queueSize + queueSize * (s .header .queued - k - 1) ≤ length m
+    pub below : k < header .queued
+    pub small : header .queued < 65536
+    pub long : queueAt k + queueSize + queueSize * (header .queued - k - 1) ≤ length m
 
   pub movable : Movable
   movable =
@@ -36,28 +35,25 @@ module _ {m output : List ℕ} {g : Gateway} {s : Sending} {k : ℕ} (low : k < 
       record { below = omega arith; small = omega (arith, i .queued, i .q); long = omega (arith, i .long, i .queued) }
 
   module _ {x : Entry} (read : x ≡ entryOf (part m (queueAt k) queueSize)) {moved : List ℕ}
-      (down : moved ≡ write (queueAt k) (part m (queueAt k + queueSize) (queueSize * (s .header .queued - k - 1))) m) where
+      (down : moved ≡ write (queueAt k) (part m (queueAt k + queueSize) (queueSize * (header .queued - k - 1))) m) where
     abbrev front : List Entry
     front = take k (g .queue)
 
     abbrev rest : List Entry
     rest = drop (suc k) (g .queue)
 
-    -- the gateway without the entry, and how far the call has come
+    -- the gateway without the entry, and its header
     abbrev pub without : Gateway
     without = withQueue (front ++ rest) g
 
-    abbrev pub fewer : Sending
+    abbrev pub fewer : Header
     fewer = record {
-      header = record {
-        settings = s .header .settings;
-        state = s .header .state;
-        agreed = s .header .agreed;
-        round = s .header .round;
-        queued = s .header .queued - 1;
-        outstanding = s .header .outstanding;
-      };
-      written = s .written;
+      settings = header .settings;
+      state = header .state;
+      agreed = header .agreed;
+      round = header .round;
+      queued = header .queued - 1;
+      outstanding = header .outstanding;
     }
 
     split : g .queue ≡ front ++ (x ∷ rest)
@@ -85,38 +81,25 @@ module _ {m output : List ℕ} {g : Gateway} {s : Sending} {k : ℕ} (low : k < 
     both : sentByEntries g (drop k (g .queue)) ≡ behind ++ one
     both = rw cut (back-more x (siteOf (g .settings)) rest)
 
-    bytes-both : s .written + length (cancelBytes (behind ++ one)) ≤ length output
-    bytes-both = rw both at (may .bytes)
-
     places-both : length (g .outstanding) + length (behind ++ one) ≤ g .settings .u
     places-both = rw both at (may .places)
 
-    pub may-undo-behind : (k ≤ length (without .queue)) × MaySendBack m without moved output fewer (sentByEntries without (drop k (without .queue)))
+    pub may-undo-behind : (k ≤ length (without .queue)) × MaySendBack m without moved fewer (sentByEntries without (drop k (without .queue)))
     may-undo-behind =
-        let a = simp length-append at (ap length (bytes-more true behind one)) in
-        let b = bytes-both in
         let d = places-both in
         let n = length-append behind one in (
           rw (length-append, front-long) (omega arith),
-          rw rest-there (record {
-            placed = placed-removed (may .placed) front x rest split (sym front-long) down refl;
-            places = omega arith;
-            bytes = omega arith;
-          }),
+          rw rest-there (record { placed = placed-removed (may .placed) front x rest split (sym front-long) down refl; places = omega arith }),
         )
 
     -- those behind are undone
-    module _ {memory′ output′ : List ℕ} {r : Sending} (undoing : AfterCancels m (undoneFrom k without) memory′ output output′ fewer
-        (sentByEntries without (drop k (without .queue))) r) where
+    module _ {memory′ : List ℕ} {r : Header} (undoing : Placed m memory′ r (undoneFrom k without)) where
       abbrev left : Gateway
       left = withQueue (front ++ map undone rest) (rolledBack (processedOf rest) g)
 
       left-is : undoneFrom k without ≡ left
       unfolding undoneFrom
       left-is = rw (front-there, rest-there) (ap (withQueue (front ++ map undone rest)) (rolled-with-queue (processedOf rest) g (front ++ rest)))
-
-      first : AfterCancels m left memory′ output output′ fewer behind r
-      first = rw (left-is, rest-there) at undoing
 
       settings-left : left .settings ≡ g .settings
       settings-left = rolled-settings (processedOf rest) g
@@ -131,14 +114,10 @@ module _ {m output : List ℕ} {g : Gateway} {s : Sending} {k : ℕ} (low : k < 
       one-there : sentByEntries left (x ∷ []) ≡ one
       one-there = rw settings-left
 
-      pub may-undo-last : EntryFits x × MaySendBack m (undoneFrom k without) memory′ output′ r (sentByEntries (undoneFrom k without) (x ∷ []))
+      pub may-undo-last : EntryFits x × MaySendBack m (undoneFrom k without) memory′ r (sentByEntries (undoneFrom k without) (x ∷ []))
       may-undo-last = (
         placed-fits (may .placed) k (movable .below) read,
-        rw (left-is, one-there) (record {
-          placed = first .placed;
-          places = places-left;
-          bytes = bytes-left one bytes-both first;
-        }),
+        rw (left-is, one-there) (record { placed = rw left-is at undoing; places = places-left }),
       )
 
       all-undone : rolledBack (processedOf (x ∷ [])) left ≡ takenOut k g
@@ -147,11 +126,6 @@ module _ {m output : List ℕ} {g : Gateway} {s : Sending} {k : ℕ} (low : k < 
           rolled-with-queue (processedOf (x ∷ [])) (rolledBack (processedOf rest) g) (front ++ map undone rest)
           ∙ rw cut (ap (withQueue (front ++ map undone rest)) (sym (rolled-more x rest g)))
 
-      pub taken-out : {memory″ output″ : List ℕ} {r′ : Sending}
-          → AfterCancels m (rolledBack (processedOf (x ∷ [])) (undoneFrom k without)) memory″ output′ output″ r (sentByEntries (undoneFrom k
-          without) (x ∷ [])) r′
-          → AfterCancels m (takenOut k g) memory″ output output″ s (sentByEntries g (drop k (g .queue))) r′
-      taken-out d =
-          let second : AfterCancels m (takenOut k g) _ output′ _ r one _ = rw (left-is, one-there, all-undone) at d in
-          let j = back-joined one bytes-both first second in
-          rw both (record { placed = j .placed; put = j .put; position = j .position })
+      pub taken-out : {memory″ : List ℕ} {r′ : Header} → Placed m memory″ r′ (rolledBack (processedOf (x ∷ [])) (undoneFrom k without)) → Placed m
+          memory″ r′ (takenOut k g)
+      taken-out d = rw (left-is, all-undone) at d

@@ -1,8 +1,9 @@
 // Taking a cancel: the last equal plain message goes, undone first if it was processed; with none the cancel waits.
 use buffer::move_down;
 use decoding::read_entry;
-use effects::Sending;
 use effects::insert::waiting;
+use effects::send::outstanding_at;
+use effects::send::put_frames;
 use frame::tables::map_of;
 use frame::tables::whole_length;
 use gateway::Answer;
@@ -84,22 +85,17 @@ fn strike_out(
     if !has_room(header, 0, sent, bytes, output.len()) {
         return refused(5);
     }
-    let written = put_frame(output, 0, reply);
-    let undone = take_out(memory, output, Sending { header, written }, k);
-    let next = undone.header;
+    let next = take_out(memory, header, k);
+    let written = put_frames(memory, output, reply, outstanding_at(header), sent);
     write_header(memory, next);
-    Answer {
-        number: 0,
-        written: undone.written,
-    }
+    Answer { number: 0, written }
 }
 
 // Takes the entry out of queue place k, those behind it moved down, and undoes those and then it. The place that is freed keeps its bytes.
-fn take_out(memory: &mut [u8], output: &mut [u8], sending: Sending, k: usize) -> Sending
-    requires { ⌜ CanTakeOut (now memory) (now output) sending k ⌝ }
-    ensures { λ r. ⌜ TakesOut (now (memory .entry)) (now (output .entry)) (now (memory .exit)) (now (output .exit)) sending k r ⌝ }
+fn take_out(memory: &mut [u8], header: Header, k: usize) -> Header
+    requires { ⌜ CanTakeOut (now memory) header k ⌝ }
+    ensures { λ r. ⌜ TakesOut (now (memory .entry)) (now (memory .exit)) header k r ⌝ }
 {
-    let header = sending.header;
     let at = HEADER_SIZE + QUEUE_SIZE * k;
     let entry = read_entry(memory, at);
     move_down(
@@ -110,14 +106,6 @@ fn take_out(memory: &mut [u8], output: &mut [u8], sending: Sending, k: usize) ->
     );
     let mut next = header;
     next.queued = header.queued - 1;
-    let behind = undo(
-        memory,
-        output,
-        Sending {
-            header: next,
-            written: sending.written,
-        },
-        k,
-    );
-    undo_entry(memory, output, behind, entry)
+    let behind = undo(memory, next, k);
+    undo_entry(memory, behind, entry)
 }

@@ -1,5 +1,5 @@
 -- A law for each branch of taking a plain message.
-use mathlib.Core.Path.{_≡_, sym, _∙_}
+use mathlib.Core.Path.{_≡_, refl, sym, _∙_}
 use mathlib.Core.Bool.{Bool, true, false, cond, not, _&&_}
 use mathlib.Core.List.{List, [], _∷_, _++_, map, append-nil}
 use Prim.Native.Nat.{ℕ, _+_, _-_, _*_, _^_, _≤_, _<_}
@@ -12,7 +12,6 @@ use Rattle.lists.specs.Lists.{joined}
 use Rattle.lists.specs.inside.Positions.{firstWhere, without}
 use Rattle.lists.proofs.PositionLaws.{first-bound, any-found, any-none, without-first, before-first, from-first}
 use Rattle.lists.proofs.ListLaws.{all-right}
-use Rattle.buffer.proofs.Writes.{length-write, write-join}
 use Rattle.buffer.specs.Slice.{Bytes, Puts}
 use Rattle.model.specs.declared.Kind.{Kind}
 use Rattle.model.specs.declared.Message.{Message}
@@ -22,7 +21,7 @@ use Rattle.frame.specs.Writing.{written}
 use Rattle.frame.specs.declared.Frame.{Frame}
 use Rattle.frame.specs.declared.Sense.the-variants.{Acknowledgment, CancelAcknowledgment}
 use Rattle.frame.proofs.Output.{whole-size}
-use Rattle.memory.specs.Layout.{queueAt, queueSize}
+use Rattle.memory.specs.Layout.{queueAt, queueSize, outstandingAt, outstandingSize}
 use Rattle.memory.specs.Records.{Gateway, siteOf}
 use Rattle.memory.specs.Codec.{placesAt, entryOf, decode, encode}
 use Rattle.memory.specs.inside.Fits.{MessageFits}
@@ -40,12 +39,13 @@ use Rattle.lists.proofs.BoolLaws.{and-left, and-right}
 use Rattle.places.proofs.Changing.{length-without}
 use Rattle.effects.specs.inside.Placed.{Placed}
 use Rattle.effects.proofs.PlacedLaws.{placed-first, placed-rest}
-use Rattle.effects.specs.declared.Sending.{Sending}
-use Rattle.rollback.specs.inside.Undone.{sentByEntries, MaySendBack, AfterCancels, undoneFrom}
+use Rattle.effects.specs.inside.Sending.{storedFrames}
+use Rattle.rollback.specs.inside.Undone.{sentByEntries, MaySendBack, undoneFrom}
 use Rattle.rollback.specs.inside.Entering.{MayEnter}
 use Rattle.rollback.proofs.SentMessages.{back-cancelled, cancels-size}
 use Rattle.frame.proofs.Sizes.{sense-small}
 use Rattle.rollback.proofs.RollbackLaws.{rolled-settings, rolled-outstanding}
+use Rattle.rollback.proofs.StoredCancels.{Stored, cancels-stored, may-put, all-put}
 use Rattle.rollback.proofs.Settling.{fits-by, no-room, with-room}
 use Rattle.gateway.proofs.Knowing.{Sizes, outstanding-count, queue-count, queue-places, settings-are, sizes}
 
@@ -235,45 +235,37 @@ module _ (m output : List ℕ) (h : Header) (known : Known m h) (bytes : Bytes m
     queue-room : h .queued + 1 ≤ h .settings .q
     queue-room = leb-true (h .queued + 1) (h .settings .q) (and-left queue-enough places-enough (and-left (queue-enough && places-enough) bytes-enough room))
 
-    module _ {out : List ℕ} {next : ℕ} (put : Puts 0 (written reply) output out next) where
-      next-is : next ≡ size
-      next-is = put .position ∙ rw (r, ← reply-size false x (fits-x .lamp) r e s) (omega arith)
+    pub may-send : MaySendBack m g m h ms
+    may-send = record { placed = first; places = rw (outstanding-count m h known, ← sent-is, ← settings-are m h known) places-room }
 
-      pub may-send : MaySendBack m g m out (record { header = h; written = next }) ms
-      may-send = record {
-        placed = first;
-        places = rw (outstanding-count m h known, ← sent-is, ← settings-are m h known) places-room;
-        bytes = rw (
-          next-is,
-          cancels,
-          put .output,
-          length-write 0 (written reply) output (reply-room false x (fits-x .lamp) r e s (omega
-              (arith, bytes-room))),
-        ) bytes-room;
-      }
+    -- the events are undone
+    module _ {memory : List ℕ} {next : Header} (undoing : Placed m memory next (undoneFrom k g)) where
+      pub may-enter : {entry : Entry} → entry ≡ pendingEntry x → MayEnter m (undoneFrom k g) memory next k entry
+      unfolding undoneFrom
+      may-enter is = rw is (record {
+        placed = undoing;
+        entry = record { message = fits-x; before = record { stock = lit< tt; failed = lit< tt; fitted = lit< tt; short = lit< tt } };
+        place = rw (length-append, length-take, length-map, length-drop) (omega (arith, place-bound));
+        room =
+            rw (rolled-settings (processedOf (drop k (g .queue))) g, ← settings-are m h known, length-append, length-take, length-map, length-drop)
+            (omega (arith, place-bound, queue-count m h known, queue-room));
+      })
 
-      module _ {memory out′ : List ℕ} {so-far : Sending} (b : AfterCancels m (undoneFrom k g) memory out out′ (record {
-        header = h;
-        written
-            = next;
-      }) ms so-far) where
-        pub may-enter : {entry : Entry} → entry ≡ pendingEntry x → MayEnter m (undoneFrom k g) memory (so-far .header) k entry
+      module _ {free : ℕ} (at : free ≡ outstandingAt (h .settings .q) (h .outstanding)) where
+        stored : Stored memory free sent ms
         unfolding undoneFrom
-        may-enter is = rw is (record {
-          placed = b .placed;
-          entry = record { message = fits-x; before = record { stock = lit< tt; failed = lit< tt; fitted = lit< tt; short = lit< tt } };
-          place = rw (length-append, length-take, length-map, length-drop) (omega (arith, place-bound));
-          room =
-              rw (rolled-settings (processedOf (drop k (g .queue))) g, ← settings-are m h known, length-append, length-take, length-map, length-drop)
-              (omega (arith, place-bound, queue-count m h known, queue-room));
-        })
+        stored = cancels-stored first (processedOf (drop k (g .queue))) undoing refl refl at sent-is
 
-        pub entered-done : {entry : Entry} {after : List ℕ} → entry ≡ pendingEntry x → after ≡ encode (withQueue (take k (undoneFrom k
-            g .queue) ++ (entry ∷ drop k (undoneFrom k g .queue))) (undoneFrom k g)) m
-            → record { answer = record { number = 0; written = so-far .written }; memory = after; output = out′ } ≡ leaving (settled (length
-            output) g (entered x g)) m output
-        unfolding undoneFrom joined
-        entered-done is q =
+        pub may-put-all : (free + outstandingSize * sent ≤ length memory) × (length (bytesOfFrames (reply ∷ storedFrames memory free sent)) ≤ length output)
+        may-put-all = may-put stored reply (rw (r, ← reply-size false x (fits-x .lamp) r e s, cancels) bytes-room)
+
+        pub entered-done : {out : List ℕ} {n : ℕ} → Puts 0 (bytesOfFrames (reply ∷ storedFrames memory free sent)) output out n → {entry : Entry}
+            {after : List ℕ} → entry ≡ pendingEntry x → after ≡ encode (withQueue (take k (undoneFrom k g .queue) ++ (entry ∷ drop k (undoneFrom k
+            g .queue))) (undoneFrom k g)) m
+            → record { answer = record { number = 0; written = n }; memory = after; output = out } ≡ leaving (settled (length output) g (entered x
+            g)) m output
+        unfolding undoneFrom
+        entered-done put is q =
             with-room m output g (entered x g) (needs ∙ room)
             (q ∙ rw (
               is,
@@ -284,12 +276,8 @@ module _ (m output : List ℕ) (h : Header) (known : Known m h) (bytes : Bytes m
                   undone (drop k (g .queue))) k front,
               drop-at (take k (g .queue)) (map undone (drop k (g .queue))) k front,
             ))
-            (rw (from-first (isLater x) (g .queue), ← place)
-            (b .put
-            ∙ rw (put .output, put .position, r)
-            (write-join 0 (written (acknowledgment false x)) (bytesOfFrames (framesFor true ms)) output (rw r at (reply-room false x
-            (fits-x .lamp) r e s {n = length output} (omega (arith, bytes-room)))))))
-            (rw (from-first (isLater x) (g .queue), ← place) (b .position ∙ rw (put .position, r, length-append) (omega arith)))
+            (rw (from-first (isLater x) (g .queue), ← place) (all-put stored reply put .output ∙ rw r))
+            (rw (from-first (isLater x) (g .queue), ← place) (all-put stored reply put .position ∙ rw r (omega arith)))
           where
             front : length (take k (g .queue)) ≡ k
             front = rw length-take (omega (arith, place-bound))

@@ -1,6 +1,7 @@
 // Taking a plain message: where an equal cancel waits both vanish, otherwise it enters the queue after its equals.
-use effects::Sending;
 use effects::insert::pending;
+use effects::send::outstanding_at;
+use effects::send::put_frames;
 use frame::tables::map_of;
 use frame::tables::whole_length;
 use gateway::Answer;
@@ -74,12 +75,11 @@ fn enter_plain(memory: &mut [u8], output: &mut [u8], header: Header, message: Me
     if !has_room(header, queued + 1, sent, bytes, output.len()) {
         return refused(5);
     }
-    let written = put_frame(output, 0, reply);
-    let undone = undo(memory, output, Sending { header, written }, k);
-    let next = undone.header;
+    let next = undo(memory, header, k);
+    let end = put_frames(memory, output, reply, outstanding_at(header), sent);
     enter(memory, next, k, pending(message));
     Answer {
         number: 0,
-        written: undone.written,
+        written: end,
     }
 }

@@ -3,7 +3,7 @@ use mathlib.Core.Bool.{true}
 use native.Mathlib.Omega.{arith}
 use Rattle.buffer.proofs.Lent.{bytes-known}
 use Rattle.take_plain.proofs.PlainTakings.{reply-small}
-use Rattle.take_cancel.proofs.CancelTakings.{struck-below, struck-without-room, struck-bytes, may-strike, struck-done}
+use Rattle.take_cancel.proofs.CancelTakings.{struck-below, struck-without-room, may-strike, may-put-all, struck-done}
 use borrow.Author.Needs.{needs}
 use Rattle.gateway.proofs.Knowing.{sizes}
 use Rattle.take_cancel.proofs.strike_out.Statement.{statement}
@@ -67,25 +67,9 @@ returns c =
     (at-count-sent .count-sent .ensures .0) (at-acknowledgment .acknowledgment .ensures) (at-map-of .map-of .ensures)
     (at-whole-length .whole-length .ensures) (at-has-room .has-room .ensures) (at-if1 .if1 .taken) (c .refused .ensures)
 
-put-frame-requires : tie.Need-put-frame-requires
-put-frame-requires c κs =
-    let at-if1 = c .before in
-    let at-has-room = at-if1 .before in
-    let at-whole-length = at-has-room .before in
-    let at-map-of = at-whole-length .before in
-    let at-acknowledgment = at-map-of .before in
-    let at-count-sent = at-acknowledgment .before in
-    let at-slice-known = at-count-sent .before .before .before in
-    let start = at-slice-known .before in
-    let b = bytes-known (start .args .memory .now) (at-slice-known .slice-known .given) in
-    struck-bytes (start .args .memory .now) (start .args .output .now) _ (start .pre .0) b _ (start .pre .2) _ (start .pre .1) _
-    (at-count-sent .count-sent .ensures .0) (at-acknowledgment .acknowledgment .ensures) (at-map-of .map-of .ensures)
-    (at-whole-length .whole-length .ensures) (at-has-room .has-room .ensures) (at-if1 .if1 .left)
-
 take-out-requires : tie.Need-take-out-requires
 take-out-requires c κs =
-    let at-put-frame = c .before .before .before .before in
-    let at-if1 = at-put-frame .before .before in
+    let at-if1 = c .before in
     let at-has-room = at-if1 .before in
     let at-whole-length = at-has-room .before in
     let at-map-of = at-whole-length .before in
@@ -98,17 +82,39 @@ take-out-requires c κs =
       struck-below (start .args .memory .now) (start .args .output .now) _ (start .pre .0) b _ (start .pre .2) _ (start .pre .1) _
           (at-count-sent .count-sent .ensures .0) (at-acknowledgment .acknowledgment .ensures) (at-map-of .map-of .ensures)
           (at-whole-length .whole-length .ensures),
-      may-strike (start .args .memory .now) (start .args .output .now) _ (start .pre .0) b _
-          (start .pre .2) _ (start .pre .1) _ (at-count-sent .count-sent .ensures .0) (at-acknowledgment .acknowledgment .ensures)
-          (at-map-of .map-of .ensures) (at-whole-length .whole-length .ensures) (at-has-room .has-room .ensures) (at-if1 .if1 .left)
-          (at-put-frame .put-frame .ensures),
+      may-strike (start .args .memory .now) (start .args .output .now) _ (start .pre .0) b _ (start .pre .2) _ (start .pre .1) _
+          (at-count-sent .count-sent .ensures .0) (at-acknowledgment .acknowledgment .ensures) (at-map-of .map-of .ensures)
+          (at-whole-length .whole-length .ensures) (at-has-room .has-room .ensures) (at-if1 .if1 .left),
     )
+
+outstanding-at-requires : tie.Need-outstanding-at-requires
+outstanding-at-requires c κs = search needs
+
+put-frames-requires : tie.Need-put-frames-requires
+put-frames-requires c κs =
+    let at-take-out = c .before .before .before .before .before in
+    let at-if1 = at-take-out .before .before in
+    let at-has-room = at-if1 .before in
+    let at-whole-length = at-has-room .before in
+    let at-map-of = at-whole-length .before in
+    let at-acknowledgment = at-map-of .before in
+    let at-count-sent = at-acknowledgment .before in
+    let at-slice-known = at-count-sent .before .before .before in
+    let start = at-slice-known .before in
+    let b = bytes-known (start .args .memory .now) (at-slice-known .slice-known .given) in
+    let t = at-take-out .take-out .ensures _ (struck-below (start .args .memory .now) (start .args .output .now) _ (start .pre .0) b _ (start .pre .2) _ (start .pre .1) _
+    (at-count-sent .count-sent .ensures .0) (at-acknowledgment .acknowledgment .ensures) (at-map-of .map-of .ensures)
+    (at-whole-length .whole-length .ensures)) (may-strike (start .args .memory .now) (start .args .output .now) _ (start .pre .0) b _ (start .pre .2) _ (start .pre .1) _
+    (at-count-sent .count-sent .ensures .0) (at-acknowledgment .acknowledgment .ensures) (at-map-of .map-of .ensures)
+    (at-whole-length .whole-length .ensures) (at-has-room .has-room .ensures) (at-if1 .if1 .left)) in
+    may-put-all (start .args .memory .now) (start .args .output .now) _ (start .pre .0) b _ (start .pre .2) _ (start .pre .1) _
+    (at-count-sent .count-sent .ensures .0) (at-acknowledgment .acknowledgment .ensures) (at-map-of .map-of .ensures)
+    (at-whole-length .whole-length .ensures) (at-has-room .has-room .ensures) (at-if1 .if1 .left) t (c .outstanding-at .ensures)
 
 write-header-requires : tie.Need-write-header-requires
 write-header-requires c κs =
     let start =
-    c .before .before .before .before .before .before .before .before .before .before .before .before .before .before .before .before
-    .before .before .before .before .before .before in
+    c .before .before .before .before .before .before .before .before .before .before .before .before .before .before .before .before .before .before .before .before in
     let z = sizes _ _ (start .pre .0) in omega arith
 
 same-length-2 : tie.Need-same-length-2
@@ -120,9 +126,10 @@ same-length-3 c = search needs
 returns-2 : tie.Need-returns-2
 returns-2 c =
     let at-write-header = c .before .before in
-    let at-take-out = at-write-header .before .before .before .before .before .before .before in
-    let at-put-frame = at-take-out .before .before .before .before .before in
-    let at-if1 = at-put-frame .before .before in
+    let at-put-frames = at-write-header .before .before .before .before in
+    let at-outstanding-at = at-put-frames .before in
+    let at-take-out = at-outstanding-at .before .before .before .before .before in
+    let at-if1 = at-take-out .before .before in
     let at-has-room = at-if1 .before in
     let at-whole-length = at-has-room .before in
     let at-map-of = at-whole-length .before in
@@ -131,15 +138,14 @@ returns-2 c =
     let at-slice-known = at-count-sent .before .before .before in
     let start = at-slice-known .before in
     let b = bytes-known (start .args .memory .now) (at-slice-known .slice-known .given) in
-    let w = may-strike (start .args .memory .now) (start .args .output .now) _ (start .pre .0) b _ (start .pre .2) _ (start .pre .1) _
+    let t = at-take-out .take-out .ensures _ (struck-below (start .args .memory .now) (start .args .output .now) _ (start .pre .0) b _ (start .pre .2) _ (start .pre .1) _
     (at-count-sent .count-sent .ensures .0) (at-acknowledgment .acknowledgment .ensures) (at-map-of .map-of .ensures)
-    (at-whole-length .whole-length .ensures) (at-has-room .has-room .ensures) (at-if1 .if1 .left) (at-put-frame .put-frame .ensures) in
+    (at-whole-length .whole-length .ensures)) (may-strike (start .args .memory .now) (start .args .output .now) _ (start .pre .0) b _ (start .pre .2) _ (start .pre .1) _
+    (at-count-sent .count-sent .ensures .0) (at-acknowledgment .acknowledgment .ensures) (at-map-of .map-of .ensures)
+    (at-whole-length .whole-length .ensures) (at-has-room .has-room .ensures) (at-if1 .if1 .left)) in
     struck-done (start .args .memory .now) (start .args .output .now) _ (start .pre .0) b _ (start .pre .2) _ (start .pre .1) _
     (at-count-sent .count-sent .ensures .0) (at-acknowledgment .acknowledgment .ensures) (at-map-of .map-of .ensures)
-    (at-whole-length .whole-length .ensures) (at-has-room .has-room .ensures) (at-if1 .if1 .left) (at-put-frame .put-frame .ensures)
-    (at-take-out .take-out .ensures _ (struck-below (start .args .memory .now) (start .args .output .now) _ (start .pre .0) b _
-    (start .pre .2) _ (start .pre .1) _ (at-count-sent .count-sent .ensures .0) (at-acknowledgment .acknowledgment .ensures)
-    (at-map-of .map-of .ensures) (at-whole-length .whole-length .ensures)) w) (at-write-header .write-header .ensures)
+    (at-whole-length .whole-length .ensures) (at-has-room .has-room .ensures) (at-if1 .if1 .left) t (at-outstanding-at .outstanding-at .ensures) (at-put-frames .put-frames .ensures) (at-write-header .write-header .ensures)
 
 pub strike-out-spec : {M : Type 1} → statement M
 strike-out-spec =
@@ -155,8 +161,9 @@ strike-out-spec =
     refused-requires
     same-length
     returns
-    put-frame-requires
     take-out-requires
+    outstanding-at-requires
+    put-frames-requires
     write-header-requires
     same-length-2
     same-length-3

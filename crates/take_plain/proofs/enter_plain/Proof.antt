@@ -2,8 +2,8 @@
 use mathlib.Core.Bool.{false}
 use native.Mathlib.Omega.{arith}
 use Rattle.buffer.proofs.Lent.{bytes-known}
-use Rattle.take_plain.proofs.PlainTakings.{later-bound, reply-room, reply-small, place-bound, entered-without-room, bytes-room}
-use Rattle.take_plain.proofs.PlainTakings.{may-send, may-enter, entered-done}
+use Rattle.take_plain.proofs.PlainTakings.{later-bound, reply-small, place-bound, entered-without-room, may-send, may-put-all}
+use Rattle.take_plain.proofs.PlainTakings.{may-enter, entered-done}
 use borrow.Author.Needs.{needs}
 use Rattle.gateway.proofs.Knowing.{sizes}
 use Rattle.take_plain.proofs.enter_plain.Statement.{statement}
@@ -76,28 +76,9 @@ returns c =
     (at-map-of .map-of .ensures) (at-whole-length .whole-length .ensures) (at-has-room .has-room .ensures) (at-if1 .if1 .taken)
     (c .refused .ensures)
 
-put-frame-requires : tie.Need-put-frame-requires
-put-frame-requires c κs =
-    let at-if1 = c .before in
-    let at-has-room = at-if1 .before in
-    let at-whole-length = at-has-room .before in
-    let at-map-of = at-whole-length .before in
-    let at-acknowledgment = at-map-of .before in
-    let at-count-sent = at-acknowledgment .before in
-    let at-find = at-count-sent .before .before in
-    let at-slice-known = at-find .before .before .before .before in
-    let start = at-slice-known .before in
-    let b = bytes-known (start .args .memory .now) (at-slice-known .slice-known .given) in
-    let enough = bytes-room (start .args .memory .now) (start .args .output .now) _ (start .pre .0) b _ (start .pre .1) _
-    (at-find .find .ensures) _ (at-count-sent .count-sent .ensures .0) (at-acknowledgment .acknowledgment .ensures)
-    (at-map-of .map-of .ensures) (at-whole-length .whole-length .ensures) (at-has-room .has-room .ensures) (at-if1 .if1 .left) in
-    reply-room false _ (start .pre .1 .lamp) (at-acknowledgment .acknowledgment .ensures) (at-map-of .map-of .ensures)
-    (at-whole-length .whole-length .ensures) (omega arith)
-
 undo-requires : tie.Need-undo-requires
 undo-requires c κs =
-    let at-put-frame = c .before .before .before .before in
-    let at-if1 = at-put-frame .before .before in
+    let at-if1 = c .before in
     let at-has-room = at-if1 .before in
     let at-whole-length = at-has-room .before in
     let at-map-of = at-whole-length .before in
@@ -109,23 +90,21 @@ undo-requires c κs =
     let b = bytes-known (start .args .memory .now) (at-slice-known .slice-known .given) in (
       _,
       _,
-      place-bound (start .args .memory .now) (start .args .output .now) _ (start .pre .0) b _ (start .pre .1) _
-          (at-find .find .ensures) _ (at-count-sent .count-sent .ensures .0) (at-acknowledgment .acknowledgment .ensures)
-          (at-map-of .map-of .ensures) (at-whole-length .whole-length .ensures),
-      may-send (start .args .memory .now)
-          (start .args .output .now) _ (start .pre .0) b _ (start .pre .1) _ (at-find .find .ensures) _
+      place-bound (start .args .memory .now) (start .args .output .now) _ (start .pre .0) b _ (start .pre .1) _ (at-find .find .ensures) _
           (at-count-sent .count-sent .ensures .0) (at-acknowledgment .acknowledgment .ensures) (at-map-of .map-of .ensures)
-          (at-whole-length .whole-length .ensures) (at-has-room .has-room .ensures) (at-if1 .if1 .left) (at-put-frame .put-frame .ensures),
+          (at-whole-length .whole-length .ensures),
+      may-send (start .args .memory .now) (start .args .output .now) _ (start .pre .0) b _ (start .pre .1) _ (at-find .find .ensures) _
+          (at-count-sent .count-sent .ensures .0) (at-acknowledgment .acknowledgment .ensures) (at-map-of .map-of .ensures)
+          (at-whole-length .whole-length .ensures) (at-has-room .has-room .ensures) (at-if1 .if1 .left),
     )
 
-pending-requires : tie.Need-pending-requires
-pending-requires c κs = search needs
+outstanding-at-requires : tie.Need-outstanding-at-requires
+outstanding-at-requires c κs = search needs
 
-enter-requires : tie.Need-enter-requires
-enter-requires c κs =
-    let at-undo = c .before .before .before .before .before .before .before in
-    let at-put-frame = at-undo .before .before .before .before .before in
-    let at-if1 = at-put-frame .before .before in
+put-frames-requires : tie.Need-put-frames-requires
+put-frames-requires c κs =
+    let at-undo = c .before .before .before .before .before in
+    let at-if1 = at-undo .before .before in
     let at-has-room = at-if1 .before in
     let at-whole-length = at-has-room .before in
     let at-map-of = at-whole-length .before in
@@ -135,18 +114,43 @@ enter-requires c κs =
     let at-slice-known = at-find .before .before .before .before in
     let start = at-slice-known .before in
     let b = bytes-known (start .args .memory .now) (at-slice-known .slice-known .given) in
-    let u = at-undo .undo .ensures _ _ (place-bound (start .args .memory .now) (start .args .output .now) _ (start .pre .0) b _
-    (start .pre .1) _ (at-find .find .ensures) _ (at-count-sent .count-sent .ensures .0) (at-acknowledgment .acknowledgment .ensures)
-    (at-map-of .map-of .ensures) (at-whole-length .whole-length .ensures)) (may-send (start .args .memory .now)
-    (start .args .output .now) _ (start .pre .0) b _ (start .pre .1) _ (at-find .find .ensures) _
+    let low = place-bound (start .args .memory .now) (start .args .output .now) _ (start .pre .0) b _ (start .pre .1) _ (at-find .find .ensures) _
     (at-count-sent .count-sent .ensures .0) (at-acknowledgment .acknowledgment .ensures) (at-map-of .map-of .ensures)
-    (at-whole-length .whole-length .ensures) (at-has-room .has-room .ensures) (at-if1 .if1 .left) (at-put-frame .put-frame .ensures)) in (
+    (at-whole-length .whole-length .ensures) in
+    let may = may-send (start .args .memory .now) (start .args .output .now) _ (start .pre .0) b _ (start .pre .1) _ (at-find .find .ensures) _
+    (at-count-sent .count-sent .ensures .0) (at-acknowledgment .acknowledgment .ensures) (at-map-of .map-of .ensures)
+    (at-whole-length .whole-length .ensures) (at-has-room .has-room .ensures) (at-if1 .if1 .left) in
+    may-put-all (start .args .memory .now) (start .args .output .now) _ (start .pre .0) b _ (start .pre .1) _ (at-find .find .ensures) _
+    (at-count-sent .count-sent .ensures .0) (at-acknowledgment .acknowledgment .ensures) (at-map-of .map-of .ensures)
+    (at-whole-length .whole-length .ensures) (at-has-room .has-room .ensures) (at-if1 .if1 .left) (at-undo .undo .ensures _ _ low may) (c .outstanding-at .ensures)
+
+pending-requires : tie.Need-pending-requires
+pending-requires c κs = search needs
+
+enter-requires : tie.Need-enter-requires
+enter-requires c κs =
+    let at-undo = c .before .before .before .before .before .before .before .before .before .before in
+    let at-if1 = at-undo .before .before in
+    let at-has-room = at-if1 .before in
+    let at-whole-length = at-has-room .before in
+    let at-map-of = at-whole-length .before in
+    let at-acknowledgment = at-map-of .before in
+    let at-count-sent = at-acknowledgment .before in
+    let at-find = at-count-sent .before .before in
+    let at-slice-known = at-find .before .before .before .before in
+    let start = at-slice-known .before in
+    let b = bytes-known (start .args .memory .now) (at-slice-known .slice-known .given) in
+    let low = place-bound (start .args .memory .now) (start .args .output .now) _ (start .pre .0) b _ (start .pre .1) _ (at-find .find .ensures) _
+    (at-count-sent .count-sent .ensures .0) (at-acknowledgment .acknowledgment .ensures) (at-map-of .map-of .ensures)
+    (at-whole-length .whole-length .ensures) in
+    let may = may-send (start .args .memory .now) (start .args .output .now) _ (start .pre .0) b _ (start .pre .1) _ (at-find .find .ensures) _
+    (at-count-sent .count-sent .ensures .0) (at-acknowledgment .acknowledgment .ensures) (at-map-of .map-of .ensures)
+    (at-whole-length .whole-length .ensures) (at-has-room .has-room .ensures) (at-if1 .if1 .left) in (
       _,
       _,
-      may-enter (start .args .memory .now) (start .args .output .now) _ (start .pre .0) b _ (start .pre .1) _ (at-find .find .ensures)
-          _ (at-count-sent .count-sent .ensures .0) (at-acknowledgment .acknowledgment .ensures) (at-map-of .map-of .ensures)
-          (at-whole-length .whole-length .ensures) (at-has-room .has-room .ensures) (at-if1 .if1 .left) (at-put-frame .put-frame .ensures) u
-          (c .pending .ensures),
+      may-enter (start .args .memory .now) (start .args .output .now) _ (start .pre .0) b _ (start .pre .1) _ (at-find .find .ensures) _
+          (at-count-sent .count-sent .ensures .0) (at-acknowledgment .acknowledgment .ensures) (at-map-of .map-of .ensures)
+          (at-whole-length .whole-length .ensures) (at-has-room .has-room .ensures) (at-if1 .if1 .left) (at-undo .undo .ensures _ _ low may) (c .pending .ensures),
     )
 
 same-length-2 : tie.Need-same-length-2
@@ -159,9 +163,10 @@ returns-2 : tie.Need-returns-2
 returns-2 c =
     let at-enter = c .before .before in
     let at-pending = at-enter .before in
-    let at-undo = at-pending .before .before .before .before .before .before .before in
-    let at-put-frame = at-undo .before .before .before .before .before in
-    let at-if1 = at-put-frame .before .before in
+    let at-put-frames = at-pending .before .before .before .before in
+    let at-outstanding-at = at-put-frames .before in
+    let at-undo = at-outstanding-at .before .before .before .before .before in
+    let at-if1 = at-undo .before .before in
     let at-has-room = at-if1 .before in
     let at-whole-length = at-has-room .before in
     let at-map-of = at-whole-length .before in
@@ -171,20 +176,19 @@ returns-2 c =
     let at-slice-known = at-find .before .before .before .before in
     let start = at-slice-known .before in
     let b = bytes-known (start .args .memory .now) (at-slice-known .slice-known .given) in
-    let u = at-undo .undo .ensures _ _ (place-bound (start .args .memory .now) (start .args .output .now) _ (start .pre .0) b _
-    (start .pre .1) _ (at-find .find .ensures) _ (at-count-sent .count-sent .ensures .0) (at-acknowledgment .acknowledgment .ensures)
-    (at-map-of .map-of .ensures) (at-whole-length .whole-length .ensures)) (may-send (start .args .memory .now)
-    (start .args .output .now) _ (start .pre .0) b _ (start .pre .1) _ (at-find .find .ensures) _
+    let low = place-bound (start .args .memory .now) (start .args .output .now) _ (start .pre .0) b _ (start .pre .1) _ (at-find .find .ensures) _
     (at-count-sent .count-sent .ensures .0) (at-acknowledgment .acknowledgment .ensures) (at-map-of .map-of .ensures)
-    (at-whole-length .whole-length .ensures) (at-has-room .has-room .ensures) (at-if1 .if1 .left) (at-put-frame .put-frame .ensures)) in
-    let e = may-enter (start .args .memory .now) (start .args .output .now) _ (start .pre .0) b _ (start .pre .1) _ (at-find .find .ensures)
-    _ (at-count-sent .count-sent .ensures .0) (at-acknowledgment .acknowledgment .ensures) (at-map-of .map-of .ensures)
-    (at-whole-length .whole-length .ensures) (at-has-room .has-room .ensures) (at-if1 .if1 .left) (at-put-frame .put-frame .ensures) u
-    (at-pending .pending .ensures) in
+    (at-whole-length .whole-length .ensures) in
+    let may = may-send (start .args .memory .now) (start .args .output .now) _ (start .pre .0) b _ (start .pre .1) _ (at-find .find .ensures) _
+    (at-count-sent .count-sent .ensures .0) (at-acknowledgment .acknowledgment .ensures) (at-map-of .map-of .ensures)
+    (at-whole-length .whole-length .ensures) (at-has-room .has-room .ensures) (at-if1 .if1 .left) in
+    let u = at-undo .undo .ensures _ _ low may in
     entered-done (start .args .memory .now) (start .args .output .now) _ (start .pre .0) b _ (start .pre .1) _ (at-find .find .ensures) _
     (at-count-sent .count-sent .ensures .0) (at-acknowledgment .acknowledgment .ensures) (at-map-of .map-of .ensures)
-    (at-whole-length .whole-length .ensures) (at-has-room .has-room .ensures) (at-if1 .if1 .left) (at-put-frame .put-frame .ensures) u
-    (at-pending .pending .ensures) (at-enter .enter .ensures _ _ e)
+    (at-whole-length .whole-length .ensures) (at-has-room .has-room .ensures) (at-if1 .if1 .left) u (at-outstanding-at .outstanding-at .ensures) (at-put-frames .put-frames .ensures) (at-pending .pending .ensures)
+    (at-enter .enter .ensures _ _ (may-enter (start .args .memory .now) (start .args .output .now) _ (start .pre .0) b _ (start .pre .1) _ (at-find .find .ensures) _
+    (at-count-sent .count-sent .ensures .0) (at-acknowledgment .acknowledgment .ensures) (at-map-of .map-of .ensures)
+    (at-whole-length .whole-length .ensures) (at-has-room .has-room .ensures) (at-if1 .if1 .left) u (at-pending .pending .ensures)))
 
 pub enter-plain-spec : {M : Type 1} → statement M
 enter-plain-spec =
@@ -203,8 +207,9 @@ enter-plain-spec =
     refused-requires
     same-length
     returns
-    put-frame-requires
     undo-requires
+    outstanding-at-requires
+    put-frames-requires
     pending-requires
     enter-requires
     same-length-2

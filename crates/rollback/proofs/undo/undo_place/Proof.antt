@@ -5,13 +5,13 @@ use Rattle.rollback.proofs.undo.undo_place.Statement.{statement}
 use Rattle.rollback.proofs.undo.undo_place.Tie as tie
 
 mul-at : tie.Need-mul-at
-mul-at c = let i = place-inside (c .before .before .pre .5) (c .before .before .pre .6) in search needs
+mul-at c = let i = place-inside (c .before .pre .5) (c .before .pre .6) in search needs
 
 add-at : tie.Need-add-at
-add-at c = let i = place-inside (c .before .before .pre .5) (c .before .before .pre .6) in search needs
+add-at c = let i = place-inside (c .before .pre .5) (c .before .pre .6) in search needs
 
 read-entry-requires : tie.Need-read-entry-requires
-read-entry-requires c κs = place-inside (c .before .before .before .pre .5) (c .before .before .before .pre .6) .long
+read-entry-requires c κs = place-inside (c .before .before .pre .5) (c .before .before .pre .6) .long
 
 is-processed-requires : tie.Need-is-processed-requires
 is-processed-requires c κs = search needs
@@ -27,17 +27,17 @@ pending-requires c κs = search needs
 
 write-entry-requires : tie.Need-write-entry-requires
 write-entry-requires c κs =
-    let start = c .before .before .before .before .before .before .before .before .before in
+    let start = c .before .before .before .before .before .before .before .before in
     place-inside (start .pre .5) (start .pre .6) .long
 
 undo-entry-requires : tie.Need-undo-entry-requires
 undo-entry-requires c κs =
-    let at-write-entry = c .before .before .before .before in
+    let at-write-entry = c .before .before .before in
     let at-pending = at-write-entry .before in
     let at-if1 = at-pending .before .before .before in
     let at-is-processed = at-if1 .before in
     let at-read-entry = at-is-processed .before in
-    let start = at-read-entry .before .before .before .before in
+    let start = at-read-entry .before .before .before in
     let d = may-undo (start .pre .5) (start .pre .6) (at-read-entry .read-entry .ensures) (at-is-processed .is-processed .ensures)
     (at-if1 .if1 .left) (at-pending .pending .ensures) (at-write-entry .write-entry .ensures) in
     (start .pre .0, _, d .0, d .1)
@@ -45,13 +45,10 @@ undo-entry-requires c κs =
 same-length-2 : tie.Need-same-length-2
 same-length-2 c = search needs
 
-same-length-3 : tie.Need-same-length-3
-same-length-3 c = search needs
-
 returns-2 : tie.Need-returns-2
 returns-2 c =
-    let at-undo-entry = c .before .before .before .before in
-    let at-write-entry = at-undo-entry .before .before .before .before .before in
+    let at-undo-entry = c .before .before in
+    let at-write-entry = at-undo-entry .before .before .before .before in
     let at-pending = at-write-entry .before in
     let at-if1 = at-pending .before .before .before in
     let at-is-processed = at-if1 .before in
@@ -77,5 +74,4 @@ undo-place-spec =
     write-entry-requires
     undo-entry-requires
     same-length-2
-    same-length-3
     returns-2)
