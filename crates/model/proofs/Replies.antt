@@ -1,7 +1,7 @@
 -- What the code's branches come to, as the state after a message and what it sends.
 use mathlib.Core.Path.{_≡_, _∙_, subst⁻¹}
 use Prim.Native.Nat.{ℕ, _+_, _-_, _≤_, _<_}
-use mathlib.Core.List.{List, [], _∷_}
+use mathlib.Core.List.{[], _∷_}
 use borrow.Author.Tests.{lt-ltb, le-ltb, le-leb, lt-leb}
 use Rattle.model.specs.Doing.{after, counted, shelved, notPast, reply, sent, sentFor, requestHours, deliveryHours, replyWith, replyTo}
 use Rattle.model.specs.declared.event.Reply.{Reply}

@@ -20,7 +20,6 @@ use Rattle.frame.specs.declared.Reading.{Reading}
 use Rattle.memory.specs.declared.Settings.{Settings}
 use Rattle.gateway.specs.SettingUp.{mayOpen, openingRefusal, firstRefusal}
 use Rattle.opening_list.specs.inside.Frames.{framesFrom, frameEnd, refusedFrame, checkedAs}
-use Rattle.opening_list.specs.declared.Checked.{Checked}
 use Rattle.opening_list.proofs.FramePositions.{end-between, frames-none, frames-next}
 
 -- whether a frame may stand in the list
