@@ -13,7 +13,7 @@ use Rattle.routing.specs.declared.Gateways.{Gateways}
 use Rattle.routing.specs.declared.Neighbours.{Neighbours}
 use Rattle.routing.specs.Arcs.{children}
 use Rattle.gateway.specs.Rounds.{bitOf, allBits}
-use Rattle.announce.specs.inside.Receivers.{few, listed, Holds}
+use Rattle.announce.specs.inside.Receivers.{listed, Holds}
 use Rattle.announce.specs.declared.receivers.Few.{Few}
 use Rattle.routing.proofs.FewArcs.{AtMostTwo}
 

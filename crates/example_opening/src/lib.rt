@@ -5,15 +5,25 @@ use lines::put_plain;
 use model::Kind;
 use model::Message;
 use opening::set_up::set_up;
+ghost use mathlib.Core.Path.{_≡_};
+ghost use mathlib.Core.List.{[]};
+ghost use Rattle.gateway.specs.Calls.{setUp};
+ghost use Rattle.example_opening.specs.inside.Settings.{exampleOpening};
 
 // Sets both gateways up, gateway 0 with the list.
-pub fn set_up_both(first: &mut [u8], second: &mut [u8], list: &[u8]) {
+pub fn set_up_both(first: &mut [u8], second: &mut [u8], list: &[u8])
+    ensures { λ _. ⌜
+        (now (first .exit) ≡ setUp (exampleOpening 0 0) (now (list .entry)) (now (first .entry)) .memory)
+        × (now (second .exit) ≡ setUp (exampleOpening 1 1) [] (now (second .entry)) .memory) ⌝ }
+{
     set_up(first, opening(0, 0), list);
     set_up(second, opening(1, 1), b"");
 }
 
 // The settings of the example. Supplier of both is gateway 1.
-fn opening(own: u32, stock: u32) -> Opening {
+fn opening(own: u32, stock: u32) -> Opening
+    ensures { λ r. ⌜ r ≡ exampleOpening own stock ⌝ }
+{
     Opening {
         n: 2,
         own,

@@ -1,7 +1,7 @@
--- How long a frame is at most.
+-- How long a frame is at least and at most.
 use mathlib.Core.Path.{_≡_}
 use mathlib.Core.Bool.{Bool, true, false, cond}
-use Prim.Native.Nat.{_+_, _≤_}
+use Prim.Native.Nat.{ℕ, _+_, _≤_}
 use native.Mathlib.Omega.{arith}
 use lib.Dec.{leb}
 use lib.ListN.{length}
@@ -13,6 +13,11 @@ use Rattle.frame.specs.Kinds.{mapOf, mapOfKind, senseNumber}
 use Rattle.frame.specs.Writing.{written}
 use Rattle.frame.specs.declared.Frame.{Frame}
 use Rattle.frame.proofs.Output.{whole-size}
+
+-- a frame has a byte: its map
+pub whole-some : (map : ℕ) → 1 ≤ wholeLength map
+unfolding wholeLength
+whole-some map = omega arith
 
 -- a kind's whole length is small, and so are two of them
 pub kind-small : (kind : Kind) → wholeLength (mapOfKind (kindNumber kind)) ≤ 28

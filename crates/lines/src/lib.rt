@@ -15,9 +15,12 @@ use places::search::Search;
 use places::search::find;
 use reader::read;
 use writer::write;
+ghost use mathlib.Core.Path.{_≡_};
 ghost use Prim.Native.Nat.{_+_, _≤_, _<_};
 ghost use lib.ListN.{length};
+ghost use Rattle.buffer.specs.Slice.{part};
 ghost use Rattle.memory.specs.Layout.{headerSize, queueAt};
+ghost use Rattle.lines.specs.inside.Putting.{sizeAt, appended, copied, plainPut, enteredIn, replyEntered};
 
 // Where the records of the two gateways end.
 pub struct Ends {
@@ -28,12 +31,9 @@ pub struct Ends {
 // The length of the frame at a position, which its map gives; no more than there is.
 pub fn size_at(frames: &[u8], at: usize) -> usize
     requires { ⌜ at < length (now frames) ⌝ }
-    ensures { λ r. ⌜ (1 ≤ r) × (at + r ≤ length (now (frames .entry))) ⌝ }
+    ensures { λ r. ⌜ (r ≡ sizeAt (now (frames .entry)) at) × (1 ≤ r) × (at + r ≤ length (now (frames .entry))) ⌝ }
 {
     let size = whole_length(frames[at]);
-    if size < 1 {
-        return 1;
-    }
     if frames.len() - at < size {
         return frames.len() - at;
     }
@@ -43,7 +43,10 @@ pub fn size_at(frames: &[u8], at: usize) -> usize
 // Puts the first so many bytes of the output behind the end of the line, and answers the end.
 pub fn append(line: &mut [u8], end: usize, output: &[u8], count: usize) -> usize
     requires { ⌜ end ≤ length (now line) ⌝ }
-    ensures { λ r. ⌜ (end ≤ r) × (r ≤ length (now (line .entry))) ⌝ }
+    ensures { λ r. ⌜
+        (record { bytes = now (line .exit); used = r } ≡ copied (now (output .entry)) count (now (line .entry)) end)
+        × (end ≤ r)
+        × (r ≤ length (now (line .entry))) ⌝ }
 {
     if output.len() < count {
         return end;
@@ -58,7 +61,10 @@ pub fn append(line: &mut [u8], end: usize, output: &[u8], count: usize) -> usize
 // Puts the frame at a position once more, at the end of the line.
 pub fn put_again(line: &mut [u8], at: usize, size: usize, end: usize) -> usize
     requires { ⌜ (at ≤ end) × (end ≤ length (now line)) ⌝ }
-    ensures { λ r. ⌜ (end ≤ r) × (r ≤ length (now (line .entry))) ⌝ }
+    ensures { λ r. ⌜
+        (record { bytes = now (line .exit); used = r } ≡ appended size (part (now (line .entry)) at size) (now (line .entry)) end)
+        × (end ≤ r)
+        × (r ≤ length (now (line .entry))) ⌝ }
 {
     if line.len() - end < size {
         return end;
@@ -68,7 +74,9 @@ pub fn put_again(line: &mut [u8], at: usize, size: usize, end: usize) -> usize
 }
 
 // Puts a plain message's frame at the beginning of the output, and answers its length, 0 where there is no room.
-pub fn put_plain(output: &mut [u8], message: Message) -> usize {
+pub fn put_plain(output: &mut [u8], message: Message) -> usize
+    ensures { λ r. ⌜ record { bytes = now (output .exit); used = r } ≡ plainPut message (now (output .entry)) ⌝ }
+{
     match write(output, frame_if(false, message)) {
         WriteAnswer::Written(count) => count,
         WriteAnswer::NoFrame => 0,
@@ -97,7 +105,10 @@ pub fn enter_list(list: &[u8], queue: &mut [u8]) -> usize
 // Enters a message behind those of so many that are not later, and answers how many there then are.
 pub fn enter(queue: &mut [u8], count: usize, message: Message) -> usize
     requires { ⌜ queueAt count ≤ length (now queue) ⌝ }
-    ensures { λ r. ⌜ (count ≤ r) × (queueAt r ≤ length (now (queue .entry))) ⌝ }
+    ensures { λ r. ⌜
+        (record { bytes = now (queue .exit); used = r } ≡ enteredIn (now (queue .entry)) count message)
+        × (count ≤ r)
+        × (queueAt r ≤ length (now (queue .entry))) ⌝ }
 {
     if queue.len() - QUEUE_SIZE * count < HEADER_SIZE + QUEUE_SIZE {
         return count;
@@ -107,9 +118,13 @@ pub fn enter(queue: &mut [u8], count: usize, message: Message) -> usize
     count + 1
 }
 
+// Enters what a reply sends, if it sends a message.
 pub fn enter_sent(queue: &mut [u8], count: usize, reply: Reply) -> usize
     requires { ⌜ queueAt count ≤ length (now queue) ⌝ }
-    ensures { λ r. ⌜ (count ≤ r) × (queueAt r ≤ length (now (queue .entry))) ⌝ }
+    ensures { λ r. ⌜
+        (record { bytes = now (queue .exit); used = r } ≡ replyEntered (now (queue .entry)) count reply)
+        × (count ≤ r)
+        × (queueAt r ≤ length (now (queue .entry))) ⌝ }
 {
     if !reply.sends {
         return count;

@@ -7,13 +7,9 @@ use mathlib.Core.List.{List, [], _∷_}
 use lib.ListN.{length, take, drop, getD, length-drop}
 use lib.Seq.{drop-cons, drop-drop, take-all}
 use Rattle.frame.specs.Layout.{wholeLength}
+use Rattle.frame.proofs.Sizes.{whole-some}
 use Rattle.gateway.specs.SettingUp.{cutFrames}
 use Rattle.opening_list.specs.inside.Frames.{framesFrom, frameEnd}
-
--- a frame has its map
-whole-some : (map : ℕ) → 1 ≤ wholeLength map
-unfolding wholeLength
-whole-some map = omega arith
 
 -- turns that are enough
 cut-enough : (a b : ℕ) (s : List ℕ) → length s ≤ a → length s ≤ b → cutFrames a s ≡ cutFrames b s

@@ -1,6 +1,7 @@
 -- `lines::enter` meets its contract.
 use borrow.Author.Needs.{needs}
 use Rattle.places.proofs.Positions.{place-within}
+use Rattle.lines.proofs.Branches.{no-place, in-place}
 use Rattle.lines.proofs.enter.Statement.{statement}
 use Rattle.lines.proofs.enter.Tie as tie
 
@@ -14,7 +15,7 @@ add-if1 : tie.Need-add-if1
 add-if1 c = search needs
 
 returns : tie.Need-returns
-returns c = search needs
+returns c = (search no-place, search needs, search needs)
 
 find-requires : tie.Need-find-requires
 find-requires c κs = search needs
@@ -32,7 +33,7 @@ same-length : tie.Need-same-length
 same-length c = search needs
 
 returns-2 : tie.Need-returns-2
-returns-2 c = search needs
+returns-2 c = (search in-place, search needs, search needs)
 
 pub enter-spec : {M : Type 1} → statement M
 enter-spec =

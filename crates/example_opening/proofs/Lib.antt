@@ -1,0 +1,2 @@
+-- Laws of the example's set up.
+pub mod SetUps

@@ -1,0 +1,2 @@
+-- How the last example begins.
+pub mod inside
