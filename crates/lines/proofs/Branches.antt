@@ -11,7 +11,7 @@ use Rattle.buffer.specs.Slice.{write}
 use Rattle.model.specs.declared.Message.{Message}
 use Rattle.model.specs.declared.event.Reply.{Reply}
 use Rattle.frame.specs.Layout.{wholeLength}
-use Rattle.frame.specs.Writing.{WriteOutcome, writing}
+use Rattle.frame.specs.Writing.{WriteOutcome, answerCount, outcomeOf, writing}
 use Rattle.frame.specs.declared.Frame.{Frame}
 use Rattle.frame.specs.declared.WriteAnswer.{WriteAnswer}
 use Rattle.frame.specs.declared.WriteAnswer.the-variants.{Written, NoFrame, NoRoom}
@@ -23,7 +23,7 @@ use Rattle.gateway.specs.Undoing.{pendingEntry}
 use Rattle.places.specs.inside.Searching.{passes, entriesIn}
 use Rattle.places.specs.declared.search.Search.the-variants.{Later}
 use Rattle.effects.specs.inside.Placed.{entryInserted}
-use Rattle.lines.specs.inside.Putting.{Buffer, appended, copied, countOf, plainPut, enteredIn, replyEntered}
+use Rattle.lines.specs.inside.Putting.{Buffer, appended, copied, plainPut, enteredIn, replyEntered}
 
 -- a frame has a byte
 pub some-bytes : (map : ℕ) {size : ℕ} → size ≡ wholeLength map → 1 ≤ size
@@ -49,19 +49,18 @@ module _ (output : List ℕ) (count : ℕ) (line : List ℕ) (end : ℕ) where
   all-copied h k e = rw (le-leb count (length output) h) (all-put count (take count output) line end k e)
 
 -- a plain message's frame written, by the writer's answer
-module _ (m : Message) (output : List ℕ) {f : Frame} {a : WriteAnswer} {out : List ℕ} (e : f ≡ frameIf false m)
-    (w : record { answer = a; output = out } ≡ writing f output) where
-  put-as : {b : WriteAnswer} → a ≡ b → record { bytes = out; used = countOf b } ≡ plainPut m output
-  put-as n = rw (← n, ← e) (ap (λ (o : WriteOutcome). record { bytes = o .output; used = countOf (o .answer) }) w)
+module _ (m : Message) (output : List ℕ) {f : Frame} (a : WriteAnswer) {out : List ℕ} (e : f ≡ frameIf false m) (w : outcomeOf a out ≡ writing f output) where
+  put-as : (b : WriteAnswer) → a ≡ b → record { bytes = out; used = answerCount b } ≡ plainPut m output
+  put-as b n = rw (← n, ← e) (ap (λ (o : WriteOutcome). record { bytes = o .output; used = o .count }) w)
 
   pub plain-written : (count : ℕ) → a ≡ Written count → record { bytes = out; used = count } ≡ plainPut m output
-  plain-written count n = put-as n
+  plain-written count n = put-as (Written count) n
 
   pub plain-no-frame : a ≡ NoFrame → record { bytes = out; used = 0 } ≡ plainPut m output
-  plain-no-frame n = put-as n
+  plain-no-frame n = put-as NoFrame n
 
   pub plain-no-room : a ≡ NoRoom → record { bytes = out; used = 0 } ≡ plainPut m output
-  plain-no-room n = put-as n
+  plain-no-room n = put-as NoRoom n
 
 -- a message entered
 module _ (queue : List ℕ) (count : ℕ) (m : Message) where

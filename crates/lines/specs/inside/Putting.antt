@@ -10,8 +10,6 @@ use Rattle.model.specs.declared.Message.{Message}
 use Rattle.model.specs.declared.event.Reply.{Reply}
 use Rattle.frame.specs.Layout.{wholeLength}
 use Rattle.frame.specs.Writing.{writing}
-use Rattle.frame.specs.declared.WriteAnswer.{WriteAnswer}
-use Rattle.frame.specs.declared.WriteAnswer.the-variants.{Written, NoFrame, NoRoom}
 use Rattle.memory.specs.Layout.{queueAt}
 use Rattle.memory.specs.Validity.{frameIf}
 use Rattle.gateway.specs.Undoing.{pendingEntry}
@@ -37,15 +35,9 @@ appended count xs line end =
 abbrev pub copied : List ℕ → ℕ → List ℕ → ℕ → Buffer
 copied output count line end = cond (leb count (length output)) (appended count (take count output) line end) (record { bytes = line; used = end })
 
--- how many bytes were written
-abbrev pub countOf : WriteAnswer → ℕ
-countOf (Written count) = count
-countOf NoFrame = 0
-countOf NoRoom = 0
-
 -- a plain message's frame written at the start of an output
 abbrev pub plainPut : Message → List ℕ → Buffer
-plainPut m output = let w = writing (frameIf false m) output in record { bytes = w .output; used = countOf (w .answer) }
+plainPut m output = let w = writing (frameIf false m) output in record { bytes = w .output; used = w .count }
 
 -- a message entered behind those of so many that are not later; where there is no place for it the queue stays
 abbrev pub enteredIn : List ℕ → ℕ → Message → Buffer
