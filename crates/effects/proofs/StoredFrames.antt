@@ -1,9 +1,9 @@
 -- Laws of the frames of what outstanding places hold: one place more, and a writer that was given them one by one.
-use mathlib.Core.Path.{_≡_, refl, sym, _∙_, ap}
-use Prim.Native.Nat.{ℕ, suc, _+_, _-_, _*_, _≤_, _<_}
-use native.Mathlib.Nat.{add-zero, zero-add}
+use mathlib.Core.Path.{_≡_, sym, _∙_, ap}
+use Prim.Native.Nat.{ℕ, _+_, _-_, _*_, _≤_, _<_}
+use native.Mathlib.Nat.{add-zero}
 use native.Mathlib.Omega.{arith}
-use mathlib.Core.List.{List, [], _∷_, _++_, map, map-append, append-nil}
+use mathlib.Core.List.{List, _∷_, _++_, map, map-append, append-nil}
 use lib.ListN.{length, length-append}
 use denote.Ref.{at-last}
 use Rattle.lists.specs.Lists.{joined}

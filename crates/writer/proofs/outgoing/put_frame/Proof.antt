@@ -34,7 +34,6 @@ use denote.Triple.Table.{entered}
 use denote.Triple.Walked.{says, needs, Stays, stay-none, gave-slice, walkOf, goes-none, goes-gave-slice, Walks, ends-at, walked, walk-meets}
 use denote.Exit.{yes}
 use denote.Signature.{plain}
-use Rattle.buffer.specs.Slice.{write}
 use Rattle.buffer.proofs.Writes.{length-write}
 use Rattle.frame.specs.declared.Frame.{Frame}
 use Rattle.frame.specs.Writing.{written}

@@ -1,5 +1,5 @@
 -- `writer::outgoing::put_two` meets its contract: one writer is made in a local, given the two frames in turn, and asked for its position.
-use mathlib.Core.Path.{_≡_, refl, sym, _∙_}
+use mathlib.Core.Path.{_≡_, refl, _∙_}
 use Prim.Native.Nat.{ℕ, _+_, _<_, _≤_, _^_}
 use native.Mathlib.Omega.{arith}
 use mathlib.Core.List.{[], _∷_, _++_, List}
