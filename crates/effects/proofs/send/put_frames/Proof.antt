@@ -55,7 +55,6 @@ use Rattle.frame.proofs.Frame.Laws as Fr′
 use Rattle.memory.specs.Layout.{outstandingSize}
 use Rattle.gateway.specs.Effects.{bytesOfFrames}
 use Rattle.writer.specs.declared.outgoing.Writer.{Writer}
-use Rattle.writer.proofs.outgoing.Writer.Laws as T′
 use Rattle.writer.proofs.WriterCalls.{WriterAt, Known, makes-writer, puts-next, asks-position}
 use Rattle.writer.proofs.KnownWriter.{known}
 use Rattle.writer.proofs.outgoing.put_next.Symbol.{name as #writer·outgoing·put-next}
@@ -220,7 +219,7 @@ module _ {M : Type 1} (𝓤 : URA M) (H : Heap 𝓤) (A : Atoms 𝓤) (W : Given
   Nearer-wf : WellFounded Nearer
   Nearer-wf = InvImage·wf (λ (i : Upto). n - i .0) (Nat·lt-wfRel .wf)
 
-  module _ (𝓣 : Tables 𝓤 H) (fm : FmC 𝓤 H (W .laws) (𝓣 .C)) (kn : Known 𝓤 H A mem run (𝓣 .C)) (known-stored : Triple 𝓤 (𝓣 .C
+  module _ (𝓣 : Tables 𝓤 H) (fm : FmC 𝓤 H (W .laws) (𝓣 .C)) (knows : Known 𝓤 H A mem run (𝓣 .C)) (known-stored : Triple 𝓤 (𝓣 .C
       #effects·send·stored-frame) (StoredFrame 𝓤 H A mem run)) where
     abbrev C : Calls 𝓤 H
     C = 𝓣 .C
@@ -288,7 +287,7 @@ module _ {M : Type 1} (𝓤 : URA M) (H : Heap 𝓤) (A : Atoms 𝓤) (W : Given
           rewrite ! 0 (λ (z : Frame). ‵ (Own z v)) e refl $
           -- [what the frame owns; the memory's token; what the memory owns; _6; what the writer owns; the output's token; …]
           move ! (1 ∷ []) $ split ! $ move ! (6 ∷ 5 ∷ 2 ∷ []) $
-          puts-next ! fm mem run kn μ s (h (i .0)) w (frameHere (m .now) at (i .0)) v (next-room (m .now) at h₀ f n room (i .0) (below less))
+          puts-next ! fm mem run knows μ s (h (i .0)) w (frameHere (m .now) at (i .0)) v (next-room (m .now) at h₀ f n room (i .0) (below less))
           (and-then ! (load ! (from ! (stop !)) (look ! 10 refl)) (and-then ! (load ! (from ! (stop !)) (look ! 8 refl)) (no-more !))) (λ w′ t′.
           land ! (from ! (stop !)) (store ! 5 refl t′) $
           assigns-last ! (bin ! (load ! (from ! (stop !)) (look ! 21 refl)) (lit ! tt) (record { fits = fits (next less) })) (from ! (stop !))
@@ -301,7 +300,7 @@ module _ {M : Type 1} (𝓤 : URA M) (H : Heap 𝓤) (A : Atoms 𝓤) (W : Given
           (λ over. jumps ! $ exec ! C Λ En rest (atRet En Post) $
           assigns ! (of-opd ! (load ! (from ! (stop !)) (look ! 0 refl))) (from ! (stop !)) (init ! 6 refl wt) $
           move ! (2 ∷ 1 ∷ []) $
-          asks-position ! fm mem run kn μ s (h (i .0)) w (and-then ! (load ! (from ! (stop !)) (look ! 5 refl)) (no-more !)) (λ end-fits.
+          asks-position ! fm mem run knows μ s (h (i .0)) w (and-then ! (load ! (from ! (stop !)) (look ! 5 refl)) (no-more !)) (λ end-fits.
           -- [the output's token; the last list; _6; the memory's token; what the memory and the first frame own; _14; …]
           land ! (from ! (stop !)) (init ! 33 refl (tt, record { fits = end-fits })) $ returns ! (look ! 33 refl) $
           forget ! 2 refl $ forget ! 6 refl $ forget ! 12 refl $ forget ! 20 refl $ forget ! 23 refl $ forget ! 25 refl $ forget ! 27 refl $
@@ -346,10 +345,10 @@ module _ {M : Type 1} (𝓤 : URA M) (H : Heap 𝓤) (A : Atoms 𝓤) (W : Given
           Fr.the-type Fr′.the-copy 𝓤 H A W .twice f (u ∷ [])) $ split ! $ move ! (2 ∷ []) $ drop ! $
           -- [what the first frame owns, twice; what output and memory own; _14; …; the tokens]
           move ! (34 ∷ []) $ split ! $ move ! (1 ∷ []) $ split ! $ move ! (1 ∷ []) $ drop ! $ move ! (0 ∷ 4 ∷ []) $
-          makes-writer ! fm mem run kn μ s x outputVal 0 (lit< tt) (and-then ! (load ! (from ! (stop !)) (look ! 13 refl)) (and-then ! (lit ! tt)
+          makes-writer ! fm mem run knows μ s x outputVal 0 (lit< tt) (and-then ! (load ! (from ! (stop !)) (look ! 13 refl)) (and-then ! (lit ! tt)
           (no-more !))) (λ w₀ t₀.
           land ! (from ! (stop !)) (init ! 18 refl t₀) $ move ! (0 ∷ 1 ∷ 3 ∷ []) $
-          puts-next ! fm mem run kn μ s h₀ w₀ f u (first-room (m .now) at h₀ f n room) (and-then ! (load ! (from ! (stop !)) (look ! 16 refl))
+          puts-next ! fm mem run knows μ s h₀ w₀ f u (first-room (m .now) at h₀ f n room) (and-then ! (load ! (from ! (stop !)) (look ! 16 refl))
           (and-then ! (load ! (from ! (stop !)) (look ! 26 refl)) (no-more !))) (λ w₁ t₁.
           land ! (from ! (stop !)) (init ! 21 refl t₁) $
           assigns ! (of-opd ! (lit ! tt)) (from ! (stop !)) (init ! 19 refl (tt, record { fits = lit< tt })) $
@@ -380,7 +379,7 @@ module _ {M : Type 1} (𝓤 : URA M) (H : Heap 𝓤) (A : Atoms 𝓤) (W : Given
   put-frames-walks : (𝓣 : Tables 𝓤 H) → FmC 𝓤 H (W .laws) (𝓣 .C) → Known 𝓤 H A mem run (𝓣 .C) → Triple 𝓤 (𝓣 .C #effects·send·stored-frame)
       (StoredFrame 𝓤 H A mem run)
       → Walks 𝓤 H A put-frames.ended stayed (WpFn 𝓤 H (𝓣 .C) (𝓣 .Λ) code.function) (put-frames.clauses 𝓤 H A mem run)
-  put-frames-walks 𝓣 fm kn known-stored = walked 𝓤 H A put-frames.ended stayed (put-frames.clauses 𝓤 H A mem run) (WpFn 𝓤 H (𝓣 .C) (𝓣 .Λ) code.function)
+  put-frames-walks 𝓣 fm knows known-stored = walked 𝓤 H A put-frames.ended stayed (put-frames.clauses 𝓤 H A mem run) (WpFn 𝓤 H (𝓣 .C) (𝓣 .Λ) code.function)
       (λ κs. (slice-vals, (slice-vals, (LL.vals Fr.the-type Fr′.the-laws, (uint-vals w64, (uint-vals w64, tt)))))) (λ κs. (
         shr-slice-tells (named 0) (κs .0) u8,
         (
@@ -391,13 +390,13 @@ module _ {M : Type 1} (𝓤 : URA M) (H : Heap 𝓤) (A : Atoms 𝓤) (W : Given
       (λ κs qs bounds a g are. needs 𝓤 ((a .1 .1 .1 .0 + outstandingSize * a .1 .1 .1 .1 .0 ≤ length (a .0 .now)) × (length (bytesOfFrames (a .1 .1 .0
       ∷ storedFrames (a .0 .now) (a .1 .1 .1 .0) (a .1 .1 .1 .1 .0))) ≤ length (a .1 .0 .now))) _ (λ within.
       walk 𝓤 H A W mem run (κs .0) (κs .1 .0) (qs .0) (qs .1 .0) (a .0) (a .1 .0 .ptr .0) (a .1 .0 .ptr .1) (a .1 .0 .name) (a .1 .0 .now) (a .1 .1 .0)
-      _ (a .1 .1 .1 .0) (a .1 .1 .1 .1 .0) (are .1 .1 .1 .0 .1) (are .1 .1 .1 .1 .0 .1) (are .1 .1 .0) (within .0) (within .1) 𝓣 fm kn known-stored
+      _ (a .1 .1 .1 .0) (a .1 .1 .1 .1 .0) (are .1 .1 .1 .0 .1) (are .1 .1 .1 .1 .0 .1) (are .1 .1 .0) (within .0) (within .1) 𝓣 fm knows known-stored
       (are .0) (are .1 .0 .0 .1)))
 
 put-frames-meets : {M : Type 1} (𝓤 : URA M) (H : Heap 𝓤) (A : Atoms 𝓤) → Given 𝓤 H A → (mem : Memory → SProp 𝓤) (run : Routine → Fun 𝓤) (𝓣 : Tables 𝓤 H)
     → Known 𝓤 H A mem run (𝓣 .C) → Triple 𝓤 (𝓣 .C #effects·send·stored-frame) (StoredFrame 𝓤 H A mem run)
     → Meets 𝓤 H A put-frames.signature (WpFn 𝓤 H (𝓣 .C) (𝓣 .Λ) code.function) (put-frames.spec 𝓤 H A mem run)
-put-frames-meets 𝓤 H A W mem run 𝓣 kn known-stored =
+put-frames-meets 𝓤 H A W mem run 𝓣 knows known-stored =
     walk-meets 𝓤 H A put-frames.ended stayed W (
       goes-none-slice 𝓤 H A W 2 (0 ∷ []) tt (plain (λ _. u8)) yes,
       (
@@ -408,7 +407,7 @@ put-frames-meets 𝓤 H A W mem run 𝓣 kn known-stored =
         ),
       ),
     ) (put-frames.clauses 𝓤 H A mem run)
-    (WpFn 𝓤 H (𝓣 .C) (𝓣 .Λ) code.function) (WpFn-mono 𝓤 H (W .laws) 𝓣 code.function) (put-frames-walks 𝓤 H A W mem run 𝓣 (fmOf 𝓤 H (W .laws) 𝓣) kn known-stored)
+    (WpFn 𝓤 H (𝓣 .C) (𝓣 .Λ) code.function) (WpFn-mono 𝓤 H (W .laws) 𝓣 code.function) (put-frames-walks 𝓤 H A W mem run 𝓣 (fmOf 𝓤 H (W .laws) 𝓣) knows known-stored)
 
 pub put-frames-spec : {M : Type 1} → stated.statement M
 unfolding code.routine tablesOf

@@ -94,7 +94,7 @@ module _ {M : Type 1} (𝓤 : URA M) (H : Heap 𝓤) (A : Atoms 𝓤) (W : Given
       nothing ! $ move ! (3 ∷ 0 ∷ []) $ fjoin ! $ owned ! usize (Is usize) (uint-makes 𝓤 H A W w64) n _ (refl, n-fits) $ fjoin ! $ move ! (2
       ∷ 0 ∷ []) $ fjoin ! $ done !
 
-  module _ (C : Calls 𝓤 H) (Λ : Loops 𝓤 H) (fm : FmC 𝓤 H (W .laws) C) (kn : Known 𝓤 H A mem run C) where
+  module _ (C : Calls 𝓤 H) (Λ : Loops 𝓤 H) (fm : FmC 𝓤 H (W .laws) C) (knows : Known 𝓤 H A mem run C) where
     walk : Room u8 (length ys) → ent 𝓤 (onEntry 𝓤 H A put-frame.signature (κ, tt) (q, tt) a vals) (WpFn 𝓤 H C Λ code.function (s ∷ vint w64 n ∷ u ∷ []) Post)
     walk room =
         qed W ((‵ (flft κ q) ⊛ ‵ ftrue) ∷ ‵ (owns (MutSlice (named 0) κ u8 ∷ usize ∷ Fr.the-row ∷ []) a vals) ∷ []) ∵ enter ! C Λ
@@ -111,13 +111,13 @@ module _ {M : Type 1} (𝓤 : URA M) (H : Heap 𝓤) (A : Atoms 𝓤) (W : Given
         Fr′.the-copy 𝓤 H A W .twice f (u ∷ [])) $ split ! $
         -- [what the frame owns, twice; …; what at and output own; _7; …; the token]
         move ! (21 ∷ []) $ split ! $ move ! (0 ∷ 6 ∷ []) $
-        makes-writer ! fm mem run kn κ q x s n n-fits (and-then ! (load ! (from ! (stop !)) (look ! 6 refl)) (and-then ! (load ! (from !
+        makes-writer ! fm mem run knows κ q x s n n-fits (and-then ! (load ! (from ! (stop !)) (look ! 6 refl)) (and-then ! (load ! (from !
         (stop !)) (look ! 16 refl)) (no-more !))) (λ w₀ t₀.
         land ! (from ! (stop !)) (init ! 11 refl t₀) $ move ! (0 ∷ 1 ∷ 3 ∷ []) $
-        puts-next ! fm mem run kn κ q h₀ w₀ f u within (and-then ! (load ! (from ! (stop !)) (look ! 9 refl)) (and-then ! (load ! (from !
+        puts-next ! fm mem run knows κ q h₀ w₀ f u within (and-then ! (load ! (from ! (stop !)) (look ! 9 refl)) (and-then ! (load ! (from !
         (stop !)) (look ! 13 refl)) (no-more !))) (λ w₁ t₁.
         land ! (from ! (stop !)) (init ! 12 refl t₁) $
-        asks-position ! fm mem run kn κ q h₁ w₁ (and-then ! (load ! (from ! (stop !)) (look ! 11 refl)) (no-more !)) (λ fits.
+        asks-position ! fm mem run knows κ q h₁ w₁ (and-then ! (load ! (from ! (stop !)) (look ! 11 refl)) (no-more !)) (λ fits.
         -- [the token; the last list; …; what the frame owns; …; _7; …]
         land ! (from ! (stop !)) (init ! 20 refl (tt, record { fits = fits })) $ returns ! (look ! 20 refl) $
         forget ! 6 refl $ forget ! 8 refl $ forget ! 10 refl $ forget ! 12 refl $ forget ! 14 refl $ forget ! 16 refl $ forget ! 18 refl $
@@ -129,18 +129,18 @@ module _ {M : Type 1} (𝓤 : URA M) (H : Heap 𝓤) (A : Atoms 𝓤) (W : Given
 module _ {M : Type 1} (𝓤 : URA M) (H : Heap 𝓤) (A : Atoms 𝓤) (W : Given 𝓤 H A) (mem : Memory → SProp 𝓤) (run : Routine → Fun 𝓤) where
   put-frame-walks : (C : Calls 𝓤 H) (Λ : Loops 𝓤 H) → FmC 𝓤 H (W .laws) C → Known 𝓤 H A mem run C
       → Walks 𝓤 H A put-frame.ended stayed (WpFn 𝓤 H C Λ code.function) (put-frame.clauses 𝓤 H A mem run)
-  put-frame-walks C Λ fm kn = walked 𝓤 H A put-frame.ended stayed (put-frame.clauses 𝓤 H A mem run) (WpFn 𝓤 H C Λ code.function)
+  put-frame-walks C Λ fm knows = walked 𝓤 H A put-frame.ended stayed (put-frame.clauses 𝓤 H A mem run) (WpFn 𝓤 H C Λ code.function)
       (λ κs. (slice-vals, (uint-vals w64, (LL.vals Fr.the-type Fr′.the-laws, tt)))) (λ κs. (
         mut-slice-tells (named 0) (κs .0) u8,
         (uint-tells w64, (LL.tells Fr.the-type Fr′.the-laws, tt)),
       ))
       (λ κs qs bounds a g are. needs 𝓤 (a .1 .0 + length (written (a .1 .1 .0)) ≤ length (a .0 .now)) _ (λ within.
       walk 𝓤 H A W mem run (κs .0) (qs .0) (a .0 .ptr .0) (a .0 .ptr .1) (a .0 .name) (a .0 .now) (a .1 .0) (a .1 .1 .0) _ (are .1 .0 .1)
-      (are .1 .1 .0) within C Λ fm kn (are .0 .0 .1)))
+      (are .1 .1 .0) within C Λ fm knows (are .0 .0 .1)))
 
 put-frame-meets : {M : Type 1} (𝓤 : URA M) (H : Heap 𝓤) (A : Atoms 𝓤) → Given 𝓤 H A → (mem : Memory → SProp 𝓤) (run : Routine → Fun 𝓤) (𝓣 : Tables 𝓤 H)
     → Known 𝓤 H A mem run (𝓣 .C) → Meets 𝓤 H A put-frame.signature (WpFn 𝓤 H (𝓣 .C) (𝓣 .Λ) code.function) (put-frame.spec 𝓤 H A mem run)
-put-frame-meets 𝓤 H A W mem run 𝓣 kn =
+put-frame-meets 𝓤 H A W mem run 𝓣 knows =
     walk-meets 𝓤 H A put-frame.ended stayed W (
       goes-gave-slice 𝓤 H A W 1 0 tt (plain (λ _. u8)),
       (
@@ -150,7 +150,7 @@ put-frame-meets 𝓤 H A W mem run 𝓣 kn =
       ),
     ) (put-frame.clauses 𝓤 H A mem run)
     (WpFn 𝓤 H (𝓣 .C) (𝓣 .Λ) code.function) (WpFn-mono 𝓤 H (W .laws) 𝓣 code.function) (put-frame-walks 𝓤 H A W mem run (𝓣 .C) (𝓣 .Λ) (fmOf 𝓤
-    H (W .laws) 𝓣) kn)
+    H (W .laws) 𝓣) knows)
 
 pub put-frame-spec : {M : Type 1} → stated.statement M
 unfolding code.routine tablesOf

@@ -118,7 +118,7 @@ module _ {M : Type 1} (𝓤 : URA M) (H : Heap 𝓤) (A : Atoms 𝓤) (W : Given
         n-fits,
       ) $ fjoin ! $ move ! (2 ∷ 0 ∷ []) $ fjoin ! $ done !
 
-  module _ (C : Calls 𝓤 H) (Λ : Loops 𝓤 H) (fm : FmC 𝓤 H (W .laws) C) (kn : Known 𝓤 H A mem run C) where
+  module _ (C : Calls 𝓤 H) (Λ : Loops 𝓤 H) (fm : FmC 𝓤 H (W .laws) C) (knows : Known 𝓤 H A mem run C) where
     walk : Room u8 (length ys) → ent 𝓤 (onEntry 𝓤 H A put-two.signature (κ, tt) (q, tt) a vals) (WpFn 𝓤 H C Λ code.function (s ∷ vint w64 n ∷ u ∷
         v ∷ []) Post)
     walk room =
@@ -139,16 +139,16 @@ module _ {M : Type 1} (𝓤 : URA M) (H : Heap 𝓤) (A : Atoms 𝓤) (W : Given
         (LL.copy Fr.the-type Fr′.the-copy 𝓤 H A W .twice g (v ∷ [])) $ split ! $
         -- [what the second frame owns, twice; …; the first, twice; what at and output own; _9; …; the token]
         move ! (27 ∷ []) $ split ! $ move ! (0 ∷ 8 ∷ []) $
-        makes-writer ! fm mem run kn κ q x s n n-fits (and-then ! (load ! (from ! (stop !)) (look ! 8 refl)) (and-then ! (load ! (from !
+        makes-writer ! fm mem run knows κ q x s n n-fits (and-then ! (load ! (from ! (stop !)) (look ! 8 refl)) (and-then ! (load ! (from !
         (stop !)) (look ! 22 refl)) (no-more !))) (λ w₀ t₀.
         land ! (from ! (stop !)) (init ! 13 refl t₀) $ move ! (0 ∷ 1 ∷ 6 ∷ []) $
-        puts-next ! fm mem run kn κ q h₀ w₀ f u first-room (and-then ! (load ! (from ! (stop !)) (look ! 11 refl)) (and-then ! (load ! (from !
+        puts-next ! fm mem run knows κ q h₀ w₀ f u first-room (and-then ! (load ! (from ! (stop !)) (look ! 11 refl)) (and-then ! (load ! (from !
         (stop !)) (look ! 19 refl)) (no-more !))) (λ w₁ t₁.
         land ! (from ! (stop !)) (init ! 14 refl t₁) $ move ! (0 ∷ 1 ∷ 3 ∷ []) $
-        puts-next ! fm mem run kn κ q h₁ w₁ g v second-room (and-then ! (load ! (from ! (stop !)) (look ! 12 refl)) (and-then ! (load ! (from !
+        puts-next ! fm mem run knows κ q h₁ w₁ g v second-room (and-then ! (load ! (from ! (stop !)) (look ! 12 refl)) (and-then ! (load ! (from !
         (stop !)) (look ! 16 refl)) (no-more !))) (λ w₂ t₂.
         land ! (from ! (stop !)) (init ! 15 refl t₂) $
-        asks-position ! fm mem run kn κ q h₂ w₂ (and-then ! (load ! (from ! (stop !)) (look ! 14 refl)) (no-more !)) (λ fits.
+        asks-position ! fm mem run knows κ q h₂ w₂ (and-then ! (load ! (from ! (stop !)) (look ! 14 refl)) (no-more !)) (λ fits.
         -- [the token; the last list; …; what the second frame owns; …; what the first owns; what at owns; _9; …]
         land ! (from ! (stop !)) (init ! 25 refl (tt, record { fits = fits })) $ returns ! (look ! 25 refl) $
         forget ! 7 refl $ forget ! 9 refl $ forget ! 11 refl $ forget ! 13 refl $ forget ! 15 refl $ forget ! 17 refl $ forget ! 19 refl $
@@ -160,18 +160,18 @@ module _ {M : Type 1} (𝓤 : URA M) (H : Heap 𝓤) (A : Atoms 𝓤) (W : Given
 module _ {M : Type 1} (𝓤 : URA M) (H : Heap 𝓤) (A : Atoms 𝓤) (W : Given 𝓤 H A) (mem : Memory → SProp 𝓤) (run : Routine → Fun 𝓤) where
   put-two-walks : (C : Calls 𝓤 H) (Λ : Loops 𝓤 H) → FmC 𝓤 H (W .laws) C → Known 𝓤 H A mem run C
       → Walks 𝓤 H A put-two.ended stayed (WpFn 𝓤 H C Λ code.function) (put-two.clauses 𝓤 H A mem run)
-  put-two-walks C Λ fm kn = walked 𝓤 H A put-two.ended stayed (put-two.clauses 𝓤 H A mem run) (WpFn 𝓤 H C Λ code.function)
+  put-two-walks C Λ fm knows = walked 𝓤 H A put-two.ended stayed (put-two.clauses 𝓤 H A mem run) (WpFn 𝓤 H C Λ code.function)
       (λ κs. (slice-vals, (uint-vals w64, (LL.vals Fr.the-type Fr′.the-laws, (LL.vals Fr.the-type Fr′.the-laws, tt))))) (λ κs. (
         mut-slice-tells (named 0) (κs .0) u8,
         (uint-tells w64, (LL.tells Fr.the-type Fr′.the-laws, (LL.tells Fr.the-type Fr′.the-laws, tt))),
       ))
       (λ κs qs bounds a g are. needs 𝓤 (a .1 .0 + length (written (a .1 .1 .0) ++ written (a .1 .1 .1 .0)) ≤ length (a .0 .now)) _ (λ within.
       walk 𝓤 H A W mem run (κs .0) (qs .0) (a .0 .ptr .0) (a .0 .ptr .1) (a .0 .name) (a .0 .now) (a .1 .0) (a .1 .1 .0) (a .1 .1 .1 .0) _ _
-      (are .1 .0 .1) (are .1 .1 .0) (are .1 .1 .1 .0) within C Λ fm kn (are .0 .0 .1)))
+      (are .1 .0 .1) (are .1 .1 .0) (are .1 .1 .1 .0) within C Λ fm knows (are .0 .0 .1)))
 
 put-two-meets : {M : Type 1} (𝓤 : URA M) (H : Heap 𝓤) (A : Atoms 𝓤) → Given 𝓤 H A → (mem : Memory → SProp 𝓤) (run : Routine → Fun 𝓤) (𝓣 : Tables 𝓤 H)
     → Known 𝓤 H A mem run (𝓣 .C) → Meets 𝓤 H A put-two.signature (WpFn 𝓤 H (𝓣 .C) (𝓣 .Λ) code.function) (put-two.spec 𝓤 H A mem run)
-put-two-meets 𝓤 H A W mem run 𝓣 kn =
+put-two-meets 𝓤 H A W mem run 𝓣 knows =
     walk-meets 𝓤 H A put-two.ended stayed W (
       goes-gave-slice 𝓤 H A W 1 0 tt (plain (λ _. u8)),
       (
@@ -181,7 +181,7 @@ put-two-meets 𝓤 H A W mem run 𝓣 kn =
       ),
     ) (put-two.clauses 𝓤 H A mem run)
     (WpFn 𝓤 H (𝓣 .C) (𝓣 .Λ) code.function) (WpFn-mono 𝓤 H (W .laws) 𝓣 code.function) (put-two-walks 𝓤 H A W mem run (𝓣 .C) (𝓣 .Λ) (fmOf 𝓤
-    H (W .laws) 𝓣) kn)
+    H (W .laws) 𝓣) knows)
 
 pub put-two-spec : {M : Type 1} → stated.statement M
 unfolding code.routine tablesOf
