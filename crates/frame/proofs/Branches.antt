@@ -1,13 +1,13 @@
 -- The reader's tests, a law for each branch of the code that makes them.
 use mathlib.Core.Path.{_≡_, refl, sym, _∙_, ap}
-use Prim.Native.Nat.{ℕ, zero, suc, _+_, _<_, _≤_}
+use Prim.Native.Nat.{ℕ, zero, suc, _+_, _/_, _<_, _≤_}
 use mathlib.Core.Bool.{Bool, true, false, not}
 use native.Mathlib.Omega.{arith}
 use lib.Dec.{leb, eqb}
 use lib.ListN.{length, getD}
 use mathlib.Core.List.{List}
 use borrow.Author.Tests.{le-leb, lt-leb, lt-ltb, le-ltb, eq-eqb, ne-eqb, not-true, not-false}
-use Rattle.frame.specs.Layout.{wholeLength}
+use Rattle.frame.specs.Layout.{odd, wholeLength}
 use Rattle.frame.specs.Kinds.{mapOfKind, hasLamp, senseOf}
 use Rattle.frame.specs.Writing.{lampFits, gatewaysAgree}
 use Rattle.frame.specs.Reasons.{mapFits, senseFits, fieldsOf, frameOf, fieldsForm, reading, readAs, refusedAs}
@@ -38,14 +38,18 @@ module _ (map kind : ℕ) where
     unfolding mapFits
     map-plain p = rw (lt-ltb kind 7 h, eq-eqb map (mapOfKind kind) (p ∙ e))
 
-    module _ (p : map ≡ plain → ⊥) {lamp : Bool} (l : lamp ≡ hasLamp kind) where
+    module _ (p : map ≡ plain → ⊥) {lamp : Bool} (l : lamp ≡ odd (plain / 32)) where
+      lamp-is : hasLamp kind ≡ lamp
+      unfolding hasLamp
+      lamp-is = rw (← e) (sym l)
+
       pub map-other : not lamp ≡ true → false ≡ mapFits map kind
       unfolding mapFits
-      map-other k = rw (lt-ltb kind 7 h, ne-eqb map (mapOfKind kind) (λ q. p (q ∙ sym e)), sym l ∙ not-true lamp k)
+      map-other k = rw (lt-ltb kind 7 h, ne-eqb map (mapOfKind kind) (λ q. p (q ∙ sym e)), lamp-is ∙ not-true lamp k)
 
       pub map-sense : not lamp ≡ false → eqb map (plain + 128) ≡ mapFits map kind
       unfolding mapFits
-      map-sense k = rw (lt-ltb kind 7 h, ne-eqb map (mapOfKind kind) (λ q. p (q ∙ sym e)), sym l ∙ not-false lamp k, e)
+      map-sense k = rw (lt-ltb kind 7 h, ne-eqb map (mapOfKind kind) (λ q. p (q ∙ sym e)), lamp-is ∙ not-false lamp k, e)
 
 module _ (map sense : ℕ) where
   pub sense-none : map < 128 → true ≡ senseFits map sense

@@ -1,13 +1,14 @@
 -- Laws of the checks of a frame's numbers and hour, and of a value's form, a law for each branch of the code.
 use mathlib.Core.Path.{_≡_, sym, _∙_}
-use Prim.Native.Nat.{ℕ, _<_, _≤_}
-use mathlib.Core.Bool.{Bool, true, false, not, _&&_}
+use Prim.Native.Nat.{ℕ, _/_, _<_, _≤_}
+use mathlib.Core.Bool.{Bool, true, false, cond, not, _&&_, _||_}
 use lib.Dec.{ltb, eqb}
 use borrow.Author.Tests.{le-leb, lt-leb, lt-ltb, le-ltb, eq-eqb, ne-eqb, not-true, not-false}
 use Rattle.model.specs.Messages.{kindNumber, originOf}
 use Rattle.model.specs.declared.Message.{Message}
-use Rattle.frame.specs.Kinds.{hasHour, hasLamp, senseNumber}
-use Rattle.frame.specs.Writing.{senseAllowed, hourFits, lampFits, gatewaysAgree, wellFormed}
+use Rattle.frame.specs.Layout.{odd}
+use Rattle.frame.specs.Kinds.{mapOfKind, hasHour, hasLamp, senseNumber}
+use Rattle.frame.specs.Writing.{allBetween, senseAllowed, hourFits, lampFits, gatewaysAgree, wellFormed}
 use Rattle.frame.specs.Limits.{numbersBelow, addressee, hourAllowed, refusal}
 use Rattle.frame.specs.declared.Frame.{Frame}
 
@@ -52,39 +53,34 @@ module _ (f : Frame) (n own last : ℕ) {ok : Bool} (e : ok ≡ numbersBelow n (
       unfolding refusal
       allowed l = rw (sym e ∙ not-false ok h, eq-eqb (addressee (f .sense) (f .message)) own (sym a ∙ d), sym k ∙ not-false hour l)
 
-pub sense-of-lamp : (kind sense : ℕ) {lamp : Bool} → lamp ≡ hasLamp kind → lamp ≡ true → true ≡ senseAllowed kind sense
-sense-of-lamp kind sense e h = rw (sym e ∙ h)
-
-pub sense-without : (kind sense : ℕ) {lamp : Bool} → lamp ≡ hasLamp kind → lamp ≡ false → eqb sense 0 ≡ senseAllowed kind sense
-sense-without kind sense e h = rw (sym e ∙ h)
-
-module _ (kind sense hour : ℕ) {allowed : Bool} (a : allowed ≡ senseAllowed kind sense) where
-  pub header-sense : not allowed ≡ true → false ≡ (senseAllowed kind sense && hourFits kind hour)
-  header-sense h = rw (sym a ∙ not-true allowed h)
-
-  module _ (h : not allowed ≡ false) {hours : Bool} (e : hours ≡ hasHour kind) where
-    pub header-hour : hours ≡ true → true ≡ (senseAllowed kind sense && hourFits kind hour)
-    header-hour k = rw (sym a ∙ not-false allowed h, sym e ∙ k)
-
-    pub header-without : hours ≡ false → eqb hour 0 ≡ (senseAllowed kind sense && hourFits kind hour)
-    header-without k = rw (sym a ∙ not-false allowed h, sym e ∙ k)
-
-module _ (f : Frame) {kind sense : ℕ} {header : Bool} (k : kind ≡ kindNumber (f .message .kind)) (s : sense ≡ senseNumber (f .sense))
-    (e : header ≡ (senseAllowed kind sense && hourFits kind (f .message .hour)))
+-- whether a value is one of the forms, by its kind's map
+module _ (f : Frame) {kind map sense : ℕ} {header : Bool} (k : kind ≡ kindNumber (f .message .kind)) (m : map ≡ mapOfKind kind)
+    (s : sense ≡ senseNumber (f .sense))
+    (e : header ≡ ((odd (map / 32) || eqb sense 0) && cond (odd (map / 8)) true (eqb (f .message .hour) 0)))
   where
+    map-is : map ≡ mapOfKind (kindNumber (f .message .kind))
+    map-is = m ∙ rw k
+
     header-test : header ≡ (senseAllowed (kindNumber (f .message .kind)) (senseNumber (f .sense)) && hourFits (kindNumber
         (f .message .kind)) (f .message .hour))
-    header-test = e ∙ rw (k, s)
+    unfolding hasLamp hasHour
+    header-test = e ∙ rw (map-is, s)
 
     pub ill-header : not header ≡ true → false ≡ wellFormed f
     unfolding wellFormed
     ill-header h = rw (sym header-test ∙ not-true header h)
 
-    module _ (h : not header ≡ false) {lamp : Bool} (l : lamp ≡ lampFits (f .message)) where
-      pub ill-lamp : not lamp ≡ true → false ≡ wellFormed f
-      unfolding wellFormed
-      ill-lamp a = rw (sym header-test ∙ not-false header h, sym l ∙ not-true lamp a)
+    module _ (h : not header ≡ false) {there lamp : Bool} (t : there ≡ odd (map / 32))
+        (l : lamp ≡ cond there (allBetween 33 126 (f .message .lamp)) (allBetween 0 0 (f .message .lamp)))
+      where
+        lamp-test : lamp ≡ lampFits (f .message)
+        unfolding lampFits
+        lamp-test = l ∙ rw (t, map-is)
 
-      pub rest-formed : {agree : Bool} → not lamp ≡ false → agree ≡ gatewaysAgree (f .message .from) (f .message .to) (f .message .kind) → agree ≡ wellFormed f
-      unfolding wellFormed
-      rest-formed a g = g ∙ rw (sym header-test ∙ not-false header h, sym l ∙ not-false lamp a)
+        pub ill-lamp : not lamp ≡ true → false ≡ wellFormed f
+        unfolding wellFormed
+        ill-lamp a = rw (sym header-test ∙ not-false header h, sym lamp-test ∙ not-true lamp a)
+
+        pub rest-formed : {agree : Bool} → not lamp ≡ false → agree ≡ gatewaysAgree (f .message .from) (f .message .to) (f .message .kind) → agree ≡ wellFormed f
+        unfolding wellFormed
+        rest-formed a g = g ∙ rw (sym header-test ∙ not-false header h, sym lamp-test ∙ not-false lamp a)

@@ -6,7 +6,7 @@ ghost use mathlib.Core.Path.{_≡_};
 ghost use Prim.Native.Nat.{_<_, _/_};
 ghost use lib.ListN.{getD};
 ghost use Rattle.frame.specs.Layout.{widths, odd, wholeLength};
-ghost use Rattle.frame.specs.Kinds.{mapOf, mapOfKind, hasHour, hasLamp, senseNumber, senseOf};
+ghost use Rattle.frame.specs.Kinds.{mapOf, mapOfKind, hasLamp, senseNumber, senseOf};
 
 // The map of each kind.
 const MAPS: [u8; 7] = [63, 63, 63, 79, 7, 15, 15];
@@ -298,13 +298,6 @@ pub fn stands(bit: u8, map: u8) -> bool
     ensures { λ r. ⌜ r ≡ odd (map / bit) ⌝ }
 {
     map / bit % 2 == 1
-}
-
-// Whether the kind has an hour, by its map.
-pub fn has_hour(kind: u8) -> bool
-    ensures { λ r. ⌜ r ≡ hasHour kind ⌝ }
-{
-    stands(HOUR, map_of_kind(kind))
 }
 
 // Whether the kind has a lamp, by its map.

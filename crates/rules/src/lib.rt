@@ -1,17 +1,22 @@
 // What a frame of each kind has to keep to, for the reader and the writer.
 use frame::Frame;
+use frame::tables::HOUR;
+use frame::tables::LAMP;
 use frame::tables::SENSE;
-use frame::tables::has_hour;
 use frame::tables::has_lamp;
 use frame::tables::map_of_kind;
 use frame::tables::sense_number;
+use frame::tables::stands;
 use model::Kind;
 use model::Message;
 use model::kind_number;
 ghost use mathlib.Core.Path.{_≡_};
-ghost use mathlib.Core.Bool.{_&&_};
+ghost use mathlib.Core.Bool.{true, cond, _&&_, _||_};
+ghost use Prim.Native.Nat.{_/_};
+ghost use lib.Dec.{eqb};
+ghost use Rattle.frame.specs.Layout.{odd};
 ghost use Rattle.frame.specs.Reasons.{mapFits, senseFits};
-ghost use Rattle.frame.specs.Writing.{allBetween, lampFits, gatewaysAgree, senseAllowed, hourFits, wellFormed};
+ghost use Rattle.frame.specs.Writing.{allBetween, lampFits, gatewaysAgree, wellFormed};
 
 // Whether a lamp's bytes are 33 to 126, or zero where the kind has no lamp.
 pub fn lamp_fits(message: Message) -> bool
@@ -19,7 +24,14 @@ pub fn lamp_fits(message: Message) -> bool
 {
     let lamp = message.lamp;
     let kind = message.kind;
-    if has_lamp(kind_number(kind)) {
+    lamp_kept(lamp, has_lamp(kind_number(kind)))
+}
+
+// The same, told whether there is a lamp.
+fn lamp_kept(lamp: [u8; 18], there: bool) -> bool
+    ensures { λ r. ⌜ r ≡ cond there (allBetween 33 126 lamp) (allBetween 0 0 lamp) ⌝ }
+{
+    if there {
         return all_between(lamp, 33, 126);
     }
     all_between(lamp, 0, 0)
@@ -64,40 +76,42 @@ fn all_between(lamp: [u8; 18], low: u8, high: u8) -> bool
     fine
 }
 
-// Whether a value is one of the forms of a frame.
+// Whether a value is one of the forms of a frame. Its kind's map is looked up once.
 pub fn well_formed(frame: Frame) -> bool
     ensures { λ r. ⌜ r ≡ wellFormed frame ⌝ }
 {
     let message = frame.message;
     let kind = message.kind;
+    let lamp = message.lamp;
     let sense = frame.sense;
-    if !header_fits(kind_number(kind), sense_number(sense), message.hour) {
+    let map = map_of_kind(kind_number(kind));
+    if !header_fits(map, sense_number(sense), message.hour) {
         return false;
     }
-    if !lamp_fits(message) {
+    if !lamp_kept(lamp, stands(LAMP, map)) {
         return false;
     }
     gateways_agree(message.from, message.to, kind)
 }
 
-// Whether a kind may have that sense and that hour.
-fn header_fits(kind: u8, sense: u8, hour: u32) -> bool
-    ensures { λ r. ⌜ r ≡ (senseAllowed kind sense && hourFits kind hour) ⌝ }
+// Whether a kind with that map may have that sense and that hour.
+fn header_fits(map: u8, sense: u8, hour: u32) -> bool
+    ensures { λ r. ⌜ r ≡ ((odd (map / 32) || eqb sense 0) && cond (odd (map / 8)) true (eqb hour 0)) ⌝ }
 {
-    if !sense_allowed(kind, sense) {
+    if !sense_allowed(map, sense) {
         return false;
     }
-    if has_hour(kind) {
+    if stands(HOUR, map) {
         return true;
     }
     hour == 0
 }
 
-// Whether a kind may have that sense: only one with a lamp has any.
-fn sense_allowed(kind: u8, sense: u8) -> bool
-    ensures { λ r. ⌜ r ≡ senseAllowed kind sense ⌝ }
+// Whether a kind with that map may have that sense: only one with a lamp has any.
+fn sense_allowed(map: u8, sense: u8) -> bool
+    ensures { λ r. ⌜ r ≡ (odd (map / 32) || eqb sense 0) ⌝ }
 {
-    if has_lamp(kind) {
+    if stands(LAMP, map) {
         return true;
     }
     sense == 0
@@ -114,7 +128,7 @@ pub fn map_fits(map: u8, kind: u8) -> bool
     if map == plain {
         return true;
     }
-    if !has_lamp(kind) {
+    if !stands(LAMP, plain) {
         return false;
     }
     map == plain + SENSE

@@ -15,8 +15,8 @@ map-of-kind-requires c κs = search needs
 returns-2 : tie.Need-returns-2
 returns-2 c = search map-plain
 
-has-lamp-requires : tie.Need-has-lamp-requires
-has-lamp-requires c κs = search needs
+stands-requires : tie.Need-stands-requires
+stands-requires c κs = search needs
 
 returns-3 : tie.Need-returns-3
 returns-3 c = search map-other
@@ -34,7 +34,7 @@ map-fits-spec =
     returns
     map-of-kind-requires
     returns-2
-    has-lamp-requires
+    stands-requires
     returns-3
     add-result
     returns-4)

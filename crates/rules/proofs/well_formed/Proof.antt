@@ -7,6 +7,9 @@ use Rattle.rules.proofs.well_formed.Tie as tie
 kind-number-requires : tie.Need-kind-number-requires
 kind-number-requires c κs = search needs
 
+map-of-kind-requires : tie.Need-map-of-kind-requires
+map-of-kind-requires c κs = search needs
+
 sense-number-requires : tie.Need-sense-number-requires
 sense-number-requires c κs = search needs
 
@@ -16,8 +19,11 @@ header-fits-requires c κs = search needs
 returns : tie.Need-returns
 returns c = search ill-header
 
-lamp-fits-requires : tie.Need-lamp-fits-requires
-lamp-fits-requires c κs = search needs
+stands-requires : tie.Need-stands-requires
+stands-requires c κs = search needs
+
+lamp-kept-requires : tie.Need-lamp-kept-requires
+lamp-kept-requires c κs = search needs
 
 returns-2 : tie.Need-returns-2
 returns-2 c = search ill-lamp
@@ -33,10 +39,12 @@ well-formed-spec =
     tie.close
     (tie.spec
     kind-number-requires
+    map-of-kind-requires
     sense-number-requires
     header-fits-requires
     returns
-    lamp-fits-requires
+    stands-requires
+    lamp-kept-requires
     returns-2
     gateways-agree-requires
     returns-3)
