@@ -2,3 +2,4 @@
 pub mod Stores
 pub mod PlacedLaws
 pub mod StoredFrames
+pub mod StoredSent

@@ -1,6 +1,6 @@
--- Laws of the frames of what outstanding places hold: one place more, and a writer that was given them one by one.
-use mathlib.Core.Path.{_≡_, sym, _∙_, ap}
-use Prim.Native.Nat.{ℕ, _+_, _-_, _*_, _≤_, _<_}
+-- Laws of the frames of what outstanding places hold: one place more, the first before the others, and a writer that was given them one by one.
+use mathlib.Core.Path.{_≡_, refl, sym, _∙_, ap}
+use Prim.Native.Nat.{ℕ, suc, _+_, _-_, _*_, _≤_, _<_}
 use native.Mathlib.Nat.{add-zero}
 use native.Mathlib.Omega.{arith}
 use mathlib.Core.List.{List, _∷_, _++_, map, map-append, append-nil}
@@ -47,6 +47,27 @@ module _ (m : List ℕ) (place : ℕ) where
       let a = rw (e, length-append) at (ap length (bytes-add (k + 1) (n - (k + 1)))) in
       let b = rw length-append at (ap length (one-more k)) in
       omega arith
+
+  -- no place holds a frame, and the first place before the others
+  pub none-stored : {count : ℕ} → count ≡ 0 → (output : List ℕ) → Puts 0 (bytesTo count) output output 0
+  unfolding joined placesAt
+  none-stored e output = rw e (record { position = refl; output = sym (write-nil 0 output) })
+
+  module _ {count : ℕ} (some : count ≡ 0 → ⊥) {first : Frame} (e : first ≡ frameHere 0) where
+    first-stored : storedFrames m place count ≡ first ∷ storedFrames m (place + outstandingSize) (count - 1)
+    unfolding placesAt
+    first-stored =
+        let n : count ≡ suc (count - 1) = omega arith in
+        ap (storedFrames m place) n ∙ rw (e, add-zero)
+
+    pub others-room : (output : List ℕ) → (place + outstandingSize * count ≤ length m) × (length (bytesTo count) ≤ length output)
+        → (place + outstandingSize + outstandingSize * (count - 1) ≤ length m)
+        × (length (bytesOfFrames (first ∷ storedFrames m (place + outstandingSize) (count - 1))) ≤ length output)
+    others-room output h = (omega arith, rw (← first-stored) (h .1))
+
+    pub stored-put : {output output′ : List ℕ} {behind : ℕ} → Puts 0 (bytesOfFrames (first ∷ storedFrames m (place + outstandingSize) (count - 1))) output output′ behind
+        → Puts 0 (bytesTo count) output output′ behind
+    stored-put p = rw first-stored p
 
   -- a writer that was given a frame and then those of k places
   module _ (h : Writer) (first : Frame) where

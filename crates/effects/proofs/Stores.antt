@@ -1,24 +1,13 @@
--- Laws of sending: the note after it, room for its frame, and what it leaves.
+-- Laws of the header after sending: the note, and one more that is counted.
 use mathlib.Core.Path.{_≡_}
-use Prim.Native.Nat.{ℕ, suc, _+_, _≤_, _<_}
+use Prim.Native.Nat.{ℕ, _+_, _≤_, _<_}
 use native.Mathlib.Numerals.{add-one}
 use native.Mathlib.Omega.{arith}
-use mathlib.Core.Bool.{Bool}
-use mathlib.Core.List.{List}
-use lib.ListN.{length}
-use Rattle.buffer.specs.Slice.{write, Puts}
-use Rattle.model.specs.declared.Message.{Message}
-use Rattle.frame.specs.Writing.{written}
-use Rattle.frame.specs.declared.Frame.{Frame}
-use Rattle.memory.specs.Layout.{outstandingAt, outstandingSize}
-use Rattle.memory.specs.Codec.{sentBytes}
-use Rattle.memory.specs.Validity.{frameIf}
 use Rattle.memory.specs.declared.Header.{Header}
 use Rattle.memory.specs.declared.Round.{Round}
 use Rattle.memory.specs.declared.Phase.the-variants.{Idle, Counting, Stopped}
 use Rattle.gateway.specs.Effects.{loweredIn, noted}
-use Rattle.effects.specs.inside.Sending.{PutsSent, headerSent}
-use Rattle.effects.specs.declared.Sending.{Sending}
+use Rattle.effects.specs.inside.Sending.{headerSent}
 
 -- the note in each phase
 module _ (hour : ℕ) (r : Round) where
@@ -57,40 +46,3 @@ header-counted h hour e = λ i. record {
   queued = h .queued;
   outstanding = add-one (h .outstanding) i;
 }
-
-module _ (cancel : Bool) (m : Message) {frame : Frame} (e : frame ≡ frameIf cancel m) where
-  -- the output has room for the frame
-  pub frame-room : (position : ℕ) (output : List ℕ) → position + length (written (frameIf cancel m)) ≤ length output → position + length
-      (written frame) ≤ length output
-  frame-room position output h = rw e h
-
-  -- the place is written and the frame put out
-  pub puts-sent : {memory output memory′ output′ : List ℕ} {place position behind : ℕ}
-      → memory′ ≡ write place (sentBytes (record { message = m; cancel = cancel })) memory → Puts position (written frame) output output′ behind
-      → PutsSent memory output memory′ output′ place position cancel m behind
-  puts-sent p q = record { stored = p; put = record { position = rw (← e) (q .position); output = rw (← e) (q .output) } }
-
--- there is an outstanding place for it, and room in the output for its frame
-pub record MaySend (memory output : List ℕ) (s : Sending) (cancel : Bool) (m : Message) : Type 0 where
-  pub place : outstandingAt (s .header .settings .q) (suc (s .header .outstanding)) ≤ length memory
-  pub counted : s .header .outstanding < 65535
-  pub room : s .written + length (written (frameIf cancel m)) ≤ length output
-
--- what sending it leaves
-pub record Sends (memory output memory′ output′ : List ℕ) (s : Sending) (cancel : Bool) (m : Message) (r : Sending) : Type 0 where
-  pub stored : memory′ ≡ write (outstandingAt (s .header .settings .q) (s .header .outstanding)) (sentBytes (record { message = m; cancel = cancel })) memory
-  pub put : output′ ≡ write (s .written) (written (frameIf cancel m)) output
-  pub header : r .header ≡ headerSent (m .hour) (s .header)
-  pub position : r .written ≡ s .written + length (written (frameIf cancel m))
-
--- sending: the place and the frame, then the header
-module _ {memory output : List ℕ} {s : Sending} {cancel : Bool} {m : Message} {place : ℕ} (at : place ≡ outstandingAt
-    (s .header .settings .q) (s .header .outstanding)) where
-  pub may-put : MaySend memory output s cancel m → (place + outstandingSize ≤ length memory) × (s .written + length (written (frameIf cancel
-      m)) ≤ length output)
-  may-put may = (omega (arith, at, may .place), may .room)
-
-  pub sends : {memory′ output′ : List ℕ} {behind : ℕ} {h : Header} → PutsSent memory output memory′ output′ place (s .written) cancel m
-      behind → h ≡ headerSent (m .hour) (s .header)
-      → Sends memory output memory′ output′ s cancel m (record { header = h; written = behind })
-  sends p e = record { stored = rw at at (p .stored); put = p .put .output; header = e; position = p .put .position }

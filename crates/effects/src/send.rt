@@ -1,6 +1,5 @@
-// Sending a message or a cancel: it takes an outstanding place, its frame goes to the output, and it lowers the note.
+// Sending messages and cancels: each takes an outstanding place and lowers the note, and their frames are put out from there.
 use decoding::read_sent;
-use encoding::write_sent;
 use entries::frame_if;
 use frame::Frame;
 use memory::HEADER_SIZE;
@@ -9,10 +8,7 @@ use memory::OUTSTANDING_SIZE;
 use memory::Phase;
 use memory::QUEUE_SIZE;
 use memory::Round;
-use memory::Sent;
-use model::Message;
 use writer::outgoing::position;
-use writer::outgoing::put_frame;
 use writer::outgoing::put_next;
 use writer::outgoing::writer_at;
 ghost use mathlib.Core.Path.{_≡_};
@@ -20,12 +16,10 @@ ghost use mathlib.Core.List.{_∷_};
 ghost use Prim.Native.Nat.{suc, _+_, _*_, _≤_, _<_};
 ghost use lib.ListN.{length};
 ghost use Rattle.buffer.specs.Slice.{part, Puts};
-ghost use Rattle.frame.specs.Writing.{written};
 ghost use Rattle.memory.specs.Layout.{outstandingAt, outstandingSize};
 ghost use Rattle.memory.specs.Codec.{sentOf};
-ghost use Rattle.memory.specs.Validity.{frameIf};
 ghost use Rattle.gateway.specs.Effects.{noted, bytesOfFrames};
-ghost use Rattle.effects.specs.inside.Sending.{PutsSent, headerSent, frameOf, storedFrames};
+ghost use Rattle.effects.specs.inside.Sending.{headerSent, frameOf, storedFrames};
 
 // Where the next outstanding place begins.
 pub fn outstanding_at(header: Header) -> usize
@@ -37,21 +31,18 @@ pub fn outstanding_at(header: Header) -> usize
         + OUTSTANDING_SIZE * (header.outstanding as usize)
 }
 
-// Puts a message or its cancel into an outstanding place, and its frame into the output; gives the position behind the frame.
-pub fn put_sent(
-    memory: &mut [u8],
-    output: &mut [u8],
-    place: usize,
-    position: usize,
-    cancel: bool,
-    message: Message,
-) -> usize
-    requires { ⌜ (place + outstandingSize ≤ length (now memory)) × (position + length (written (frameIf cancel message)) ≤ length (now output)) ⌝ }
-    ensures { λ r. ⌜ PutsSent (now (memory .entry)) (now (output .entry)) (now (memory .exit)) (now (output .exit)) place position cancel message r ⌝ }
+// Puts the frames of what count outstanding places hold, from position place of the memory on; gives the position behind the last.
+pub fn put_stored(memory: &[u8], output: &mut [u8], place: usize, count: usize) -> usize
+    requires { ⌜
+        (place + outstandingSize * count ≤ length (now memory))
+        × (length (bytesOfFrames (storedFrames (now memory) place count)) ≤ length (now output)) ⌝ }
+    ensures { λ r. ⌜ Puts 0 (bytesOfFrames (storedFrames (now (memory .entry)) place count)) (now (output .entry)) (now (output .exit)) r ⌝ }
 {
-    let sent = Sent { message, cancel };
-    write_sent(memory, place, sent);
-    put_frame(output, position, frame_if(cancel, message))
+    if count == 0 {
+        return 0;
+    }
+    let first = stored_frame(memory, place, 0);
+    put_frames(memory, output, first, place + OUTSTANDING_SIZE, count - 1)
 }
 
 // Puts a frame, and behind it the frames of what count outstanding places hold, from position place of the memory on; gives the

@@ -12,7 +12,6 @@ use borrow.Author.Tests.{le-leb, leb-true, not-true, not-false}
 use Rattle.lists.specs.inside.Positions.{firstWhere}
 use Rattle.lists.proofs.PositionLaws.{first-bound}
 use Rattle.buffer.specs.Slice.{part, write}
-use Rattle.buffer.proofs.Writes.{write-nil}
 use Rattle.model.specs.Doing.{after, replyTo, sentBy}
 use Rattle.model.proofs.Sending.{reply-sends}
 use Rattle.model.specs.declared.Message.{Message}
@@ -39,23 +38,21 @@ use Rattle.gateway.proofs.Maintaining.{Proper}
 use Rattle.gateway.proofs.Keeps.{work-keeps}
 use Rattle.gateway.proofs.Replies.{after-ranged}
 use Rattle.effects.specs.inside.Placed.{Placed}
-use Rattle.effects.specs.declared.Sending.{Sending}
+use Rattle.effects.proofs.StoredSent.{sent-queue}
 use Rattle.effects.proofs.PlacedLaws.{placed-rest, placed-count, placed-entry, placed-split, placed-fits, placed-replaced, placed-state}
-use Rattle.replies.specs.inside.Turns.{Ready, Reached, Turned, stoppedWith, sendingAfter, roomFor, MaySendAll, SendsAll}
+use Rattle.replies.specs.inside.Turns.{Ready, Reached, Turned, stoppedWith, replyBytes, roomFor, MaySendReply, SendsReply}
 use Rattle.replies.specs.declared.Turn.{Turn}
 use Rattle.events.proofs.NextPending.{none-pending, next-message, processed-at, processed-length, next-behind}
 use Rattle.events.proofs.WorkedLaws.{worked-none, worked-full, doneBy, worked-one}
 
 -- work that stops before an event
-pub turn-stopped : {before memory : List ℕ} (output : List ℕ) {t : Turn} {g : Gateway} → Reached before memory t g → (why : ℕ) → {w :
-    Progress} → w ≡ noneDone why g
-    → {r : Turn} → r ≡ stoppedWith why t → Turned w before output memory output t r
-turn-stopped output {t = t} reached why e i =
+pub turn-stopped : {before memory : List ℕ} {t : Turn} {g : Gateway} → Reached before memory t g → (why : ℕ) → {w : Progress} → w ≡ noneDone why g
+    → {r : Turn} → r ≡ stoppedWith why t → Turned w before memory t r
+turn-stopped {t = t} reached why e i =
     rw (i, e)
     (record {
       reached = record { placed = reached .placed; validity = reached .validity; ranged = reached .ranged; behind = reached .behind; next = reached .next };
       why = refl;
-      put = sym (write-nil (t .written) output);
       written = omega arith;
     })
 
@@ -66,12 +63,12 @@ module _ {before memory : List ℕ} {t : Turn} {g : Gateway} (reached : Reached 
   found-next f =
       f ∙ rw (placed-rest (reached .placed) (t .place) (rw (placed-count (reached .placed)) at (reached .behind))) (sym (reached .next))
 
-  pub none-left : (output : List ℕ) {k : ℕ} → k ≡ t .place + firstWhere (hasMark Pending) (placesAt entryOf queueSize memory (headerSize + queueSize * t .place)
+  pub none-left : (room : ℕ) {k : ℕ} → k ≡ t .place + firstWhere (hasMark Pending) (placesAt entryOf queueSize memory (headerSize + queueSize * t .place)
       (t .header .queued - t .place))
-      → k ≡ t .header .queued → {r : Turn} → r ≡ stoppedWith 6 t → Turned (worked 1 (length output - t .written) g) before output memory output t r
-  none-left output f e i =
-      turn-stopped output reached 6
-      (worked-none (length output - t .written) g 0 (none-pending (g .queue) (omega (arith, found-next f, placed-count (reached .placed)))))
+      → k ≡ t .header .queued → {r : Turn} → r ≡ stoppedWith 6 t → Turned (worked 1 (room - t .written) g) before memory t r
+  none-left room f e i =
+      turn-stopped reached 6
+      (worked-none (room - t .written) g 0 (none-pending (g .queue) (omega (arith, found-next f, placed-count (reached .placed)))))
       i
 
 -- a place that the search finds among those used
@@ -100,13 +97,16 @@ module _ (reply : Reply) (g : Gateway) where
       by-case true = rw (le-leb (length (g .queue)) (g .settings .q) h, length-append)
       by-case false = rw (le-leb (length (g .queue)) (g .settings .q) h, add-zero)
 
-  sent-queue : sentAll false (sentBy reply) g .queue ≡ g .queue
-  unfolding sentAll sentOne
-  sent-queue = by-case (reply .sends)
-    where
-      by-case : (b : Bool) → sentAll false (cond b (reply .sent ∷ []) []) g .queue ≡ g .queue
-      by-case true = refl
-      by-case false = refl
+-- a header with the state after a message
+abbrev pub headerAfter : State → Header → Header
+headerAfter state h = record {
+  settings = h .settings;
+  state = state;
+  agreed = h .agreed;
+  round = h .round;
+  queued = h .queued;
+  outstanding = h .outstanding;
+}
 
 -- the message is done, and nothing is sent yet
 abbrev pub processedIn : State → Gateway → Gateway
@@ -138,29 +138,29 @@ module _ {before memory : List ℕ} {t : Turn} {g : Gateway} (reached : Reached 
       rw (done-is, header-is)
       (sent-fits reply (processedIn next g) room (rw (processed-length (g .state) (g .queue)) (reached .placed .room .queued)))
 
-  module _ (output : List ℕ) {has : Bool} (has-is : has ≡ roomFor (t .header) (length output - t .written) reply) where
+  module _ (room : ℕ) {has : Bool} (has-is : has ≡ roomFor (t .header) (room - t .written) reply) where
     -- there is no room
-    pub no-room : not has ≡ true → {r : Turn} → r ≡ stoppedWith 5 t → Turned (worked 1 (length output - t .written) g) before output memory output t r
+    pub no-room : not has ≡ true → {r : Turn} → r ≡ stoppedWith 5 t → Turned (worked 1 (room - t .written) g) before memory t r
     no-room n i =
-        turn-stopped output reached 5
-        (worked-full (length output - t .written) g (e .message) (pending .0) (pending .1) 0 (fits-is (length output - t .written) ∙ sym
+        turn-stopped reached 5
+        (worked-full (room - t .written) g (e .message) (pending .0) (pending .1) 0 (fits-is (room - t .written) ∙ sym
         has-is ∙ not-true has n))
         i
 
     -- there is
     module _ (n : not has ≡ false) where
-      fitting : fits (length output - t .written) (done (e .message) g) ≡ true
-      fitting = fits-is (length output - t .written) ∙ sym has-is ∙ not-false has n
+      fitting : fits (room - t .written) (done (e .message) g) ≡ true
+      fitting = fits-is (room - t .written) ∙ sym has-is ∙ not-false has n
 
-      work-is : worked 1 (length output - t .written) g ≡ doneBy (record {
+      work-is : worked 1 (room - t .written) g ≡ doneBy (record {
         gateway = sentAll false (sentBy reply) (processedIn next g);
         frames = framesFor false (sentBy reply);
       })
-      work-is = worked-one (length output - t .written) g (e .message) (pending .0) (pending .1) _ done-is fitting
+      work-is = worked-one (room - t .written) g (e .message) (pending .0) (pending .1) _ done-is fitting
 
       proper : Proper (sentAll false (sentBy reply) (processedIn next g))
       proper =
-          let k = work-keeps 1 (length output - t .written) (record { valid = reached .validity; ranged = reached .ranged }) in
+          let k = work-keeps 1 (room - t .written) (record { valid = reached .validity; ranged = reached .ranged }) in
           subst (λ (w : Progress). Proper (w .gateway)) work-is (k .gateway .proper)
 
       new-fits : GatewayFits (sentAll false (sentBy reply) (processedIn next g))
@@ -189,65 +189,58 @@ module _ {before memory : List ℕ} {t : Turn} {g : Gateway} (reached : Reached 
         mark = Processed;
         before = t .header .state;
       })) memory)
-          {s : Sending} (s-is : s ≡ sendingAfter t next) where
-        placed-processed : Placed before memory₁ (s .header) (processedIn next g)
-        unfolding now-processed
-        placed-processed =
-            let p = reached .placed in
-            let at : k ≡ length (take k (g .queue)) = sym (length-take-le k (g .queue) (omega (arith, first, inside))) in
-            let one : Placed before memory₁ (t .header) (withQueue (take k (g .queue) ++ (now-processed ∷ drop (suc k) (g .queue))) g) =
-            placed-replaced p (take k (g .queue)) e (drop (suc k) (g .queue)) (placed-split p k below read) now-processed now-fits at stored
-            in
-            let two : Placed before memory₁ (t .header) (withQueue (processedNext (g .state) (g .queue)) g) =
-            subst (λ (es : List Entry). Placed before memory₁ (t .header) (withQueue es g)) queue-is one
-            in
-            placed-state two state-fits (ap (λ (x : Sending). x .header) s-is)
+        where
+          placed-processed : Placed before memory₁ (headerAfter next (t .header)) (processedIn next g)
+          unfolding now-processed
+          placed-processed =
+              let p = reached .placed in
+              let at : k ≡ length (take k (g .queue)) = sym (length-take-le k (g .queue) (omega (arith, first, inside))) in
+              let one : Placed before memory₁ (t .header) (withQueue (take k (g .queue) ++ (now-processed ∷ drop (suc k) (g .queue))) g) =
+              placed-replaced p (take k (g .queue)) e (drop (suc k) (g .queue)) (placed-split p k below read) now-processed now-fits at stored
+              in
+              let two : Placed before memory₁ (t .header) (withQueue (processedNext (g .state) (g .queue)) g) =
+              subst (λ (es : List Entry). Placed before memory₁ (t .header) (withQueue es g)) queue-is one
+              in
+              placed-state two state-fits refl
 
-        pub event-done : {memory₂ output₂ : List ℕ} {r : Sending} → SendsAll memory₁ output memory₂ output₂ s reply r
-            → Turned (worked 1 (length output - t .written) g) before output memory₂ output₂ t (record {
-              header = r .header;
-              written =
-                  r .written;
-              place = k + 1;
-              why = 0;
-            })
-        event-done sends =
-            let a = sends before (processedIn next g) placed-processed new-fits in
-            let at : s .written ≡ t .written = ap (λ (x : Sending). x .written) s-is in
-            let place : k + 1 ≡ suc (firstWhere isPending (g .queue)) = omega (arith, first) in
-            rw work-is
-            (record {
-              reached = record {
-                placed = a .placed;
-                validity = proper .valid;
-                ranged = proper .ranged;
-                behind = rw (sent-queue reply (processedIn next g), processed-length (g .state) (g .queue)) (omega (arith, first, inside));
-                next = rw (sent-queue reply (processedIn next g), place) (next-behind (g .state) (g .queue) inside);
-              };
-              why = refl;
-              put = rw at at (a .put);
-              written = rw at at (a .written);
-            })
+          pub event-done : {memory₂ : List ℕ} {r : Header} → SendsReply memory₁ memory₂ (headerAfter next (t .header)) reply r → {bytes : ℕ}
+              → bytes ≡ replyBytes reply
+              → Turned (worked 1 (room - t .written) g) before memory₂ t (record { header = r; written = t .written + bytes; place = k + 1; why = 0 })
+          event-done sends b =
+              let place : k + 1 ≡ suc (firstWhere isPending (g .queue)) = omega (arith, first) in
+              rw work-is
+              (record {
+                reached = record {
+                  placed = sends before (processedIn next g) placed-processed new-fits;
+                  validity = proper .valid;
+                  ranged = proper .ranged;
+                  behind = rw (sent-queue false (sentBy reply) (processedIn next g), processed-length (g .state) (g .queue)) (omega (arith, first, inside));
+                  next = rw (sent-queue false (sentBy reply) (processedIn next g), place) (next-behind (g .state) (g .queue) inside);
+                };
+                why = refl;
+                written = rw b;
+              })
 
 -- what sending it asks for
-module _ {memory output : List ℕ} {t : Turn} (ready : Ready memory output t) {reply : Reply} {has : Bool} (has-is : has ≡ roomFor
-    (t .header) (length output - t .written) reply)
-    (n : not has ≡ false) where
-  pub may-send-all : {memory₁ : List ℕ} {next : State} {s : Sending} → length memory₁ ≡ length memory → s ≡ sendingAfter t next → MaySendAll
-      memory₁ output s reply
-  may-send-all long s-is =
-      let there-is : roomFor (t .header) (length output - t .written) reply ≡ true = sym has-is ∙ not-false has n in
-      let places = leb (t .header .outstanding + length (sentBy reply)) (t .header .settings .u) in
-      let bytes = leb (length (bytesOfFrames (framesFor false (sentBy reply)))) (length output - t .written) in
-      let a = leb-true (t .header .outstanding + length (sentBy reply)) (t .header .settings .u) (and-left places bytes there-is) in
-      let b = leb-true (length (bytesOfFrames (framesFor false (sentBy reply)))) (length output - t .written) (and-right places bytes there-is) in
-      rw s-is (record {
-        long = rw long (ready .long);
-        outstanding-places = ready .outstanding-places;
-        outstanding = a;
-        room = omega (
-          arith,
-          b,
-          ready .written,
-        );
-      })
+module _ {memory : List ℕ} {room : ℕ} {t : Turn} (ready : Ready memory room t) (reply : Reply) {has : Bool} (has-is : has ≡ roomFor (t .header)
+    (room - t .written) reply) (n : not has ≡ false) where
+  there-is : roomFor (t .header) (room - t .written) reply ≡ true
+  there-is = sym has-is ∙ not-false has n
+
+  places : Bool
+  places = leb (t .header .outstanding + length (sentBy reply)) (t .header .settings .u)
+
+  bytes-of : Bool
+  bytes-of = leb (replyBytes reply) (room - t .written)
+
+  pub bytes-inside : {bytes : ℕ} → bytes ≡ replyBytes reply → t .written + bytes ≤ room
+  unfolding places bytes-of
+  bytes-inside e = let l = leb-true (replyBytes reply) (room - t .written) (and-right places bytes-of there-is) in omega (arith, ready .written)
+
+  pub may-send : {memory₁ : List ℕ} {next : State} → length memory₁ ≡ length memory → MaySendReply memory₁ (headerAfter next (t .header)) reply
+  unfolding places bytes-of
+  may-send long = record {
+    long = rw long (ready .long);
+    outstanding-places = ready .outstanding-places;
+    outstanding = leb-true (t .header .outstanding + length (sentBy reply)) (t .header .settings .u) (and-left places bytes-of there-is);
+  }

@@ -1,4 +1,5 @@
-// One event of work: 6 where no plain message is unprocessed, 5 where there is no room for what the next one sends, else it is done.
+// One event of work: 6 where no plain message is unprocessed, 5 where there is no room for what the next one sends, else it is done. It
+// changes the memory alone: what it sends is put out later, from its outstanding place.
 use decoding::read_entry;
 use doing::reply_to;
 use doing::state_after;
@@ -11,15 +12,16 @@ use memory::QUEUE_SIZE;
 use places::search::next_marked;
 use replies::Turn;
 use replies::has_room;
+use replies::reply_bytes;
 use replies::send_reply;
-use replies::sending_after;
 ghost use mathlib.Core.Path.{_≡_};
 ghost use Prim.Native.Nat.{_<_};
 ghost use Rattle.replies.specs.inside.Turns.{Ready, Turns, TurnsAt, stoppedWith};
 
-pub fn work_one(memory: &mut [u8], output: &mut [u8], turn: Turn) -> Turn
-    requires { ⌜ Ready (now memory) (now output) turn ⌝ }
-    ensures { λ r. ⌜ Turns (now (memory .entry)) (now (output .entry)) (now (memory .exit)) (now (output .exit)) turn r ⌝ }
+// One event, for an output of room bytes.
+pub fn work_one(memory: &mut [u8], room: usize, turn: Turn) -> Turn
+    requires { ⌜ Ready (now memory) room turn ⌝ }
+    ensures { λ r. ⌜ Turns (now (memory .entry)) room (now (memory .exit)) turn r ⌝ }
 {
     let header = turn.header;
     let queued = header.queued as usize;
@@ -27,13 +29,13 @@ pub fn work_one(memory: &mut [u8], output: &mut [u8], turn: Turn) -> Turn
     if k == queued {
         return stopped(turn, 6);
     }
-    work_at(memory, output, turn, k)
+    work_at(memory, room, turn, k)
 }
 
 // Does the message in queue place k.
-fn work_at(memory: &mut [u8], output: &mut [u8], turn: Turn, k: usize) -> Turn
-    requires { ⌜ Ready (now memory) (now output) turn × (k < turn .header .queued) ⌝ }
-    ensures { λ r. ⌜ TurnsAt k (now (memory .entry)) (now (output .entry)) (now (memory .exit)) (now (output .exit)) turn r ⌝ }
+fn work_at(memory: &mut [u8], room: usize, turn: Turn, k: usize) -> Turn
+    requires { ⌜ Ready (now memory) room turn × (k < turn .header .queued) ⌝ }
+    ensures { λ r. ⌜ TurnsAt k (now (memory .entry)) room (now (memory .exit)) turn r ⌝ }
 {
     let header = turn.header;
     let settings = header.settings;
@@ -42,7 +44,8 @@ fn work_at(memory: &mut [u8], output: &mut [u8], turn: Turn, k: usize) -> Turn
     let entry = read_entry(memory, at);
     let message = entry.message;
     let reply = reply_to(site_of(settings), state, message);
-    if !has_room(header, output.len() - turn.written, reply) {
+    let bytes = reply_bytes(reply);
+    if !has_room(header, reply, bytes, room - turn.written) {
         return stopped(turn, 5);
     }
     let done = Entry {
@@ -52,12 +55,12 @@ fn work_at(memory: &mut [u8], output: &mut [u8], turn: Turn, k: usize) -> Turn
     };
     write_entry(memory, at, done);
     let kind = message.kind;
-    let after = state_after(state, kind);
-    let sending = send_reply(memory, output, sending_after(turn, after), reply);
-    let next = sending.header;
+    let mut next = header;
+    next.state = state_after(state, kind);
+    let last = send_reply(memory, next, reply);
     Turn {
-        header: next,
-        written: sending.written,
+        header: last,
+        written: turn.written + bytes,
         place: k + 1,
         why: 0,
     }

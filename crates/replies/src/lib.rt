@@ -1,20 +1,19 @@
 // What an event sends: whether there is room for it, and sending it.
-use effects::Sending;
 use effects::send::header_sent;
 use effects::send::outstanding_at;
-use effects::send::put_sent;
+use encoding::write_sent;
 use entries::frame_if;
 use frame::tables::map_of;
 use frame::tables::whole_length;
 use memory::Header;
-use model::State;
+use memory::Sent;
 use model::event::Reply;
 ghost use mathlib.Core.Path.{_≡_};
-ghost use Prim.Native.Nat.{_<_, _≤_};
-ghost use Rattle.replies.specs.inside.Turns.{sendingAfter, roomFor, MaySendAll, SendsAll};
+ghost use Prim.Native.Nat.{_≤_};
+ghost use Rattle.replies.specs.inside.Turns.{replyBytes, roomFor, MaySendReply, SendsReply};
 
-// Where work stands between two events: the header so far, which is written last, the bytes of output so far, the place from
-// which on the next unprocessed plain message stands, and why work stops, 0 while it goes on.
+// Where work stands between two events: the header so far, which is written last, the bytes of output that the replies so far take,
+// the place from which on the next unprocessed plain message stands, and why work stops, 0 while it goes on.
 pub struct Turn {
     pub header: Header,
     pub written: usize,
@@ -22,21 +21,20 @@ pub struct Turn {
     pub why: u8,
 }
 
-// The header with the state after a message, and the bytes of output so far.
-pub fn sending_after(turn: Turn, state: State) -> Sending
-    ensures { λ r. ⌜ r ≡ sendingAfter turn state ⌝ }
+// How many bytes of output what doing a message sends takes.
+pub fn reply_bytes(reply: Reply) -> usize
+    ensures { λ r. ⌜ r ≡ replyBytes reply ⌝ }
 {
-    let mut header = turn.header;
-    header.state = state;
-    Sending {
-        header,
-        written: turn.written,
+    if !reply.sends {
+        return 0;
     }
+    let message = reply.sent;
+    whole_length(map_of(frame_if(false, message)))
 }
 
 // Whether there are outstanding places and bytes of output for what doing a message sends.
-pub fn has_room(header: Header, room: usize, reply: Reply) -> bool
-    requires { ⌜ header .outstanding ≤ header .settings .u ⌝ }
+pub fn has_room(header: Header, reply: Reply, bytes: usize, room: usize) -> bool
+    requires { ⌜ (header .outstanding ≤ header .settings .u) × (bytes ≡ replyBytes reply) ⌝ }
     ensures { λ r. ⌜ r ≡ roomFor header room reply ⌝ }
 {
     if !reply.sends {
@@ -46,25 +44,22 @@ pub fn has_room(header: Header, room: usize, reply: Reply) -> bool
     if header.outstanding >= settings.u {
         return false;
     }
-    let message = reply.sent;
-    whole_length(map_of(frame_if(false, message))) <= room
+    bytes <= room
 }
 
-// Sends what doing a message sends.
-pub fn send_reply(memory: &mut [u8], output: &mut [u8], sending: Sending, reply: Reply) -> Sending
-    requires { ⌜ MaySendAll (now memory) (now output) sending reply ⌝ }
-    ensures { λ r. ⌜ SendsAll (now (memory .entry)) (now (output .entry)) (now (memory .exit)) (now (output .exit)) sending reply r ⌝ }
+// Sends what doing a message sends: it stands in an outstanding place. Gives the header after it.
+pub fn send_reply(memory: &mut [u8], header: Header, reply: Reply) -> Header
+    requires { ⌜ MaySendReply (now memory) header reply ⌝ }
+    ensures { λ r. ⌜ SendsReply (now (memory .entry)) (now (memory .exit)) header reply r ⌝ }
 {
     if !reply.sends {
-        return sending;
+        return header;
     }
     let message = reply.sent;
-    let header = sending.header;
-    let place = outstanding_at(header);
-    let written = put_sent(memory, output, place, sending.written, false, message);
-    let after = header_sent(header, message.hour);
-    Sending {
-        header: after,
-        written,
-    }
+    let sent = Sent {
+        message,
+        cancel: false,
+    };
+    write_sent(memory, outstanding_at(header), sent);
+    header_sent(header, message.hour)
 }

@@ -9,16 +9,11 @@ use Rattle.model.specs.declared.Message.{Message}
 use Rattle.model.specs.declared.State.{State}
 use Rattle.model.specs.declared.Site.{Site}
 use Rattle.memory.specs.Records.{Gateway, siteOf}
-use Rattle.memory.specs.Validity.{isProcessed, frameIf}
+use Rattle.memory.specs.Validity.{isProcessed}
 use Rattle.memory.specs.declared.Entry.{Entry}
-use Rattle.memory.specs.declared.Sent.{Sent}
-use Rattle.gateway.specs.Effects.{framesFor, withQueue, withState, sentOne, sentAll}
+use Rattle.gateway.specs.Effects.{withQueue, withState, sentOne, sentAll}
 use Rattle.gateway.specs.Undoing.{processedOf, restored, sentBack, rolledBack}
-use Rattle.effects.specs.inside.Sending.{frameOf}
-
--- a message or its cancel as it is outstanding
-abbrev pub sentAs : Bool → Message → Sent
-sentAs cancel m = record { message = m; cancel = cancel }
+use Rattle.effects.proofs.StoredSent.{sentAs, sent-settings, sent-queue, sent-behind}
 
 -- sending some and then others
 pub sent-append : (cancel : Bool) (ms ns : List Message) (g : Gateway) → sentAll cancel (ms ++ ns) g ≡ sentAll cancel ns (sentAll cancel ms g)
@@ -38,28 +33,8 @@ module _ (cancel : Bool) where
   sent-with-queue [] queue g = refl
   sent-with-queue (m ∷ ms) queue g = sent-with-queue ms queue (sentOne cancel m g)
 
-  pub sent-settings : (ms : List Message) (g : Gateway) → sentAll cancel ms g .settings ≡ g .settings
-  unfolding sentAll sentOne
-  sent-settings [] g = refl
-  sent-settings (m ∷ ms) g = sent-settings ms (sentOne cancel m g)
-
-  pub sent-queue : (ms : List Message) (g : Gateway) → sentAll cancel ms g .queue ≡ g .queue
-  unfolding sentAll sentOne
-  sent-queue [] g = refl
-  sent-queue (m ∷ ms) g = sent-queue ms (sentOne cancel m g)
-
-  -- they stand behind what was outstanding
-  pub sent-behind : (ms : List Message) (g : Gateway) → sentAll cancel ms g .outstanding ≡ g .outstanding ++ map (sentAs cancel) ms
-  unfolding sentAll sentOne
-  sent-behind [] g = sym (append-nil (g .outstanding))
-  sent-behind (m ∷ ms) g = sent-behind ms (sentOne cancel m g) ∙ append-assoc (g .outstanding) (sentAs cancel m ∷ []) (map (sentAs cancel) ms)
-
   pub sent-outstanding : (ms : List Message) (g : Gateway) → length (sentAll cancel ms g .outstanding) ≡ length (g .outstanding) + length ms
-  sent-outstanding ms g = ap length (sent-behind ms g) ∙ rw (length-append, length-map)
-
-  pub frames-of : (ms : List Message) → map frameOf (map (sentAs cancel) ms) ≡ framesFor cancel ms
-  frames-of [] = refl
-  frames-of (m ∷ ms) = ap (_∷_ (frameIf cancel m)) (frames-of ms)
+  sent-outstanding ms g = ap length (sent-behind cancel ms g) ∙ rw (length-append, length-map)
 
 -- what undoing leaves as it was, and how many more are outstanding
 module _ (es : List Entry) (g : Gateway) where

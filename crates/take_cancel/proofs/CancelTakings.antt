@@ -40,7 +40,8 @@ use Rattle.rollback.specs.inside.Undone.{sentByEntries, MaySendBack, takenOut}
 use Rattle.rollback.specs.inside.Entering.{MayEnter, struckOut}
 use Rattle.rollback.proofs.SentMessages.{back-cancelled, cancels-size}
 use Rattle.rollback.proofs.RollbackLaws.{rolled-settings, rolled-outstanding}
-use Rattle.rollback.proofs.StoredCancels.{Stored, cancels-stored, may-put, all-put}
+use Rattle.effects.proofs.StoredSent.{Stored}
+use Rattle.rollback.proofs.StoredCancels.{cancels-stored, may-put, all-put}
 use Rattle.take_cancel.proofs.LastPositions.{tail-drop, past-bound, any-past, none-past, before-last, from-last}
 use Rattle.rollback.proofs.Settling.{fits-by, no-room, with-room}
 use Rattle.take_plain.proofs.PlainTakings.{reply-size, reply-room}
@@ -239,7 +240,7 @@ module _ (m output : List ℕ) (h : Header) (known : Known m h) (bytes : Bytes m
     -- it is taken out
     module _ {memory : List ℕ} {next : Header} (taking : Placed m memory next (takenOut k held)) {free : ℕ} (at : free ≡ outstandingAt (h .settings .q)
         (h .outstanding)) where
-      stored : Stored memory free sent ms
+      stored : Stored memory free sent (framesFor true ms)
       unfolding takenOut
       stored = cancels-stored as-found (processedOf (drop k (held .queue))) taking refl refl at sent-is
 

@@ -45,7 +45,8 @@ use Rattle.rollback.specs.inside.Entering.{MayEnter}
 use Rattle.rollback.proofs.SentMessages.{back-cancelled, cancels-size}
 use Rattle.frame.proofs.Sizes.{sense-small}
 use Rattle.rollback.proofs.RollbackLaws.{rolled-settings, rolled-outstanding}
-use Rattle.rollback.proofs.StoredCancels.{Stored, cancels-stored, may-put, all-put}
+use Rattle.effects.proofs.StoredSent.{Stored}
+use Rattle.rollback.proofs.StoredCancels.{cancels-stored, may-put, all-put}
 use Rattle.rollback.proofs.Settling.{fits-by, no-room, with-room}
 use Rattle.gateway.proofs.Knowing.{Sizes, outstanding-count, queue-count, queue-places, settings-are, sizes}
 
@@ -252,7 +253,7 @@ module _ (m output : List ℕ) (h : Header) (known : Known m h) (bytes : Bytes m
       })
 
       module _ {free : ℕ} (at : free ≡ outstandingAt (h .settings .q) (h .outstanding)) where
-        stored : Stored memory free sent ms
+        stored : Stored memory free sent (framesFor true ms)
         unfolding undoneFrom
         stored = cancels-stored first (processedOf (drop k (g .queue))) undoing refl refl at sent-is
 

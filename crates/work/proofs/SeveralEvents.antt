@@ -1,46 +1,54 @@
 -- Laws of several events of work: before the first, one more, and when work ends; and of work on memory that is not sound.
 use mathlib.Core.Path.{_≡_, refl, sym, _∙_, ap, subst}
 use mathlib.Core.Bool.{true, not}
-use mathlib.Core.List.{List, _++_}
-use Prim.Native.Nat.{ℕ, _+_, _-_, _≤_, _<_}
+use mathlib.Core.List.{List, map}
+use Prim.Native.Nat.{ℕ, _+_, _-_, _*_, _≤_, _<_}
 use native.Mathlib.Nat.{zero-add}
 use native.Mathlib.Omega.{arith}
 use lib.ListN.{length, length-append}
-use Rattle.buffer.specs.Slice.{Bytes, write}
-use Rattle.buffer.proofs.Writes.{write-nil, write-join, length-write}
+use Rattle.buffer.specs.Slice.{Bytes, Puts}
 use Rattle.memory.specs.Records.{Gateway}
-use Rattle.memory.specs.Codec.{headerFront, headerBack, decode, encode}
+use Rattle.memory.specs.Layout.{outstandingAt, outstandingSize}
+use Rattle.memory.specs.Codec.{decode}
+use Rattle.memory.specs.inside.Pieces.{headerWritten}
 use Rattle.memory.specs.inside.Checking.{checkedAs}
 use Rattle.memory.specs.declared.Header.{Header}
 use Rattle.memory.specs.declared.Checked.{Checked}
 use Rattle.memory.proofs.Validated.{valid-facts}
 use Rattle.memory.proofs.SoundMemory.{sound-facts, reading-laws}
+use Rattle.gateway.specs.Effects.{bytesOfFrames}
 use Rattle.gateway.specs.Working.{Progress, worked}
 use Rattle.gateway.specs.Calls.{workedOff}
 use Rattle.gateway.specs.inside.Premises.{Known}
 use Rattle.gateway.proofs.Calling.{unsound}
 use Rattle.gateway.specs.declared.Worked.{Worked}
+use Rattle.effects.specs.inside.Placed.{Placed}
+use Rattle.effects.specs.inside.Sending.{frameOf, storedFrames}
 use Rattle.effects.proofs.PlacedLaws.{placed-first, placed-inside, placed-last}
+use Rattle.effects.proofs.StoredSent.{Stored, sent-stored}
 use Rattle.replies.specs.inside.Turns.{Ready, Reached, Turned, Turns}
 use Rattle.replies.specs.declared.Turn.{Turn}
-use Rattle.events.proofs.WorkedLaws.{First, stops, does, first, worked-inside, worked-all, worked-then, worked-stopped}
+use Rattle.events.proofs.WorkedLaws.{SentMore, First, stops, does, first, andThen, worked-inside, worked-sent, worked-all, worked-then, worked-stopped}
+use Rattle.work.specs.inside.Finishing.{bytesBetween, MayFinish, Finishes}
 
--- the memory and the output after work from `before` and `output₀` on that came to w
-pub record Came (w : Progress) (before output₀ memory output : List ℕ) (t : Turn) : Type 0 where
+-- the memory after work from `before` on that came to w, for an output of so many bytes
+pub record Came (w : Progress) (before : List ℕ) (room : ℕ) (memory : List ℕ) (t : Turn) : Type 0 where
   pub reached : Reached before memory t (w .gateway)
   pub why : t .why ≡ w .why
-  pub put : output ≡ write 0 (w .output) output₀
   pub written : t .written ≡ length (w .output)
-  pub inside : length (w .output) ≤ length output₀
+  pub inside : length (w .output) ≤ room
 
--- between two events: count were done, and work goes on
-pub record Going (before output₀ memory output : List ℕ) (t : Turn) (budget count : ℕ) : Type 0 where
-  pub came : Came (worked count (length output₀) (decode before)) before output₀ memory output t
+-- between two events: count were done from header h on, nothing is put out yet, and work goes on
+pub record Going (before output₀ : List ℕ) (h : Header) (room : ℕ) (memory output : List ℕ) (t : Turn) (budget count : ℕ) : Type 0 where
+  pub found : Placed before before h (decode before)
+  pub came : Came (worked count room (decode before)) before room memory t
   pub on : t .why ≡ 0
   pub within : count ≤ budget
+  pub same : output ≡ output₀
+  pub lent : room ≡ length output₀
 
 -- before the first
-pub at-first : {m output : List ℕ} {h : Header} → Known m h → Bytes m → (budget : ℕ) → Going m output m output (record {
+pub at-first : {m : List ℕ} (output : List ℕ) {h : Header} → Known m h → Bytes m → (budget : ℕ) → Going m output h (length output) m output (record {
   header = h;
   written
       = 0;
@@ -48,27 +56,27 @@ pub at-first : {m output : List ℕ} {h : Header} → Known m h → Bytes m → 
   why = 0;
 }) budget 0
 unfolding worked
-at-first {m} {output} {h} k bytes budget =
+at-first {m} output {h} k bytes budget =
     let s = sound-facts m (k .soundness) in
     let r = reading-laws m bytes s in
+    let found = placed-first m h bytes k in
     record {
+      found = found;
       came = record {
-        reached = record { placed = placed-first m h bytes k; validity = r .valid-held; ranged = r .ranged; behind = omega arith; next = sym (zero-add _) };
+        reached = record { placed = found; validity = r .valid-held; ranged = r .ranged; behind = omega arith; next = sym (zero-add _) };
         why = refl;
-        put = sym (write-nil 0 output);
         written = refl;
         inside = omega arith;
       };
       on = refl;
       within = omega arith;
+      same = refl;
+      lent = refl;
     }
 
-module _ {w : Progress} {before output₀ memory output : List ℕ} {t : Turn} (came : Came w before output₀ memory output t) where
-  output-long : length output ≡ length output₀
-  output-long = rw (came .put) (length-write 0 (w .output) output₀ (omega (arith, came .inside)))
-
+module _ {w : Progress} {before : List ℕ} {room : ℕ} {memory : List ℕ} {t : Turn} (came : Came w before room memory t) where
   -- what one event asks for
-  pub came-ready : Ready memory output t
+  pub came-ready : Ready memory room t
   came-ready =
       let p = came .reached .placed in
       let i = placed-inside p in
@@ -82,32 +90,62 @@ module _ {w : Progress} {before output₀ memory output : List ℕ} {t : Turn} (
         queued = i .queued;
         outstanding = i .outstanding;
         place = rw queued (came .reached .behind);
-        written = rw (came .written, output-long) (came .inside);
+        written = rw (came .written) (came .inside);
       }
-
-  -- the memory with its header written last
-  pub came-encoded : {after : List ℕ} → after ≡ write 6 (headerBack (t .header)) (write 0 (headerFront (t .header)) memory) → after ≡ encode (w .gateway) before
-  came-encoded e = placed-last (came .reached .placed) e
 
   -- one event more
-  pub came-further : {memory′ output′ : List ℕ} {r : Turn} → Turns memory output memory′ output′ t r → (x : Progress)
-      → x .gateway ≡ worked 1 (length output₀ - length (w .output)) (w .gateway) .gateway → x .why ≡ worked 1 (length output₀ - length
-      (w .output)) (w .gateway) .why
-      → x .output ≡ w .output ++ worked 1 (length output₀ - length (w .output)) (w .gateway) .output → Came x before output₀ memory′ output′ r
-  came-further {memory′} {output′} {r} turns x same-gateway same-why same-output =
-      let room : length output - t .written ≡ length output₀ - length (w .output) = rw (came .written, output-long) in
-      let next : Turned (worked 1 (length output₀ - length (w .output)) (w .gateway)) before output memory′ output′ t r =
-      subst (λ (n : ℕ). Turned (worked 1 n (w .gateway)) before output memory′ output′ t r) room (turns before (w .gateway) (came .reached))
+  pub came-further : {memory′ : List ℕ} {r : Turn} → Turns memory room memory′ t r → (x : Progress)
+      → x ≡ andThen w (worked 1 (room - length (w .output)) (w .gateway)) → Came x before room memory′ r
+  came-further {memory′} {r} turns x e =
+      let one = worked 1 (room - length (w .output)) (w .gateway) in
+      let next : Turned one before memory′ t r =
+      subst (λ (n : ℕ). Turned (worked 1 (room - n) (w .gateway)) before memory′ t r) (came .written) (turns before (w .gateway) (came .reached))
       in
-      let bytes = worked 1 (length output₀ - length (w .output)) (w .gateway) .output in
-      let bound = worked-inside 1 (length output₀ - length (w .output)) (w .gateway) in
-      record {
-        reached = subst (λ (g : Gateway). Reached before memory′ r g) (sym same-gateway) (next .reached);
-        why = next .why ∙ sym same-why;
-        put = next .put ∙ rw (same-output, came .put, came .written) (rw zero-add at (write-join 0 (w .output) bytes output₀ (omega (arith, came .inside))));
-        written = next .written ∙ rw (same-output, came .written, length-append);
-        inside = rw (same-output, length-append) (omega (arith, bound, came .inside));
-      }
+      let bound = worked-inside 1 (room - length (w .output)) (w .gateway) in
+      rw e
+      (record {
+        reached = next .reached;
+        why = next .why;
+        written = next .written ∙ rw (came .written, length-append);
+        inside = rw length-append (omega (arith, bound, came .inside));
+      })
+
+  -- the end: what was sent since header h stands behind what was outstanding, and its frames are the output
+  module _ {h : Header} (found : Placed before before h (decode before)) (sent : SentMore (decode before) (w .gateway) (w .output)) where
+    count-is : t .header .outstanding ≡ h .outstanding + length (sent .sent)
+    count-is =
+        let then = ap (λ (x : Header). x .outstanding) (came .reached .placed .header) in
+        let used = ap (λ (x : Header). x .outstanding) (found .header) in
+        let all = ap length (sent .outstanding) ∙ length-append (decode before .outstanding) (sent .sent) in
+        omega arith
+
+    there : Stored memory (outstandingAt (h .settings .q) (h .outstanding)) (t .header .outstanding - h .outstanding) (map frameOf (sent .sent))
+    there = sent-stored found (came .reached .placed) (sent .settings) (sent .sent) (sent .outstanding) refl (omega (arith, count-is))
+
+    bytes-are : bytesBetween memory h (t .header) ≡ w .output
+    bytes-are = ap bytesOfFrames (there .held) ∙ sym (sent .frames)
+
+    pub may-finish : {output : List ℕ} → room ≡ length output → MayFinish memory output h (t .header)
+    may-finish e =
+        let i = placed-inside (came .reached .placed) in
+        record {
+          long = omega (arith, i .long);
+          more = omega (arith, count-is);
+          places = omega (arith, count-is, there .inside);
+          room = rw (bytes-are, ← e) (came .inside);
+        }
+
+-- finishing: the frames put out from the first place that was free, and the header written
+module _ {memory output : List ℕ} {first : Header} {place : ℕ} (at : place ≡ outstandingAt (first .settings .q) (first .outstanding)) where
+  pub may-put : {last : Header} → MayFinish memory output first last → (place + outstandingSize * (last .outstanding - first .outstanding) ≤ length memory)
+      × (length (bytesOfFrames (storedFrames memory place (last .outstanding - first .outstanding))) ≤ length output)
+  may-put may = (omega (arith, at, may .more, may .places), rw at (may .room))
+
+  pub finishes : {t : Turn} {memory′ output′ : List ℕ} {count behind : ℕ}
+      → Puts 0 (bytesOfFrames (storedFrames memory place (t .header .outstanding - first .outstanding))) output output′ behind
+      → memory′ ≡ headerWritten (t .header) memory
+      → Finishes memory output memory′ output′ first t count (record { count = count; why = t .why; written = behind })
+  finishes p e = record { answer = rw (p .position, at, zero-add); stored = e; put = rw at at (p .output) }
 
 -- the next event stopped work, and was not counted
 stopped-count : (room : ℕ) (g : Gateway) → (worked 1 room g .why ≡ 0 → ⊥) → worked 1 room g .count ≡ 0
@@ -116,81 +154,81 @@ stopped-count room g n = by-case (first room g)
   where
     by-case : First room g → worked 1 room g .count ≡ 0
     by-case (stops why k e) = ap (λ (p : Progress). p .count) (e 0)
-    by-case (does output h l e) = absurd (n (ap (λ (p : Progress). p .why) (e 0)))
+    by-case (does output h l s e) = absurd (n (ap (λ (p : Progress). p .why) (e 0)))
 
--- work that came to what the definition says, with its header written last
-finished : (budget : ℕ) {m output₀ memory output after : List ℕ} {h : Header} {t : Turn} {r : Worked} {count : ℕ} → Known m h
-    → Came (worked budget (length output₀) (decode m)) m output₀ memory output t → count ≡ worked budget (length output₀) (decode m) .count
-    → (r ≡ record { count = count; why = t .why; written = t .written }) × (after ≡ write 6 (headerBack (t .header)) (write 0 (headerFront (t .header)) memory))
-    → record { answer = r; memory = after; output = output } ≡ workedOff budget m output₀
+-- work that came to what the definition says
+finished : (budget : ℕ) {m output memory after output′ : List ℕ} {h : Header} {t : Turn} {r : Worked} {count : ℕ} → Known m h
+    → Placed m m h (decode m) → Came (worked budget (length output) (decode m)) m (length output) memory t
+    → count ≡ worked budget (length output) (decode m) .count → Finishes memory output after output′ h t count r
+    → record { answer = r; memory = after; output = output′ } ≡ workedOff budget m output
 unfolding workedOff
-finished budget {m} {output₀} k came counted (a, e) =
-    rw (k .soundness, a, counted, came .why, came .written, came-encoded came e, came .put)
+finished budget {m} {output} k found came counted f =
+    let bytes = bytes-are came found (worked-sent budget (length output) (decode m)) in
+    rw (k .soundness, f .answer, counted, came .why, f .put, bytes, placed-last (came .reached .placed) (f .stored))
 
-module _ {before output₀ memory output : List ℕ} {t : Turn} {budget count : ℕ} (going : Going before output₀ memory output t budget count) where
+module _ {before output₀ : List ℕ} {h : Header} {room : ℕ} {memory output : List ℕ} {t : Turn} {budget count : ℕ}
+    (going : Going before output₀ h room memory output t budget count) where
   w : Progress
-  w = worked count (length output₀) (decode before)
+  w = worked count room (decode before)
 
-  pub ready : Ready memory output t
+  pub ready : Ready memory room t
   ready = came-ready (going .came)
 
   done-all : w .why ≡ 0
   unfolding w
   done-all = sym (going .came .why) ∙ going .on
 
-  module _ (more : count < budget) {memory′ output′ : List ℕ} {r : Turn} (turns : Turns memory output memory′ output′ t r) where
-    further : worked (count + 1) (length output₀) (decode before)
-        ≡ record {
-          count = w .count + worked 1 (length output₀ - length (w .output)) (w .gateway) .count;
-          why = worked 1 (length output₀ - length (w .output)) (w .gateway) .why;
-          gateway = worked 1 (length output₀ - length (w .output)) (w .gateway) .gateway;
-          output = w .output ++ worked 1 (length output₀ - length (w .output)) (w .gateway) .output;
-        }
+  lent : room ≡ length output
+  lent = going .lent ∙ ap length (sym (going .same))
+
+  module _ (more : count < budget) {memory′ : List ℕ} {r : Turn} (turns : Turns memory room memory′ t r) where
+    further : worked (count + 1) room (decode before) ≡ andThen w (worked 1 (room - length (w .output)) (w .gateway))
     unfolding w
-    further = worked-then count 1 (length output₀) (decode before) done-all
+    further = worked-then count 1 room (decode before) done-all
 
-    came-next : Came (worked (count + 1) (length output₀) (decode before)) before output₀ memory′ output′ r
+    came-next : Came (worked (count + 1) room (decode before)) before room memory′ r
     unfolding w
-    came-next =
-        came-further (going .came) turns _
-        (ap (λ (p : Progress). p .gateway) further) (ap (λ (p : Progress). p .why) further) (ap (λ (p : Progress). p .output) further)
+    came-next = came-further (going .came) turns _ further
 
-    pub one-more : r .why ≡ 0 → Going before output₀ memory′ output′ r budget (count + 1)
-    one-more z = record { came = came-next; on = z; within = omega arith }
+    pub one-more : r .why ≡ 0 → Going before output₀ h room memory′ output r budget (count + 1)
+    one-more z = record { found = going .found; came = came-next; on = z; within = omega arith; same = going .same; lent = going .lent }
 
-    pub stops-early : {h : Header} {after : List ℕ} {answer : Worked} → Known before h → (r .why ≡ 0 → ⊥)
-        → (answer ≡ record { count = count; why = r .why; written = r .written }) × (after ≡ write 6 (headerBack (r .header)) (write 0
-        (headerFront (r .header)) memory′))
+    pub may-stop : MayFinish memory′ output h (r .header)
+    may-stop = may-finish came-next (going .found) (worked-sent (count + 1) room (decode before)) lent
+
+    pub stops-early : {after output′ : List ℕ} {answer : Worked} → Known before h → (r .why ≡ 0 → ⊥) → Finishes memory′ output after output′ h r count answer
         → record { answer = answer; memory = after; output = output′ } ≡ workedOff budget before output₀
     unfolding w
     stops-early k n f =
-        let ended : worked (count + 1) (length output₀) (decode before) .why ≡ 0 → ⊥ = λ z. n (came-next .why ∙ z) in
-        let whole : worked budget (length output₀) (decode before) ≡ worked (count + 1) (length output₀) (decode before) =
+        let ended : worked (count + 1) room (decode before) .why ≡ 0 → ⊥ = λ z. n (came-next .why ∙ z) in
+        let whole : worked budget room (decode before) ≡ worked (count + 1) room (decode before) =
         let b : budget ≡ count + 1 + (budget - (count + 1)) = omega arith in
-        ap (λ (n : ℕ). worked n (length output₀) (decode before)) b ∙ worked-stopped (count + 1) (budget - (count + 1)) (length output₀) (decode before) ended
+        ap (λ (n : ℕ). worked n room (decode before)) b ∙ worked-stopped (count + 1) (budget - (count + 1)) room (decode before) ended
         in
-        let none : worked 1 (length output₀ - length (w .output)) (w .gateway) .count ≡ 0 =
-        stopped-count (length output₀ - length (w .output)) (w .gateway) (λ z. ended (ap (λ (p : Progress). p .why) further ∙ z))
+        let none : worked 1 (room - length (w .output)) (w .gateway) .count ≡ 0 =
+        stopped-count (room - length (w .output)) (w .gateway) (λ z. ended (ap (λ (p : Progress). p .why) further ∙ z))
         in
-        let counted : worked (count + 1) (length output₀) (decode before) .count ≡ count =
-        ap (λ (p : Progress). p .count) further ∙ omega (arith, none, worked-all count (length output₀) (decode before) done-all)
+        let counted : worked (count + 1) room (decode before) .count ≡ count =
+        ap (λ (p : Progress). p .count) further ∙ omega (arith, none, worked-all count room (decode before) done-all)
         in
-        finished budget k
-        (subst (λ (p : Progress). Came p before output₀ memory′ output′ r) (sym whole) came-next)
-        (sym counted ∙ ap (λ (p : Progress). p .count) (sym whole))
-        f
+        finished budget k (going .found)
+        (rw (← going .lent, whole) came-next)
+        (rw (← going .lent) (sym counted ∙ ap (λ (p : Progress). p .count) (sym whole)))
+        (rw (going .same) at f)
 
-  pub ends : {h : Header} {after : List ℕ} {answer : Worked} → Known before h → budget ≤ count
-      → (answer ≡ record { count = count; why = t .why; written = t .written }) × (after ≡ write 6 (headerBack (t .header)) (write 0
-      (headerFront (t .header)) memory))
-      → record { answer = answer; memory = after; output = output } ≡ workedOff budget before output₀
-  unfolding w
-  ends k l f =
-      let e : count ≡ budget = omega (arith, going .within) in
-      finished budget k
-      (subst (λ (n : ℕ). Came (worked n (length output₀) (decode before)) before output₀ memory output t) e (going .came))
-      (sym (worked-all count (length output₀) (decode before) done-all) ∙ ap (λ (n : ℕ). worked n (length output₀) (decode before) .count) e)
-      f
+  module _ (l : budget ≤ count) where
+    pub may-end : MayFinish memory output h (t .header)
+    may-end = may-finish (going .came) (going .found) (worked-sent count room (decode before)) lent
+
+    pub ends : {after output′ : List ℕ} {answer : Worked} → Known before h → Finishes memory output after output′ h t count answer
+        → record { answer = answer; memory = after; output = output′ } ≡ workedOff budget before output₀
+    unfolding w
+    ends k f =
+        let e : budget ≡ count = omega (arith, going .within) in
+        finished budget k (going .found)
+        (rw (← going .lent, e) (going .came))
+        (rw (← going .lent, e) (sym (worked-all count room (decode before) done-all)))
+        (rw (going .same) at f)
 
 -- work on memory that is not sound
 pub work-unsound : (budget : ℕ) (m output : List ℕ) {r : Checked} → r ≡ checkedAs m → not (r .sound) ≡ true

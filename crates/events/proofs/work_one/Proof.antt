@@ -20,27 +20,23 @@ returns : tie.Need-returns
 returns c =
     let at-if1 = c .before in
     let at-next-marked = at-if1 .before in
-    let start = at-next-marked .before .before .before .before .before .before in
-    λ before g reached. none-left reached (start .args .output .now) (at-next-marked .next-marked .ensures) (at-if1 .if1 .taken)
-    (c .stopped .ensures)
+    let start = at-next-marked .before .before .before .before .before in
+    λ before g reached. none-left reached (start .args .room) (at-next-marked .next-marked .ensures) (at-if1 .if1 .taken) (c .stopped .ensures)
 
 work-at-requires : tie.Need-work-at-requires
 work-at-requires c κs =
-    let at-if1 = c .before .before in
+    let at-if1 = c .before in
     let at-next-marked = at-if1 .before in
-    let start = at-next-marked .before .before .before .before .before .before in
+    let start = at-next-marked .before .before .before .before .before in
     (start .pre, place-below (start .args .memory .now) (start .pre .place) (at-next-marked .next-marked .ensures) (at-if1 .if1 .left))
 
 same-length-2 : tie.Need-same-length-2
 same-length-2 c = search needs
 
-same-length-3 : tie.Need-same-length-3
-same-length-3 c = search needs
-
 returns-2 : tie.Need-returns-2
 returns-2 c =
-    let at-work-at = c .before .before .before .before in
-    let at-next-marked = at-work-at .before .before .before .before in
+    let at-work-at = c .before .before in
+    let at-next-marked = at-work-at .before .before .before in
     λ before g reached. at-work-at .work-at .ensures before g reached (found-next reached (at-next-marked .next-marked .ensures))
 
 pub work-one-spec : {M : Type 1} → statement M
@@ -54,5 +50,4 @@ work-one-spec =
     returns
     work-at-requires
     same-length-2
-    same-length-3
     returns-2)

@@ -1,4 +1,4 @@
--- One event of work and several, on the memory and the output: what the functions inside work are told and promise.
+-- One event of work and several, on the memory: what the functions inside work are told and promise.
 use mathlib.Core.Path.{_≡_}
 use Prim.Native.Nat.{ℕ, _+_, _-_, _≤_}
 use mathlib.Core.Bool.{Bool, true, false, _&&_}
@@ -6,9 +6,7 @@ use mathlib.Core.List.{List}
 use lib.Dec.{leb}
 use lib.ListN.{length, drop}
 use Rattle.lists.specs.inside.Positions.{firstWhere}
-use Rattle.buffer.specs.Slice.{write}
 use Rattle.model.specs.Doing.{sentBy}
-use Rattle.model.specs.declared.State.{State}
 use Rattle.model.specs.declared.event.Reply.{Reply}
 use Rattle.memory.specs.Records.{Gateway}
 use Rattle.memory.specs.Layout.{sizeFor}
@@ -19,18 +17,17 @@ use Rattle.memory.specs.declared.Header.{Header}
 use Rattle.gateway.specs.Effects.{bytesOfFrames, framesFor, sentAll}
 use Rattle.gateway.specs.Working.{Progress, worked}
 use Rattle.effects.specs.inside.Placed.{Placed}
-use Rattle.effects.specs.declared.Sending.{Sending}
 use Rattle.replies.specs.declared.Turn.{Turn}
 
--- sizes and counts between two events
-pub record Ready (memory output : List ℕ) (t : Turn) : Type 0 where
+-- sizes and counts between two events, for an output of so many bytes
+pub record Ready (memory : List ℕ) (room : ℕ) (t : Turn) : Type 0 where
   pub long : sizeFor (t .header .settings .q) (t .header .settings .u) ≤ length memory
   pub queue-places : t .header .settings .q ≤ 512
   pub outstanding-places : t .header .settings .u ≤ 512
   pub queued : t .header .queued ≤ t .header .settings .q
   pub outstanding : t .header .outstanding ≤ t .header .settings .u
   pub place : t .place ≤ t .header .queued
-  pub written : t .written ≤ length output
+  pub written : t .written ≤ room
 
 -- between two events the memory has the places of the valid gateway g, written over `before`, and the next unprocessed plain message stands
 -- from the turn's place on
@@ -41,62 +38,43 @@ pub record Reached (before memory : List ℕ) (t : Turn) (g : Gateway) : Type 0 
   pub behind : t .place ≤ length (g .queue)
   pub next : firstWhere isPending (g .queue) ≡ t .place + firstWhere isPending (drop (t .place) (g .queue))
 
--- work came to w, and what it put out stands behind what was written before
-pub record Turned (w : Progress) (before output memory′ output′ : List ℕ) (t r : Turn) : Type 0 where
+-- work came to w, and the bytes that it will put out are counted
+pub record Turned (w : Progress) (before memory′ : List ℕ) (t r : Turn) : Type 0 where
   pub reached : Reached before memory′ r (w .gateway)
   pub why : r .why ≡ w .why
-  pub put : output′ ≡ write (t .written) (w .output) output
   pub written : r .written ≡ t .written + length (w .output)
 
 -- one event was worked off, from every gateway that the memory may hold
-abbrev pub Turns : List ℕ → List ℕ → List ℕ → List ℕ → Turn → Turn → Type 0
-Turns memory output memory′ output′ t r =
-    (before : List ℕ) (g : Gateway) → Reached before memory t g → Turned (worked 1 (length output - t .written) g) before output memory′ output′ t r
+abbrev pub Turns : List ℕ → ℕ → List ℕ → Turn → Turn → Type 0
+Turns memory room memory′ t r =
+    (before : List ℕ) (g : Gateway) → Reached before memory t g → Turned (worked 1 (room - t .written) g) before memory′ t r
 
 -- the same where the next unprocessed plain message stands in place k
-abbrev pub TurnsAt : ℕ → List ℕ → List ℕ → List ℕ → List ℕ → Turn → Turn → Type 0
-TurnsAt k memory output memory′ output′ t r =
+abbrev pub TurnsAt : ℕ → List ℕ → ℕ → List ℕ → Turn → Turn → Type 0
+TurnsAt k memory room memory′ t r =
     (before : List ℕ) (g : Gateway) → Reached before memory t g → k ≡ firstWhere isPending (g .queue)
-    → Turned (worked 1 (length output - t .written) g) before output memory′ output′ t r
+    → Turned (worked 1 (room - t .written) g) before memory′ t r
 
 -- a turn that stops work, with that number
 abbrev pub stoppedWith : ℕ → Turn → Turn
 stoppedWith why t = record { header = t .header; written = t .written; place = t .place; why = why }
 
--- the header with the state after a message, and the bytes of output so far
-abbrev pub sendingAfter : Turn → State → Sending
-sendingAfter t state = record {
-  header = record {
-    settings = t .header .settings;
-    state = state;
-    agreed = t .header .agreed;
-    round = t .header .round;
-    queued = t .header .queued;
-    outstanding = t .header .outstanding;
-  };
-  written = t .written;
-}
+-- the bytes of output that what doing a message sends takes
+abbrev pub replyBytes : Reply → ℕ
+replyBytes reply = length (bytesOfFrames (framesFor false (sentBy reply)))
 
 -- there are outstanding places and bytes of output for what doing a message sends
 abbrev pub roomFor : Header → ℕ → Reply → Bool
-roomFor h room reply =
-    leb (h .outstanding + length (sentBy reply)) (h .settings .u) && leb (length (bytesOfFrames (framesFor false (sentBy reply)))) room
+roomFor h room reply = leb (h .outstanding + length (sentBy reply)) (h .settings .u) && leb (replyBytes reply) room
 
--- the same of the memory and the output
-pub record MaySendAll (memory output : List ℕ) (s : Sending) (reply : Reply) : Type 0 where
-  pub long : sizeFor (s .header .settings .q) (s .header .settings .u) ≤ length memory
-  pub outstanding-places : s .header .settings .u ≤ 512
-  pub outstanding : s .header .outstanding + length (sentBy reply) ≤ s .header .settings .u
-  pub room : s .written + length (bytesOfFrames (framesFor false (sentBy reply))) ≤ length output
+-- there are outstanding places for it in the memory
+pub record MaySendReply (memory : List ℕ) (h : Header) (reply : Reply) : Type 0 where
+  pub long : sizeFor (h .settings .q) (h .settings .u) ≤ length memory
+  pub outstanding-places : h .settings .u ≤ 512
+  pub outstanding : h .outstanding + length (sentBy reply) ≤ h .settings .u
 
--- what doing a message sends is sent, behind what was written before
-pub record AfterSends (before : List ℕ) (g : Gateway) (output memory′ output′ : List ℕ) (s : Sending) (reply : Reply) (r : Sending) : Type 0 where
-  pub placed : Placed before memory′ (r .header) (sentAll false (sentBy reply) g)
-  pub put : output′ ≡ write (s .written) (bytesOfFrames (framesFor false (sentBy reply))) output
-  pub written : r .written ≡ s .written + length (bytesOfFrames (framesFor false (sentBy reply)))
-
--- so for every gateway that the memory may hold
-abbrev pub SendsAll : List ℕ → List ℕ → List ℕ → List ℕ → Sending → Reply → Sending → Type 0
-SendsAll memory output memory′ output′ s reply r =
-    (before : List ℕ) (g : Gateway) → Placed before memory (s .header) g → GatewayFits (sentAll false (sentBy reply) g)
-    → AfterSends before g output memory′ output′ s reply r
+-- it is sent, for every gateway that the memory may hold
+abbrev pub SendsReply : List ℕ → List ℕ → Header → Reply → Header → Type 0
+SendsReply memory memory′ h reply r =
+    (before : List ℕ) (g : Gateway) → Placed before memory h g → GatewayFits (sentAll false (sentBy reply) g)
+    → Placed before memory′ r (sentAll false (sentBy reply) g)
