@@ -6,16 +6,35 @@ mod measure;
 mod rounds;
 mod situations;
 
-use host::carrier::Forecast;
+use host::carrier::{Forecast, Stopped};
+use host::command::{input_text, printed, shown, Arguments, Ending, Program, BAD_FILE};
 use host::scenario::Scenario;
 use interface::{Calls, MOST_PLACES};
 use library::Library;
-use measure::{in_turn, shown, timed, Times};
+use measure::{in_turn, timed, with_unit, Times};
 use plain::Plain;
 use situations::{processed, queued, request, to_commit, with_sense, AMPLE};
+use std::ffi::OsStr;
 use std::io::{self, Write};
 use std::path::{Path, PathBuf};
 use std::process::{Command, ExitCode, Stdio};
+
+const PROGRAM: Program =
+    Program { name: "bench", usage: &["SCENARIO ARCS"], help: HELP, flags: &[], valued: &[] };
+
+const HELP: &str = "\
+Measures the calls of the proved library, a round, the forecast of a SCENARIO and the program ARCS
+beside plain Rust that does the same, and prints tables of the times. The program plain_arcs stands
+beside this one. The SCENARIO - is standard input.
+
+Status: 0, 1 if plain Rust does something else than what it is measured beside, 2 for a bad usage, 3
+if a file or program cannot be used or standard output cannot be written.
+
+  bench target/town/scenario target/bin/arcs
+";
+
+/// The status where plain Rust does something else.
+const DIFFERENT: u8 = 1;
 
 /// Copies of a memory that a call is made on in a turn.
 const COPIES: u32 = 16;
@@ -26,99 +45,103 @@ const TURNS: usize = 301;
 const QUEUED: u32 = 64;
 
 fn main() -> ExitCode {
-    let arguments: Vec<PathBuf> = std::env::args_os().skip(1).map(PathBuf::from).collect();
-    let [scenario, arcs] = &arguments[..] else {
-        eprintln!("usage: bench SCENARIO ARCS");
-        return ExitCode::from(2);
-    };
-    match tables(scenario, arcs) {
-        Ok(()) => ExitCode::SUCCESS,
-        Err(what) => {
-            eprintln!("{what}");
-            ExitCode::FAILURE
-        }
-    }
+    PROGRAM.run(measure)
 }
 
-fn tables(scenario: &Path, arcs: &Path) -> Result<(), String> {
-    println!("| what | library | plain Rust | ratio |\n|---|---|---|---|");
-    calls();
+/// Reads what is measured, so that nothing is measured in vain, and measures it.
+fn measure(arguments: &Arguments) -> Result<(), Ending> {
+    let [scenario, arcs] = arguments.exactly(["SCENARIO", "ARCS"])?;
+    let town = Town::read(scenario)?;
+    let arcs = ArcsPrograms::compared(Path::new(arcs))?;
+    let mut tables = Tables { out: io::stdout().lock() };
+    tables.head()?;
+    calls(&mut tables)?;
     for gateways in [22, 255] {
-        row(&format!("a full round, N = {gateways}, {QUEUED} queued at each"), round(gateways));
+        let what = format!("a full round, N = {gateways}, {QUEUED} queued at each");
+        tables.row(&what, round(gateways))?;
     }
-    row("the town's forecast", town(scenario)?);
-    row("the program arcs, N = 65,535", arcs_program(arcs)?);
+    tables.row("the town's forecast", town.times()?)?;
+    tables.row("the program arcs, N = 65,535", arcs.times())?;
 
-    println!("\nBy the places in use:\n");
-    println!("| what | library | plain Rust | ratio |\n|---|---|---|---|");
+    tables.line("\nBy the places in use:\n")?;
+    tables.head()?;
     for count in [0, 32, 128, 256, 511] {
         let frame = request(5 * count + 5, 999_999);
-        let name = format!("take a plain message at {count} queued");
-        row(
-            &name,
-            on_copies(&queued(count), |calls, memory, output| {
-                calls.take(memory, &frame, output);
-            }),
-        );
+        let times = on_copies(&queued(count), |calls, memory, output| {
+            calls.take(memory, &frame, output);
+        })?;
+        tables.row(&format!("take a plain message at {count} queued"), times)?;
     }
     Ok(())
 }
 
-fn row(what: &str, times: Times) {
-    let (library, plain) = (shown(times.library), shown(times.plain));
-    println!("| {what} | {library} | {plain} | {:.2} |", times.ratio());
-    let _ = io::stdout().flush();
+/// What is printed, each line as soon as it is known.
+struct Tables<W> {
+    out: W,
+}
+
+impl<W: Write> Tables<W> {
+    fn line(&mut self, text: &str) -> Result<(), Ending> {
+        printed(writeln!(self.out, "{text}").and_then(|()| self.out.flush()))
+    }
+
+    fn head(&mut self) -> Result<(), Ending> {
+        self.line("| what | library | plain Rust | ratio |\n|---|---|---|---|")
+    }
+
+    fn row(&mut self, what: &str, times: Times) -> Result<(), Ending> {
+        let (library, plain) = (with_unit(times.library), with_unit(times.plain));
+        self.line(&format!("| {what} | {library} | {plain} | {:.2} |", times.ratio()))
+    }
 }
 
 /// A call, on any implementation.
 type Call<'a> = &'a dyn Fn(&dyn Calls, &mut [u8], &mut [u8]);
 
-fn calls() {
+fn calls(tables: &mut Tables<impl Write>) -> Result<(), Ending> {
     for count in [0, 64, 511] {
         let frame = request(5 * count + 5, 999_999);
-        row(
-            &format!("take a plain message, {count} queued"),
-            on_copies(&queued(count), |calls, memory, output| {
-                calls.take(memory, &frame, output);
-            }),
-        );
+        let times = on_copies(&queued(count), |calls, memory, output| {
+            calls.take(memory, &frame, output);
+        })?;
+        tables.row(&format!("take a plain message, {count} queued"), times)?;
     }
     for count in [1, 64, 511] {
         let cancel = with_sense(&request(10, 1), 1);
-        row(
-            &format!("take a cancel that undoes {count}"),
-            on_copies(&processed(count), |calls, memory, output| {
-                calls.take(memory, &cancel, output);
-            }),
-        );
+        let times = on_copies(&processed(count), |calls, memory, output| {
+            calls.take(memory, &cancel, output);
+        })?;
+        tables.row(&format!("take a cancel that undoes {count}"), times)?;
     }
     for budget in [1, MOST_PLACES] {
-        row(
-            &format!("work of {budget}, {MOST_PLACES} queued"),
-            on_copies(&queued(MOST_PLACES), |calls, memory, output| {
-                calls.work(memory, output, budget);
-            }),
-        );
+        let times = on_copies(&queued(MOST_PLACES), |calls, memory, output| {
+            calls.work(memory, output, budget);
+        })?;
+        tables.row(&format!("work of {budget}, {MOST_PLACES} queued"), times)?;
     }
     for count in [1, 64, MOST_PLACES] {
-        row(
-            &format!("commit, {count} queued"),
-            on_copies(&to_commit(count), |calls, memory, output| {
-                calls.commit(memory, output);
-            }),
-        );
+        let times = on_copies(&to_commit(count), |calls, memory, output| {
+            calls.commit(memory, output);
+        })?;
+        tables.row(&format!("commit, {count} queued"), times)?;
     }
+    Ok(())
 }
 
 /// The time of one call on fresh copies of a memory. Both implementations must leave the same.
-fn on_copies(memory: &[u8], call: impl Fn(&dyn Calls, &mut [u8], &mut [u8])) -> Times {
+fn on_copies(
+    memory: &[u8],
+    call: impl Fn(&dyn Calls, &mut [u8], &mut [u8]),
+) -> Result<Times, Ending> {
     let call: Call = &call;
     let left = |calls: &dyn Calls| {
         let (mut memory, mut output) = (memory.to_vec(), vec![0; AMPLE]);
         call(calls, &mut memory, &mut output);
         (memory, output)
     };
-    assert!(left(&Library) == left(&Plain), "the implementations differ");
+    if left(&Library) != left(&Plain) {
+        return Err(Ending::Failed(DIFFERENT, "plain Rust leaves something else".into()));
+    }
 
     let mut copies = vec![memory.to_vec(); COPIES as usize + 1];
     let mut output = vec![0; AMPLE];
@@ -134,7 +157,8 @@ fn on_copies(memory: &[u8], call: impl Fn(&dyn Calls, &mut [u8], &mut [u8])) -> 
             }
         })
     };
-    in_turn(TURNS, |library| turn(if library { &Library } else { &Plain })).per(COPIES)
+    let times = in_turn(TURNS, |library| turn(if library { &Library } else { &Plain }));
+    Ok(times.per(COPIES))
 }
 
 fn round(gateways: u32) -> Times {
@@ -147,42 +171,76 @@ fn round(gateways: u32) -> Times {
     in_turn(TURNS / 3, |library| turn(if library { &Library } else { &Plain }))
 }
 
-fn town(path: &Path) -> Result<Times, String> {
-    let file = |error| format!("{}: {error}", path.display());
-    let text = std::fs::read_to_string(path).map_err(file)?;
-    let scenario = Scenario::parse(&text).map_err(|bad| format!("{}:{bad}", path.display()))?;
-    fn whole(calls: impl Calls, scenario: &Scenario) {
-        let mut forecast = Forecast::new(calls, scenario).expect("the town is set up");
-        forecast.run(|_, _| (), |_| ()).expect("the town's forecast ends");
-    }
-    Ok(in_turn(3, |library| match library {
-        true => timed(|| whole(Library, &scenario)),
-        false => timed(|| whole(Plain, &scenario)),
-    }))
+/// A scenario whose forecast is measured.
+struct Town {
+    name: String,
+    scenario: Scenario,
 }
 
-/// The proved program arcs beside the one in plain Rust, which stands beside this program.
-fn arcs_program(proved: &Path) -> Result<Times, String> {
-    let own = std::env::current_exe().map_err(|error| error.to_string())?;
-    let plain = own.with_file_name("plain_arcs");
-    let outputs = [listing(proved)?, listing(&plain)?];
-    if outputs[0] != outputs[1] {
-        return Err("the two programs arcs print different lists".into());
+impl Town {
+    fn read(name: &OsStr) -> Result<Town, Ending> {
+        let text = input_text(name)?;
+        let name = shown(name);
+        match Scenario::parse(&text) {
+            Ok(scenario) => Ok(Town { name, scenario }),
+            Err(bad) => Err(Ending::Failed(BAD_FILE, format!("{name}:{bad}"))),
+        }
     }
-    Ok(in_turn(TURNS / 3, |library| {
-        let program = if library { proved } else { &plain };
-        timed(|| listing(program).map_or(0, |text| text.len()))
-    }))
+
+    fn times(&self) -> Result<Times, Ending> {
+        let mut stopped = None;
+        let times = in_turn(3, |library| {
+            timed(|| {
+                let result = if library { self.run(Library) } else { self.run(Plain) };
+                stopped = stopped.take().or(result.err());
+            })
+        });
+        match stopped {
+            None => Ok(times),
+            Some(why) => Err(Ending::Failed(BAD_FILE, format!("{}: {why}", self.name))),
+        }
+    }
+
+    fn run(&self, calls: impl Calls) -> Result<(), Stopped> {
+        Forecast::new(calls, &self.scenario)?.run(|_, _| ()).map(drop)
+    }
+}
+
+/// The proved program arcs, and the one in plain Rust.
+struct ArcsPrograms {
+    proved: PathBuf,
+    plain: PathBuf,
+}
+
+impl ArcsPrograms {
+    /// The proved program and the one beside this program, which must print the same.
+    fn compared(proved: &Path) -> Result<ArcsPrograms, Ending> {
+        let own = std::env::current_exe()
+            .map_err(|error| Ending::Failed(BAD_FILE, format!("this program: {error}")))?;
+        let plain = own.with_file_name("plain_arcs");
+        if listing(proved)? != listing(&plain)? {
+            let what = "the two programs arcs print different lists";
+            return Err(Ending::Failed(DIFFERENT, what.into()));
+        }
+        Ok(ArcsPrograms { proved: proved.into(), plain })
+    }
+
+    fn times(&self) -> Times {
+        in_turn(TURNS / 3, |library| {
+            let program = if library { &self.proved } else { &self.plain };
+            timed(|| listing(program).map_or(0, |text| text.len()))
+        })
+    }
 }
 
 /// What a program prints for 65,535.
-fn listing(program: &Path) -> Result<Vec<u8>, String> {
-    let wrong = |error: io::Error| format!("{}: {error}", program.display());
-    let mut child = Command::new(program)
-        .stdin(Stdio::piped())
-        .stdout(Stdio::piped())
-        .spawn()
-        .map_err(wrong)?;
-    child.stdin.take().expect("it is piped").write_all(b"65535\n").map_err(wrong)?;
-    Ok(child.wait_with_output().map_err(wrong)?.stdout)
+fn listing(program: &Path) -> Result<Vec<u8>, Ending> {
+    printed_by(program)
+        .map_err(|error| Ending::Failed(BAD_FILE, format!("{}: {error}", program.display())))
+}
+
+fn printed_by(program: &Path) -> io::Result<Vec<u8>> {
+    let mut child = Command::new(program).stdin(Stdio::piped()).stdout(Stdio::piped()).spawn()?;
+    child.stdin.take().expect("it is piped").write_all(b"65535\n")?;
+    Ok(child.wait_with_output()?.stdout)
 }

@@ -48,7 +48,7 @@ fn median(mut times: Vec<Duration>) -> Duration {
 }
 
 /// A time in the unit that suits it.
-pub fn shown(time: Duration) -> String {
+pub fn with_unit(time: Duration) -> String {
     let nanoseconds = time.as_nanos();
     match nanoseconds {
         0..10_000 => format!("{nanoseconds} ns"),

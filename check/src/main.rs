@@ -3,33 +3,73 @@
 
 use check::compare::Comparison;
 use check::{runs, Wrong};
+use host::command::{printed, tell, Arguments, Ending, Program};
+use host::scenario::number;
+use std::io::{self, Write};
 use std::process::ExitCode;
 use std::time::{Duration, Instant};
 
+const PROGRAM: Program =
+    Program { name: "check", usage: &["SEED COUNT"], help: HELP, flags: &[], valued: &[] };
+
+const HELP: &str = "\
+Makes every call three times on copies of the same bytes, by the proved library, by plain Rust and by
+the second implementation, and compares what they answer and leave: the routing, gateways with all
+places in use, then random runs of COUNT seeds, SEED and those behind it. Behind 4294967295 comes 0.
+
+Prints how often each call had each answer, then what can be answered and never was. Few seeds do not
+meet every answer; with a COUNT of 0 there are no random runs, and most are never met. How far it has
+come is on standard error every ten seconds.
+
+Status: 0 if nothing differs and every answer was met, 1 otherwise, 2 for a bad usage, 3 if standard
+output cannot be written.
+
+  check 1 2000
+";
+
+/// The status where something differs, or was never met.
+const NOT_GOOD: u8 = 1;
+
 fn main() -> ExitCode {
-    let numbers: Vec<Option<u32>> =
-        std::env::args().skip(1).map(|word| word.parse().ok()).collect();
-    let [Some(seed), Some(count)] = numbers[..] else {
-        eprintln!("usage: check SEED COUNT");
-        return ExitCode::from(2);
-    };
+    PROGRAM.run(check)
+}
+
+/// Compares, and prints what came of it. The status tells it even where nobody reads.
+fn check(arguments: &Arguments) -> Result<(), Ending> {
+    let [seed, count] = numbers(arguments)?;
     let mut comparison = Comparison::default();
     let result = compare(seed, count, &mut comparison);
-    print!("{}", comparison.tally);
-    if let Err(wrong) = result {
-        println!("wrong: {wrong}");
-        return ExitCode::FAILURE;
-    }
     let tally = &comparison.tally;
-    let gaps = [tally.gaps(), tally.impossible()].concat();
-    for gap in &gaps {
-        println!("{gap}");
+    let (verdict, good) = match result {
+        Err(wrong) => (format!("wrong: {wrong}"), false),
+        Ok(()) => {
+            let gaps = [tally.gaps(), tally.impossible()].concat();
+            let lines: String = gaps.iter().map(|gap| format!("{gap}\n")).collect();
+            let seeds = seeds(seed, count);
+            (format!("{lines}{seeds}: no difference, {} gaps", gaps.len()), gaps.is_empty())
+        }
+    };
+    let said = writeln!(io::stdout().lock(), "{tally}{verdict}");
+    match good {
+        true => printed(said),
+        false => Err(Ending::Told(NOT_GOOD)),
     }
-    println!("seeds from {seed} on, {count} of them: no difference, {} gaps", gaps.len());
-    if gaps.is_empty() {
-        ExitCode::SUCCESS
-    } else {
-        ExitCode::FAILURE
+}
+
+fn numbers(arguments: &Arguments) -> Result<[u32; 2], Ending> {
+    let names = ["SEED", "COUNT"];
+    let words = arguments.exactly(names)?;
+    let read = |place: usize| {
+        let word = words[place].to_string_lossy();
+        number(names[place], &word, 0, u32::MAX).map_err(Ending::BadUsage)
+    };
+    Ok([read(0)?, read(1)?])
+}
+
+fn seeds(seed: u32, count: u32) -> String {
+    match count {
+        0 => "no seeds".into(),
+        _ => format!("seeds from {seed} on, {count} of them"),
     }
 }
 
@@ -41,7 +81,7 @@ fn compare(seed: u32, count: u32, comparison: &mut Comparison) -> Result<(), Wro
         let seed = seed.wrapping_add(number);
         runs::all(seed, comparison).map_err(|wrong| format!("seed {seed}: {wrong}"))?;
         if shown.elapsed() > Duration::from_secs(10) {
-            eprintln!("{number} of {count} seeds, {} calls", comparison.tally.calls());
+            tell(&format!("{number} of {count} seeds, {} calls", comparison.tally.calls()));
             shown = Instant::now();
         }
     }

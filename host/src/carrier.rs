@@ -2,14 +2,14 @@
 //!
 //! Time goes in windows. In a window the gateways work off what is due up to the horizon, the agreed time and the
 //! window's length behind it, and frames are brought until nothing more moves; then a round finds the new agreed time, and
-//! what lies below it is committed. Messages past the horizon wait at the carrier while their gateway's queue is more than
+//! what lies below it is committed. Messages past the horizon wait at the carrier while their gateway's queue is at least
 //! half full. A window in which places run out is taken back, from a copy of all memories, and done again with half its length;
 //! so a forecast stops for want of places only where it would stop hour by hour.
 
 use crate::frame::{frames, Frame};
 use crate::places::{due, Places};
 use crate::scenario::{more_places, Scenario};
-use interface::{ample_output, memory_length, Answer, Calls, MOST_PLACES, NOTHING_DUE};
+use interface::{ample_output, memory_length, AgreedTime, Answer, Calls, MOST_PLACES, NOTHING_DUE};
 use std::collections::VecDeque;
 use std::fmt;
 
@@ -19,19 +19,26 @@ const NOTHING: u32 = 6;
 /// The longest window, in hours. In a longer one gateways run so far ahead that they undo more than they gain.
 const LONGEST_WINDOW: u32 = 32;
 
-/// A forecast under way.
+/// A forecast that is run.
 pub struct Forecast<C> {
     calls: C,
-    /// A gateway's memory is all that there is of it.
-    memories: Vec<Vec<u8>>,
-    /// Written for the carrier and not yet accepted, oldest first.
-    under_way: VecDeque<Frame>,
-    agreed: u32,
-    window: u32,
     output: Vec<u8>,
-    progress: Progress,
+    carried: Carried,
+}
+
+/// All that there is of a forecast between two windows, but for its records: who has this can go on with it.
+#[derive(Clone, Debug, PartialEq, Eq)]
+pub struct Carried {
+    /// A gateway's memory is all that there is of it.
+    pub memories: Vec<Vec<u8>>,
+    /// Written for the carrier and not yet accepted, oldest first.
+    pub under_way: VecDeque<Frame>,
+    /// The hours that gateways run ahead of the agreed time.
+    pub window: u32,
+    pub progress: Progress,
+    pub trace: Trace,
     /// The most places that each gateway has used.
-    most: Vec<Places>,
+    pub most: Vec<Places>,
 }
 
 /// What has happened so far.
@@ -45,6 +52,32 @@ pub struct Progress {
     pub rounds: u64,
     /// Windows that were taken back for want of places.
     pub taken_back: u64,
+}
+
+/// The most entries of a trace.
+const LONGEST_TRACE: usize = 2_048;
+
+/// The progress after every so many rounds: of every one, until there are too many; then of every second one, and so on.
+#[derive(Clone, Debug, PartialEq, Eq)]
+pub struct Trace {
+    pub every: u64,
+    pub entries: Vec<Progress>,
+}
+
+impl Trace {
+    fn new() -> Trace {
+        Trace { every: 1, entries: vec![Progress::default()] }
+    }
+
+    fn add(&mut self, progress: Progress) {
+        if self.entries.len() == LONGEST_TRACE {
+            self.every *= 2;
+            self.entries.retain(|entry| entry.rounds.is_multiple_of(self.every));
+        }
+        if progress.rounds.is_multiple_of(self.every) {
+            self.entries.push(progress);
+        }
+    }
 }
 
 /// Why a forecast cannot go on.
@@ -89,12 +122,6 @@ impl fmt::Display for Stopped {
     }
 }
 
-/// What is put back when a window is taken back.
-struct Copied {
-    memories: Vec<Vec<u8>>,
-    under_way: VecDeque<Frame>,
-}
-
 impl<C: Calls> Forecast<C> {
     /// Sets up every gateway of a scenario.
     pub fn new(calls: C, scenario: &Scenario) -> Result<Forecast<C>, Stopped> {
@@ -107,68 +134,81 @@ impl<C: Calls> Forecast<C> {
                 number => return Err(Stopped::Refused { gateway, call: "set up", number }),
             }
         }
-        Ok(Forecast {
-            calls,
+        let carried = Carried {
             under_way: VecDeque::new(),
-            agreed: 0,
             window: LONGEST_WINDOW,
-            output: vec![0; ample_output(MOST_PLACES)],
             progress: Progress::default(),
+            trace: Trace::new(),
             most: memories.iter().map(|memory| Places::of(memory)).collect(),
             memories,
-        })
+        };
+        Ok(Forecast::going_on(calls, carried))
     }
 
-    /// Runs until every record is whole. `record` is given each gateway's committed bytes, event by event, and `show` is called
-    /// after each window.
-    pub fn run(
-        &mut self,
-        mut record: impl FnMut(usize, &[u8]),
-        mut show: impl FnMut(&Progress),
-    ) -> Result<Progress, Stopped> {
-        while self.agreed != NOTHING_DUE {
-            self.pass_window()?;
-            self.commit(&mut record)?;
-            self.progress.agreed = self.agreed;
-            show(&self.progress);
+    /// Goes on with a forecast.
+    pub fn going_on(calls: C, carried: Carried) -> Forecast<C> {
+        Forecast { calls, output: vec![0; ample_output(MOST_PLACES)], carried }
+    }
+
+    /// All that there is of it.
+    pub fn carried(&self) -> &Carried {
+        &self.carried
+    }
+
+    pub fn into_carried(self) -> Carried {
+        self.carried
+    }
+
+    /// Whether every record is whole.
+    pub fn is_over(&self) -> bool {
+        self.carried.progress.agreed == NOTHING_DUE
+    }
+
+    /// Runs until every record is whole. `record` is given each gateway's committed bytes, event by event.
+    pub fn run(&mut self, mut record: impl FnMut(usize, &[u8])) -> Result<Progress, Stopped> {
+        while !self.is_over() {
+            self.pass(&mut record)?;
         }
-        Ok(self.progress)
+        Ok(self.carried.progress)
     }
 
-    /// The places of each gateway, with the most that were used at the end of a step of work or of bringing.
-    pub fn most_places(&self) -> &[Places] {
-        &self.most
+    /// Runs through a window, with its round, and commits what lies below the new agreed time.
+    pub fn pass(&mut self, record: &mut impl FnMut(usize, &[u8])) -> Result<(), Stopped> {
+        self.pass_window()?;
+        self.commit(record)?;
+        self.carried.trace.add(self.carried.progress);
+        Ok(())
     }
 
     /// One window, taken back and shortened as often as places run out.
     fn pass_window(&mut self) -> Result<(), Stopped> {
         loop {
-            let copied =
-                Copied { memories: self.memories.clone(), under_way: self.under_way.clone() };
-            let horizon = self.agreed.saturating_add(self.window);
+            let Carried { memories, under_way, window, progress, .. } = &self.carried;
+            let (memories, under_way) = (memories.clone(), under_way.clone());
+            let horizon = progress.agreed.saturating_add(*window);
             self.settle(horizon, horizon)?;
             if self.wants(horizon, horizon).is_empty() {
-                self.window = (2 * self.window).clamp(1, LONGEST_WINDOW);
+                self.carried.window = (2 * self.carried.window).clamp(1, LONGEST_WINDOW);
                 return self.round();
             }
-            if self.window == 0 {
+            if self.carried.window == 0 {
                 return self.pass_hour();
             }
-            self.memories = copied.memories;
-            self.under_way = copied.under_way;
-            self.window /= 2;
-            self.progress.taken_back += 1;
+            self.carried.memories = memories;
+            self.carried.under_way = under_way;
+            self.carried.window /= 2;
+            self.carried.progress.taken_back += 1;
         }
     }
 
     /// With no window left to shorten: nothing waits at the carrier any more, as a message that waits there takes an outstanding
     /// place, and a round may let something be committed. If it does not, the forecast cannot go on.
     fn pass_hour(&mut self) -> Result<(), Stopped> {
-        let hour = self.agreed;
+        let hour = self.carried.progress.agreed;
         self.settle(hour, NOTHING_DUE)?;
         let wants = self.wants(hour, NOTHING_DUE);
         self.round()?;
-        if !wants.is_empty() && self.agreed == hour {
+        if !wants.is_empty() && self.carried.progress.agreed == hour {
             return Err(Stopped::WantOfPlaces(wants));
         }
         Ok(())
@@ -188,7 +228,7 @@ impl<C: Calls> Forecast<C> {
     }
 
     fn note_places(&mut self) {
-        for (most, memory) in self.most.iter_mut().zip(&self.memories) {
+        for (most, memory) in self.carried.most.iter_mut().zip(&self.carried.memories) {
             let Places { queue_used, outstanding_used, .. } = Places::of(memory);
             most.queue_used = most.queue_used.max(queue_used);
             most.outstanding_used = most.outstanding_used.max(outstanding_used);
@@ -198,16 +238,16 @@ impl<C: Calls> Forecast<C> {
     /// Every gateway works off what is due; whether one did.
     fn work(&mut self, horizon: u32) -> Result<bool, Stopped> {
         let mut worked = false;
-        for gateway in 0..self.memories.len() {
-            let budget = due(&self.memories[gateway], horizon);
+        for gateway in 0..self.carried.memories.len() {
+            let budget = due(&self.carried.memories[gateway], horizon);
             if budget == 0 {
                 continue;
             }
-            let memory = &mut self.memories[gateway];
+            let memory = &mut self.carried.memories[gateway];
             let answer = self.calls.work(memory, &mut self.output, budget);
             self.expect(gateway, "work", answer, &[0, NO_ROOM, NOTHING])?;
             self.write(answer);
-            self.progress.worked += u64::from(answer.events);
+            self.carried.progress.worked += u64::from(answer.events);
             worked |= answer.events > 0;
         }
         Ok(worked)
@@ -217,62 +257,76 @@ impl<C: Calls> Forecast<C> {
     /// the line.
     fn bring(&mut self, horizon: u32) -> Result<bool, Stopped> {
         let mut accepted = false;
-        for _ in 0..self.under_way.len() {
-            let Some(frame) = self.under_way.pop_front() else { break };
-            if self.is_held(&frame, horizon) || self.take(&frame)? == NO_ROOM {
-                self.under_way.push_back(frame);
+        for _ in 0..self.carried.under_way.len() {
+            let Some(frame) = self.carried.under_way.pop_front() else { break };
+            if self.is_held(&frame, horizon) {
+                self.carried.under_way.push_back(frame);
             } else {
-                accepted = true;
+                accepted |= self.take(frame, &[0, NO_ROOM])? == 0;
             }
         }
         Ok(accepted)
     }
 
-    /// A message past the horizon waits while the queue of its gateway is more than half full.
+    /// A message past the horizon waits while the queue of its gateway is at least half full.
     fn is_held(&self, frame: &Frame, horizon: u32) -> bool {
         let Some(hour) = frame.plain_hour() else { return false };
-        let places = Places::of(&self.memories[frame.addressee()]);
+        let places = Places::of(&self.carried.memories[frame.addressee()]);
         hour > horizon && 2 * places.queue_used >= places.queue
     }
 
-    fn take(&mut self, frame: &Frame) -> Result<u32, Stopped> {
+    /// Brings a frame to its gateway, and what that answers; one that is not accepted stays under way.
+    fn take(&mut self, frame: Frame, expected: &[u32]) -> Result<u32, Stopped> {
         let gateway = frame.addressee();
-        let memory = &mut self.memories[gateway];
+        let memory = &mut self.carried.memories[gateway];
         let answer = self.calls.take(memory, frame.bytes(), &mut self.output);
-        self.expect(gateway, "a frame", answer, &[0, NO_ROOM])?;
+        if answer.number != 0 {
+            self.carried.under_way.push_back(frame);
+        }
+        self.expect(gateway, "a frame", answer, expected)?;
         self.write(answer);
         Ok(answer.number)
     }
 
-    /// A whole round: the start call, and its frames until none is left.
+    /// A whole round: the start call, and its frames until none is left. It takes no queue place, and the output is long enough.
     fn round(&mut self) -> Result<(), Stopped> {
-        let answer = self.calls.start(&mut self.memories[0], &mut self.output);
+        let answer = self.calls.start(&mut self.carried.memories[0], &mut self.output);
         self.expect(0, "the start call", answer, &[0])?;
-        let before = self.under_way.len();
+        let before = self.carried.under_way.len();
         self.write(answer);
-        while self.under_way.len() > before {
-            let Some(frame) = self.under_way.pop_back() else { break };
-            self.take(&frame)?;
+        while self.carried.under_way.len() > before {
+            let Some(frame) = self.carried.under_way.pop_back() else { break };
+            self.take(frame, &[0])?;
         }
-        self.progress.rounds += 1;
-        self.agreed = NOTHING_DUE;
-        for memory in &self.memories {
-            self.agreed = self.agreed.min(self.calls.agreed_time(memory).hour);
-        }
+        self.carried.progress.rounds += 1;
+        self.carried.progress.agreed = self.least_agreed()?;
         Ok(())
     }
 
+    /// The least agreed time of all gateways.
+    fn least_agreed(&self) -> Result<u32, Stopped> {
+        let mut least = NOTHING_DUE;
+        for (gateway, memory) in self.carried.memories.iter().enumerate() {
+            let AgreedTime { number, hour } = self.calls.agreed_time(memory);
+            if number != 0 {
+                return Err(Stopped::Refused { gateway, call: "the agreed time", number });
+            }
+            least = least.min(hour);
+        }
+        Ok(least)
+    }
+
     fn commit(&mut self, record: &mut impl FnMut(usize, &[u8])) -> Result<(), Stopped> {
-        for gateway in 0..self.memories.len() {
+        for gateway in 0..self.carried.memories.len() {
             loop {
-                let memory = &mut self.memories[gateway];
+                let memory = &mut self.carried.memories[gateway];
                 let answer = self.calls.commit(memory, &mut self.output);
                 self.expect(gateway, "commit", answer, &[0, NOTHING])?;
                 if answer.number == NOTHING {
                     break;
                 }
                 record(gateway, &self.output[..answer.written]);
-                self.progress.committed += 1;
+                self.carried.progress.committed += 1;
             }
         }
         Ok(())
@@ -281,22 +335,27 @@ impl<C: Calls> Forecast<C> {
     /// The places that are lacking where nothing moves any more and something is still due.
     fn wants(&self, work: u32, carry: u32) -> Vec<Want> {
         let mut wants = Vec::new();
-        for (gateway, memory) in self.memories.iter().enumerate() {
+        for (gateway, memory) in self.carried.memories.iter().enumerate() {
             if due(memory, work) > 0 {
                 let places = Places::of(memory);
                 let (outstanding, places) = (true, places.outstanding as u32);
-                wants.push(Want { gateway, outstanding, places, hour: self.agreed });
+                wants.push(Want {
+                    gateway,
+                    outstanding,
+                    places,
+                    hour: self.carried.progress.agreed,
+                });
             }
         }
-        for frame in &self.under_way {
+        for frame in &self.carried.under_way {
             if self.is_held(frame, carry) {
                 continue;
             }
             let gateway = frame.addressee();
-            let places = Places::of(&self.memories[gateway]);
+            let places = Places::of(&self.carried.memories[gateway]);
             let outstanding = places.queue_used < places.queue;
             let places = if outstanding { places.outstanding } else { places.queue } as u32;
-            let want = Want { gateway, outstanding, places, hour: self.agreed };
+            let want = Want { gateway, outstanding, places, hour: self.carried.progress.agreed };
             if !wants.contains(&want) {
                 wants.push(want);
             }
@@ -307,8 +366,8 @@ impl<C: Calls> Forecast<C> {
     /// What a call put out is under way.
     fn write(&mut self, answer: Answer) {
         for frame in frames(&self.output[..answer.written]) {
-            self.under_way.push_back(frame);
-            self.progress.frames += 1;
+            self.carried.under_way.push_back(frame);
+            self.carried.progress.frames += 1;
         }
     }
 

@@ -1,7 +1,23 @@
-//! A host of the executive: reads a scenario, lends the memories, carries the frames and keeps the records.
+//! A host of the executive: reads a scenario, lends the memories, carries the frames, keeps the records, and makes of them what
+//! purchasing, stores and crews read.
 
+mod bytes;
 pub mod carrier;
+pub mod checkpoint;
+pub mod command;
+pub mod digest;
+pub mod directory;
+pub mod figures;
 pub mod frame;
+pub mod history;
+pub mod kept;
+pub mod lamps;
+pub mod page;
+mod picture;
 pub mod places;
+pub mod progress;
+pub mod record;
+pub mod record_files;
 pub mod report;
+pub mod results;
 pub mod scenario;

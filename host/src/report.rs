@@ -1,121 +1,189 @@
-//! What is made of the records: failed, fitted, short and stock by gateway and year, and the drivers to order.
+//! The files that are made of the figures, and the summary that the program forecast prints.
 
-use crate::frame::{recorded, Recorded, DELIVERY, FAILURE, REQUEST};
+use crate::figures::{Figures, Period};
+use crate::lamps::{At, Failure, Lamps, Stage};
 use crate::places::Places;
-use crate::scenario::Scenario;
-use std::fmt::Write;
+use crate::record::lamp_text;
+use std::io::{self, Write};
 
-/// Hours of a year. Year 1 has the hours 0 to 8,760, year 2 those from 8,761 to 17,520, and so on.
-const YEAR: u32 = 8_760;
+/// The most years that the summary shows.
+const SHOWN_YEARS: usize = 20;
 
-/// Counts of a gateway in a year.
-#[derive(Clone, Copy, Debug, Default, PartialEq, Eq)]
-struct Year {
-    failed: u32,
-    fitted: u32,
-    short: u32,
-    /// Stock at the year's end.
-    stock: u16,
-    /// Requests for lamps of this gateway that found a driver on some shelf.
-    served: u32,
+/// A line for each gateway of a period, and one for all together.
+pub fn write_periods(
+    out: &mut impl Write,
+    period: &str,
+    periods: impl Iterator<Item = Period>,
+) -> io::Result<()> {
+    writeln!(out, "{period},gateway,failed,drawn,fitted,restocked,handed_out,on_shelves,on_the_way,short,drivers_to_order")?;
+    for period in periods {
+        for (name, figures) in lines(&period) {
+            let Figures { failed, drawn, fitted, restocked, handed_out, .. } = figures;
+            let Figures { on_shelves, on_the_way, short, .. } = figures;
+            let number = period.number;
+            write!(out, "{number},{name},{failed},{drawn},{fitted},{restocked},{handed_out},")?;
+            writeln!(out, "{on_shelves},{on_the_way},{short},{}", figures.to_order())?;
+        }
+    }
+    Ok(())
 }
 
-/// Follows the records as they are committed.
-pub struct Report {
-    years: usize,
-    /// The state after the last event of each gateway.
-    last: Vec<Recorded>,
-    /// A row for each gateway, a column for each year.
-    counts: Vec<Vec<Year>>,
+/// The drivers to order, a line for each gateway and year and one for all together.
+pub fn write_orders(out: &mut impl Write, years: impl Iterator<Item = Period>) -> io::Result<()> {
+    writeln!(out, "year,gateway,drivers_to_order")?;
+    for year in years {
+        for (name, figures) in lines(&year) {
+            writeln!(out, "{},{name},{}", year.number, figures.to_order())?;
+        }
+    }
+    Ok(())
 }
 
-impl Report {
-    pub fn new(scenario: &Scenario) -> Report {
-        let years = year(scenario.last_hour) + 1;
-        let stocks = scenario.gateways.iter().map(|gateway| gateway.stock);
-        let counts = |stock| vec![Year { stock, ..Year::default() }; years];
-        let last = |stock| Recorded { stock, ..Recorded::default() };
-        Report {
-            years,
-            last: stocks.clone().map(last).collect(),
-            counts: stocks.map(counts).collect(),
-        }
-    }
+/// The lines of a period: each gateway's figures under its number, then those of all.
+fn lines(period: &Period) -> impl Iterator<Item = (String, &Figures)> {
+    let gateways = (0..)
+        .zip(&period.gateways)
+        .map(|(number, figures): (u32, _)| (number.to_string(), figures));
+    gateways.chain(std::iter::once((String::from("all"), &period.all)))
+}
 
-    /// Adds an event that a gateway has committed.
-    pub fn add(&mut self, gateway: usize, record: &[u8]) {
-        let event = recorded(record);
-        let before = std::mem::replace(&mut self.last[gateway], event);
-        let year = year(event.hour);
-        let counts = &mut self.counts[gateway];
-        match event.kind {
-            FAILURE => counts[year].failed += 1,
-            DELIVERY => counts[year].fitted += 1,
-            _ => {}
-        }
-        counts[year].short += event.short - before.short;
-        for later in &mut counts[year..] {
-            later.stock = event.stock;
-        }
-        if event.kind == REQUEST && before.stock > 0 {
-            self.counts[usize::from(event.origin)][year].served += 1;
+/// A line for each failure of each lamp, in lamp order: when it failed, when and from which shelf its driver was drawn, when it was
+/// fitted, and what has become of it at the end.
+pub fn write_lamps(out: &mut impl Write, lamps: &Lamps) -> io::Result<()> {
+    writeln!(out, "lamp,gateway,failed,drawn,shelf,fitted,at_the_end")?;
+    for (pole, failures) in lamps.iter() {
+        let lamp = csv_text(&lamp_text(&pole.lamp));
+        for failure in failures {
+            let Failure { failed, drawn, fitted, .. } = failure;
+            let hour = |at: &Option<At>| number(at.map(|at| at.hour));
+            let (failed, drawn_at, fitted) = (failed.hour, hour(drawn), hour(fitted));
+            let shelf = number(drawn.map(|at| at.gateway.into()));
+            let end = at_the_end(failure.stage());
+            writeln!(out, "{lamp},{},{failed},{drawn_at},{shelf},{fitted},{end}", pole.gateway)?;
         }
     }
+    Ok(())
+}
 
-    /// A line for each gateway and year: what failed, was fitted and was short in the year, and the stock at its end.
-    pub fn years_csv(&self) -> String {
-        let mut text = String::from("gateway,year,failed,fitted,short,stock\n");
-        for (gateway, counts) in self.counts.iter().enumerate() {
-            for (year, counts) in (1..).zip(counts) {
-                let Year { failed, fitted, short, stock, .. } = counts;
-                let _ = writeln!(text, "{gateway},{year},{failed},{fitted},{short},{stock}");
-            }
-        }
-        text
-    }
+/// A number, or nothing.
+fn number(value: Option<u32>) -> String {
+    value.map_or(String::new(), |value| value.to_string())
+}
 
-    /// A line for each gateway and year: how many of its lamps failed by the year's end and found a driver on no shelf.
-    pub fn drivers_csv(&self) -> String {
-        let mut text = String::from("gateway,year,drivers_to_order\n");
-        for (gateway, counts) in self.counts.iter().enumerate() {
-            for (year, missing) in (1..).zip(missing(counts)) {
-                let _ = writeln!(text, "{gateway},{year},{missing}");
-            }
-        }
-        text
+fn at_the_end(stage: Stage) -> &'static str {
+    match stage {
+        Stage::Asked | Stage::Drawn => "on the way",
+        Stage::Short => "short",
+        Stage::Fitted => "fitted",
     }
+}
 
-    /// The drivers to order by the end of each year, all gateways together.
-    pub fn drivers_to_order(&self) -> Vec<u32> {
-        let mut sums = vec![0; self.years];
-        for counts in &self.counts {
-            for (sum, missing) in sums.iter_mut().zip(missing(counts)) {
-                *sum += missing;
-            }
-        }
-        sums
+/// A text as a field of a CSV file: in quotation marks where it has a comma or such a mark in it.
+pub fn csv_text(text: &str) -> String {
+    if text.contains([',', '"']) {
+        return format!("\"{}\"", text.replace('"', "\"\""));
     }
+    text.into()
 }
 
 /// A line for each gateway: its places, and the most of them that were in use.
-pub fn places_csv(places: &[Places]) -> String {
-    let mut text = String::from("gateway,queue,queue_used,outstanding,outstanding_used\n");
+pub fn write_places(out: &mut impl Write, places: &[Places]) -> io::Result<()> {
+    writeln!(out, "gateway,queue,queue_used,outstanding,outstanding_used")?;
     for (gateway, places) in places.iter().enumerate() {
         let Places { queue, queue_used, outstanding, outstanding_used } = places;
-        let _ = writeln!(text, "{gateway},{queue},{queue_used},{outstanding},{outstanding_used}");
+        writeln!(out, "{gateway},{queue},{queue_used},{outstanding},{outstanding_used}")?;
+    }
+    Ok(())
+}
+
+/// The order table: a line for each year, all gateways together.
+pub fn order_table(mut years: impl Iterator<Item = Period>) -> String {
+    let mut rows = vec![ORDER_COLUMNS.map(String::from)];
+    rows.extend(years.by_ref().take(SHOWN_YEARS).map(|year| order_row(&year)));
+    match (rows.len(), years.count()) {
+        (1, _) => "nothing happens\n".into(),
+        (_, 0) => aligned(&rows),
+        (_, more) => {
+            format!("{}and {} more in years.csv\n", aligned(&rows), counted(more as u64, "year"))
+        }
+    }
+}
+
+/// The columns of the order table.
+pub const ORDER_COLUMNS: [&str; 9] = [
+    "year",
+    "failed",
+    "drawn",
+    "fitted",
+    "restocked",
+    "on shelves",
+    "on the way",
+    "short",
+    "drivers to order",
+];
+
+/// The order table's row of a year.
+pub fn order_row(year: &Period) -> [String; 9] {
+    let Figures { failed, drawn, fitted, restocked, on_shelves, on_the_way, short, .. } = year.all;
+    let order = year.all.to_order();
+    [year.number.into(), failed, drawn, fitted, restocked, on_shelves, on_the_way, short, order]
+        .map(grouped)
+}
+
+/// Rows with their columns aligned to the right.
+fn aligned(rows: &[[String; 9]]) -> String {
+    let mut text = String::new();
+    for row in rows {
+        let cells = row.iter().enumerate().map(|(column, cell)| {
+            let width = rows.iter().map(|row| row[column].len()).max().unwrap_or(0);
+            format!("{cell:>width$}")
+        });
+        text += &cells.collect::<Vec<_>>().join("  ");
+        text.push('\n');
     }
     text
 }
 
-/// The year of an hour, counted from 0.
-fn year(hour: u32) -> usize {
-    (hour.saturating_sub(1) / YEAR) as usize
+/// So many of something.
+pub fn counted(number: u64, name: &str) -> String {
+    format!("{} {name}{}", grouped(number), if number == 1 { "" } else { "s" })
 }
 
-/// By the end of each year, the lamps that failed less those that were served.
-fn missing(counts: &[Year]) -> impl Iterator<Item = u32> + '_ {
-    counts.iter().scan(0, |missing, counts| {
-        *missing = *missing + counts.failed - counts.served;
-        Some(*missing)
-    })
+/// A number with a comma before each group of three digits.
+pub fn grouped(number: impl Into<i128>) -> String {
+    let number: i128 = number.into();
+    let digits = number.unsigned_abs().to_string();
+    let mut text = String::from(if number < 0 { "-" } else { "" });
+    for (place, digit) in digits.chars().enumerate() {
+        if place > 0 && (digits.len() - place).is_multiple_of(3) {
+            text.push(',');
+        }
+        text.push(digit);
+    }
+    text
+}
+
+#[cfg(test)]
+mod tests {
+    use super::*;
+
+    #[test]
+    fn numbers_are_grouped() {
+        let texts = [0, 7, -999, 1_000, -12_345, 1_234_567].map(|number: i64| grouped(number));
+        assert_eq!(texts, ["0", "7", "-999", "1,000", "-12,345", "1,234,567"]);
+    }
+
+    #[test]
+    fn one_is_singular() {
+        assert_eq!(
+            [0, 1, 1_000].map(|number| counted(number, "event")),
+            ["0 events", "1 event", "1,000 events"]
+        );
+    }
+
+    #[test]
+    fn a_lamp_with_a_comma_stays_one_field() {
+        assert_eq!(csv_text("L-1"), "L-1");
+        assert_eq!(csv_text("a,b\"c"), "\"a,b\"\"c\"");
+    }
 }

@@ -1,6 +1,6 @@
 //! Scenarios: the gateways of a forecast, their opening events and the last hour, as plain text.
 //!
-//! A line is empty, a comment that begins with `#`, or words with blanks between them:
+//! A line is empty, a comment, whose first character but for blanks is `#`, or words with blanks between them:
 //!
 //! ```text
 //! last-hour HOUR
@@ -11,12 +11,12 @@
 //!
 //! The last hour comes first, once; then the gateways, 0, 1 and so on; then failures and restocks in any order.
 
-use crate::frame;
+use crate::{frame, record};
 use interface::{Opening, MOST_PLACES, NOTHING_DUE};
 use std::fmt;
 
 /// The most gateways of a forecast.
-const MOST_GATEWAYS: usize = 255;
+pub const MOST_GATEWAYS: usize = 255;
 
 /// A gateway and its opening events.
 #[derive(Clone, Debug, PartialEq, Eq)]
@@ -34,6 +34,8 @@ pub struct Gateway {
 
 #[derive(Clone, Debug, PartialEq, Eq)]
 pub struct Scenario {
+    /// Its first line where that is a comment.
+    pub title: Option<String>,
     pub last_hour: u32,
     pub gateways: Vec<Gateway>,
 }
@@ -52,9 +54,10 @@ impl fmt::Display for Bad {
 }
 
 impl Scenario {
-    /// Reads a scenario.
+    /// Reads a scenario. A byte order mark at its beginning is passed over.
     pub fn parse(text: &str) -> Result<Scenario, Bad> {
-        let mut reader = Reader { last_hour: None, gateways: Vec::new() };
+        let text = text.strip_prefix('\u{feff}').unwrap_or(text);
+        let mut reader = Reader { title: title(text), last_hour: None, gateways: Vec::new() };
         let mut last_line = 1;
         for (line, text) in (1..).zip(text.lines()) {
             reader.read(line, text).map_err(|what| Bad { line, what })?;
@@ -79,22 +82,22 @@ impl Scenario {
 }
 
 struct Reader {
+    title: Option<String>,
     last_hour: Option<u32>,
     gateways: Vec<Gateway>,
 }
 
 impl Reader {
     fn read(&mut self, line: usize, text: &str) -> Result<(), String> {
-        if text.starts_with('#') {
-            return Ok(());
-        }
         let words: Vec<&str> = text.split_ascii_whitespace().collect();
         match words[..] {
             [] => Ok(()),
+            [word, ..] if word.starts_with('#') => Ok(()),
             ["last-hour", hour] => self.last_hour(hour),
             ["gateway", number, ref settings @ ..] => self.gateway(line, number, settings),
             ["failure", own, hour, lamp] => self.failure(own, hour, lamp),
             ["restock", own, hour, quantity] => self.restock(own, hour, quantity),
+            ["gateway"] => Err("gateway has no number behind it".into()),
             [word @ ("last-hour" | "failure" | "restock"), ..] => {
                 Err(format!("{word} has {} words behind it, not {}", words.len() - 1, wanted(word)))
             }
@@ -121,31 +124,12 @@ impl Reader {
         if name != next.to_string() {
             return Err(format!("gateway {name} where gateway {next} is next"));
         }
-        let (mut supplier, mut stock) = (None, None);
-        let (mut queue_places, mut outstanding_places) = (MOST_PLACES, MOST_PLACES);
-        for pair in settings.chunks(2) {
-            let [name, value] = *pair else {
-                return Err(format!("no number behind \"{}\"", pair[0]));
-            };
-            match name {
-                "supplier" => supplier = Some(number("a supplier", value, 0, 254)? as u8),
-                "stock" => stock = Some(number("the stock", value, 0, 65_535)? as u16),
-                "queue" => queue_places = number("queue places", value, 1, MOST_PLACES)?,
-                "outstanding" => {
-                    outstanding_places = number("outstanding places", value, 1, MOST_PLACES)?;
-                }
-                _ => {
-                    return Err(format!(
-                    "unknown setting \"{name}\": there are supplier, stock, queue and outstanding"
-                ))
-                }
-            }
-        }
+        let settings = Settings::read(settings)?;
         self.gateways.push(Gateway {
-            supplier: supplier.ok_or("no supplier")?,
-            stock: stock.ok_or("no stock")?,
-            queue_places,
-            outstanding_places,
+            supplier: settings.supplier.ok_or("no supplier")? as u8,
+            stock: settings.stock.ok_or("no stock")? as u16,
+            queue_places: settings.queue.unwrap_or(MOST_PLACES),
+            outstanding_places: settings.outstanding.unwrap_or(MOST_PLACES),
             list: Vec::new(),
             events: 0,
             line,
@@ -155,12 +139,7 @@ impl Reader {
 
     fn failure(&mut self, own: &str, hour: &str, lamp: &str) -> Result<(), String> {
         let (own, hour) = self.place(own, hour)?;
-        let bytes = lamp.bytes().map(|byte| (33..=126).contains(&byte).then_some(byte));
-        let bytes: Option<Vec<u8>> = bytes.collect();
-        let lamp: [u8; 18] = bytes.and_then(|bytes| bytes.try_into().ok()).ok_or_else(|| {
-            format!("a lamp has eighteen characters from ! to ~, \"{lamp}\" has {}", lamp.len())
-        })?;
-        self.enter(own, frame::failure(own, hour, &lamp))
+        self.enter(own, frame::failure(own, hour, &record::lamp(lamp)?))
     }
 
     fn restock(&mut self, own: &str, hour: &str, quantity: &str) -> Result<(), String> {
@@ -210,8 +189,54 @@ impl Reader {
                 return Err(Bad { line: gateway.line, what });
             }
         }
-        Ok(Scenario { last_hour, gateways: self.gateways })
+        Ok(Scenario { title: self.title, last_hour, gateways: self.gateways })
     }
+}
+
+/// What stands in a gateway's line.
+#[derive(Default)]
+struct Settings {
+    supplier: Option<u32>,
+    stock: Option<u32>,
+    queue: Option<u32>,
+    outstanding: Option<u32>,
+}
+
+impl Settings {
+    fn read(words: &[&str]) -> Result<Settings, String> {
+        let mut settings = Settings::default();
+        for pair in words.chunks(2) {
+            let [name, value] = *pair else {
+                return Err(format!("no number behind \"{}\"", pair[0]));
+            };
+            settings.set(name, value)?;
+        }
+        Ok(settings)
+    }
+
+    fn set(&mut self, name: &str, value: &str) -> Result<(), String> {
+        let (setting, what, least, most) = match name {
+            "supplier" => (&mut self.supplier, "a supplier", 0, 254),
+            "stock" => (&mut self.stock, "the stock", 0, 65_535),
+            "queue" => (&mut self.queue, "queue places", 1, MOST_PLACES),
+            "outstanding" => (&mut self.outstanding, "outstanding places", 1, MOST_PLACES),
+            _ => {
+                return Err(format!(
+                    "unknown setting \"{name}\": there are supplier, stock, queue and outstanding"
+                ))
+            }
+        };
+        match setting.replace(number(what, value, least, most)?) {
+            None => Ok(()),
+            Some(_) => Err(format!("a second {name}")),
+        }
+    }
+}
+
+/// The text of the first line where that is a comment.
+fn title(text: &str) -> Option<String> {
+    let comment = text.lines().next()?.trim().strip_prefix('#')?.trim();
+    (!comment.is_empty()).then(|| comment.into())
 }
 
 /// What to set where places are too few.
@@ -232,7 +257,7 @@ fn wanted(word: &str) -> usize {
 }
 
 /// A number in decimal within its range.
-fn number(what: &str, word: &str, least: u32, most: u32) -> Result<u32, String> {
+pub fn number(what: &str, word: &str, least: u32, most: u32) -> Result<u32, String> {
     let digits = !word.is_empty() && word.bytes().all(|byte| byte.is_ascii_digit());
     let value = if digits { word.parse::<u32>().ok() } else { None };
     value
@@ -244,7 +269,8 @@ fn number(what: &str, word: &str, least: u32, most: u32) -> Result<u32, String> 
 mod tests {
     use super::*;
 
-    const GOOD: &str = "# an example\n\nlast-hour 100\ngateway 0 supplier 1 stock 0 queue 4\n\
+    const GOOD: &str =
+        "# an example\n \t# indented\nlast-hour 100\ngateway 0 supplier 1 stock 0 queue 4\n\
                         gateway 1 supplier 1 stock 1\nfailure 0 10 L00000000000000001\n\
                         restock 1 50 7\n";
 
@@ -256,11 +282,13 @@ mod tests {
     fn a_scenario_is_read() {
         let scenario = Scenario::parse(GOOD).unwrap();
         assert_eq!((scenario.last_hour, scenario.gateways.len()), (100, 2));
+        assert_eq!(scenario.title.as_deref(), Some("an example"));
         let opening = scenario.opening(0);
         assert_eq!((opening.supplier, opening.queue_places), (1, 4));
         assert_eq!(opening.outstanding_places, 512);
         assert_eq!(scenario.gateways[0].list, frame::failure(0, 10, b"L00000000000000001"));
         assert_eq!(scenario.gateways[1].list, frame::restock(1, 50, 7));
+        assert_eq!(Scenario::parse(&format!("\u{feff}{GOOD}")), Ok(scenario));
     }
 
     #[test]
@@ -283,6 +311,9 @@ mod tests {
         assert_eq!(with("restock 1 5 65536"), "8: a quantity is 0 to 65535, not \"65536\"");
         assert_eq!(with("gateway 3 supplier 0 stock 0"), "8: gateway 3 where gateway 2 is next");
         assert_eq!(with("gateway 2 supplier 0"), "8: no stock");
+        assert_eq!(with("gateway 2 supplier 0 stock"), "8: no number behind \"stock\"");
+        assert_eq!(with("gateway 2 stock 1 supplier 0 stock 1"), "8: a second stock");
+        assert_eq!(with("gateway"), "8: gateway has no number behind it");
         assert_eq!(with("gateway 2 supplier 3 stock 0"), "8: there is no gateway 3, the supplier");
         assert_eq!(with("last-hour 7"), "8: a second last-hour");
         let many = "restock 0 1 1\n".repeat(4);

@@ -1,15 +1,40 @@
 //! The program arcs in plain Rust, which `bench` measures the proved one beside.
 
+use host::command::{printed, Ending, Program, BAD_FILE};
 use interface::{Calls, NO_NEIGHBOUR};
 use plain::Plain;
 use std::fmt::Write as _;
 use std::io::{self, Read, Write as _};
+use std::process::ExitCode;
 
-fn main() -> io::Result<()> {
+const PROGRAM: Program =
+    Program { name: "plain_arcs", usage: &["<NUMBER"], help: HELP, flags: &[], valued: &[] };
+
+const HELP: &str = "\
+Reads a number of gateways, 1 to 65535, from standard input and prints the arcs between them as the
+proved program arcs does, and 8 alone for any other input.
+
+Status: 0, 2 for a bad usage, 3 if standard input cannot be read or standard output cannot be written.
+
+  echo 22 | plain_arcs
+";
+
+fn main() -> ExitCode {
+    PROGRAM.run(|arguments| {
+        arguments.exactly([])?;
+        let input = input()?;
+        let text = number(&input).map_or_else(|| "8\n".into(), listing);
+        printed(io::stdout().lock().write_all(text.as_bytes()))
+    })
+}
+
+/// Standard input, or as much of it as shows that it is too long.
+fn input() -> Result<Vec<u8>, Ending> {
     let mut input = Vec::new();
-    io::stdin().lock().take(16).read_to_end(&mut input)?;
-    let text = number(&input).map_or_else(|| "8\n".into(), listing);
-    io::stdout().lock().write_all(text.as_bytes())
+    match io::stdin().lock().take(16).read_to_end(&mut input) {
+        Ok(_) => Ok(input),
+        Err(error) => Err(Ending::Failed(BAD_FILE, format!("standard input: {error}"))),
+    }
 }
 
 /// The number of gateways that the input spells.

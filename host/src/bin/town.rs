@@ -4,7 +4,21 @@
 //! which is restocked each month and otherwise asks itself again an hour later. Lamps fail more often in winter. Lamps are numbered
 //! through in a district, so that neighbours are alike in sixteen characters.
 
+use host::command::{printed, Program};
 use std::io::{self, BufWriter, Write};
+use std::process::ExitCode;
+
+const PROGRAM: Program =
+    Program { name: "town", usage: &[""], help: HELP, flags: &[], valued: &[] };
+
+const HELP: &str = "\
+Prints a scenario for the program forecast, the same each time: a town of 18 districts, three area
+stores and a depot, about 10,400 failures in five years.
+
+Status: 0, 2 for a bad usage, 3 if standard output cannot be written.
+
+  town >scenario
+";
 
 const LAST_HOUR: u32 = 43_800;
 const DEPOT: u32 = 21;
@@ -18,9 +32,19 @@ const LAST_RESTOCK: u32 = 110;
 /// Failures of a district, of a store and of the depot.
 const FAILURES: [u32; 3] = [505, 430, 20];
 
-fn main() -> io::Result<()> {
-    let mut out = BufWriter::new(io::stdout().lock());
-    writeln!(out, "# A town: 18 districts, 3 area stores (18 to 20) and a depot (21); made by the program town")?;
+fn main() -> ExitCode {
+    PROGRAM.run(|arguments| {
+        arguments.exactly([])?;
+        printed(print(BufWriter::new(io::stdout().lock())))
+    })
+}
+
+fn print(mut out: impl Write) -> io::Result<()> {
+    writeln!(out, "# A town of 18 districts, 3 area stores and a depot")?;
+    writeln!(
+        out,
+        "# Districts are 0 to 17, area stores 18 to 20, the depot 21. Made by the program town."
+    )?;
     writeln!(out, "last-hour {LAST_HOUR}")?;
     for gateway in 0..=DEPOT {
         let (supplier, stock) = match gateway {
@@ -59,7 +83,7 @@ impl Generator {
         ((self.0 >> 33) % u64::from(limit)) as u32
     }
 
-    /// An hour of the five years; one in the summer half of a year is drawn once more in one of three cases.
+    /// An hour of the five years; of those in the summer half of a year one in six is drawn once more.
     fn failure_hour(&mut self) -> u32 {
         let hour = 1 + self.below(LAST_HOUR);
         let summer = (3 * MONTH..9 * MONTH).contains(&(hour % (12 * MONTH)));

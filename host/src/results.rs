@@ -1,0 +1,52 @@
+//! What is made of the records at the end of a forecast.
+
+use crate::carrier::Carried;
+use crate::directory::Directory;
+use crate::figures::Accounts;
+use crate::history::{BadRecord, History};
+use crate::page::Page;
+use crate::record_files::{name, BadFile};
+use crate::report;
+use crate::scenario::Scenario;
+use std::fs::File;
+use std::io::{BufReader, Write};
+
+/// Reads the records in a directory and writes the results beside them. `stopped` says why the forecast could not go on, if so.
+/// The order table is answered.
+pub fn write(
+    directory: &Directory,
+    scenario: &Scenario,
+    carried: &Carried,
+    stopped: Option<&str>,
+) -> Result<String, BadFile> {
+    let accounts = accounts(directory, scenario)?;
+    let Carried { progress, trace, most, .. } = carried;
+    let page = Page { scenario, accounts: &accounts, progress, trace: &trace.entries, stopped };
+    directory.write("years.csv", |out| report::write_periods(out, "year", accounts.years()))?;
+    directory.write("months.csv", |out| report::write_periods(out, "month", accounts.months()))?;
+    directory.write("drivers.csv", |out| report::write_orders(out, accounts.years()))?;
+    directory.write("lamps.csv", |out| report::write_lamps(out, &accounts.lamps))?;
+    directory.write("places.csv", |out| report::write_places(out, most))?;
+    directory.write("report.html", |out| out.write_all(page.html().as_bytes()))?;
+    directory.sync()?;
+    Ok(report::order_table(accounts.years()))
+}
+
+/// The accounts of the records in a directory.
+fn accounts(directory: &Directory, scenario: &Scenario) -> Result<Accounts, BadFile> {
+    let paths: Vec<_> =
+        (0..scenario.gateways.len()).map(|own| directory.path().join(name(own))).collect();
+    let mut files = Vec::new();
+    for path in &paths {
+        let file = File::open(path).map_err(|error| BadFile::new(path, error))?;
+        files.push(BufReader::new(file));
+    }
+    let bad = |BadRecord { gateway, why }| BadFile::new(&paths[gateway], why);
+    let opening: Vec<u16> = scenario.gateways.iter().map(|gateway| gateway.stock).collect();
+    let mut accounts = Accounts::new(&opening);
+    let mut history = History::new(files).map_err(bad)?;
+    while let Some((gateway, record)) = history.read().map_err(bad)? {
+        accounts.add(gateway, &record).map_err(|why| BadFile::new(&paths[gateway], why))?;
+    }
+    Ok(accounts)
+}

@@ -1,0 +1,143 @@
+//! The carrier over the proved library: forecasts that end, one that cannot go on, and calls that answer what they never should.
+
+use host::carrier::{Forecast, Progress, Stopped, Want};
+use host::record::{Kind, Record, Records, State};
+use host::scenario::Scenario;
+use interface::{AgreedTime, Answer, Calls, Opening};
+use library::Library;
+
+/// Runs a scenario: how it ended, and each gateway's events.
+fn run(text: &str) -> (Result<Progress, Stopped>, Vec<Vec<Record>>) {
+    let scenario = Scenario::parse(text).unwrap();
+    let mut records = vec![Vec::new(); scenario.gateways.len()];
+    let mut forecast = Forecast::new(Library, &scenario).unwrap();
+    let end = forecast.run(|gateway, bytes| {
+        records[gateway].extend(Records::new(bytes).map(Result::unwrap));
+    });
+    (end, records)
+}
+
+#[test]
+fn the_last_example_of_document_01() {
+    let (end, records) = run(include_str!("../../examples/two/scenario"));
+    assert_eq!(end.unwrap().committed, 94);
+    assert_eq!((records[0].len(), records[1].len()), (3, 91));
+    assert_eq!(records[1][90].after.short, 90);
+    let Record { event, after } = records[0][2];
+    assert_eq!((event.kind, event.hour, &event.lamp), (Kind::Delivery, 35, b"L00000000000000001"));
+    assert_eq!(after, State { stock: 0, failed: 2, fitted: 1, short: 0 });
+}
+
+/// Two Failures at one hour fill the queue, and the Request of the first to the gateway itself finds no place.
+#[test]
+fn too_few_places_are_named() {
+    let places = |queue, outstanding| {
+        format!(
+            "last-hour 5\ngateway 0 supplier 0 stock 0 queue {queue} outstanding {outstanding}\n\
+             failure 0 1 L00000000000000001\nfailure 0 1 L00000000000000002\n"
+        )
+    };
+    let (end, records) = run(&places(2, 1));
+    let Err(Stopped::WantOfPlaces(wants)) = &end else { panic!("{end:?}") };
+    assert!(wants.contains(&Want { gateway: 0, outstanding: false, places: 2, hour: 1 }));
+    assert!(end.unwrap_err().to_string().contains("set `queue 4` in its line of the scenario"));
+    assert_eq!(records[0].len(), 0);
+
+    let (end, records) = run(&places(4, 2));
+    assert_eq!(end.unwrap().committed, 10);
+    assert_eq!(records[0].len(), 10);
+}
+
+/// Few places make the windows short, and the forecast still ends.
+#[test]
+fn a_window_in_which_places_run_out_is_taken_back() {
+    let mut text = String::from("last-hour 300\ngateway 0 supplier 1 stock 0\n");
+    text += "gateway 1 supplier 1 stock 2 queue 14 outstanding 14\n";
+    for number in 0..12 {
+        text += &format!("failure 0 {} L{number:017}\n", 10 * number);
+    }
+    text += "restock 1 280 5\n";
+    let (end, records) = run(&text);
+    let progress = end.unwrap();
+    assert!(progress.taken_back > 0, "{progress:?}");
+    assert_eq!(progress.committed as usize, records[0].len() + records[1].len());
+}
+
+/// A forecast of many rounds keeps a trace of bounded length, evenly spread, with its beginning.
+#[test]
+fn the_trace_is_thinned() {
+    let mut text = String::from("last-hour 400000\ngateway 0 supplier 0 stock 65535\n");
+    for number in 0..500 {
+        text += &format!("failure 0 {} L{number:017}\n", 77 * number);
+    }
+    let scenario = Scenario::parse(&text).unwrap();
+    let mut forecast = Forecast::new(Library, &scenario).unwrap();
+    let progress = forecast.run(|_, _| ()).unwrap();
+    let trace = &forecast.carried().trace;
+    assert!(progress.rounds > 4_096 && trace.entries.len() <= 2_048, "{progress:?}");
+    let rounds: Vec<u64> = trace.entries.iter().map(|entry| entry.rounds).collect();
+    let expected: Vec<u64> = (0..=progress.rounds).step_by(trace.every as usize).collect();
+    assert_eq!(rounds, expected);
+}
+
+/// The proved library, but that a call of the first completed round answers something else.
+struct Failing {
+    /// Answered to frames of a round.
+    frame: u32,
+    /// Answered for the agreed time.
+    agreed_time: u32,
+}
+
+impl Calls for Failing {
+    fn route(&self, gateways: u32, own: u32, neighbours: &mut [u16]) -> u32 {
+        Library.route(gateways, own, neighbours)
+    }
+
+    fn set_up(&self, memory: &mut [u8], list: &[u8], opening: &Opening) -> u32 {
+        Library.set_up(memory, list, opening)
+    }
+
+    fn work(&self, memory: &mut [u8], output: &mut [u8], budget: u32) -> Answer {
+        Library.work(memory, output, budget)
+    }
+
+    fn take(&self, memory: &mut [u8], frame: &[u8], output: &mut [u8]) -> Answer {
+        if frame.len() <= 8 && self.frame != 0 {
+            return Answer { number: self.frame, ..Answer::default() };
+        }
+        Library.take(memory, frame, output)
+    }
+
+    fn start(&self, memory: &mut [u8], output: &mut [u8]) -> Answer {
+        Library.start(memory, output)
+    }
+
+    fn commit(&self, memory: &mut [u8], output: &mut [u8]) -> Answer {
+        Library.commit(memory, output)
+    }
+
+    fn agreed_time(&self, memory: &[u8]) -> AgreedTime {
+        match self.agreed_time {
+            0 => Library.agreed_time(memory),
+            number => AgreedTime { number, hour: 0 },
+        }
+    }
+}
+
+/// A round stops the forecast at any answer that it does not expect, and its frame is not lost.
+#[test]
+fn a_round_looks_at_every_answer() {
+    let scenario = Scenario::parse(include_str!("../../examples/two/scenario")).unwrap();
+    for number in [1, 4, 5, 10] {
+        let calls = Failing { frame: number, agreed_time: 0 };
+        let mut forecast = Forecast::new(calls, &scenario).unwrap();
+        let expected = Stopped::Refused { gateway: 1, call: "a frame", number };
+        assert_eq!(forecast.run(|_, _| ()), Err(expected));
+        let under_way = &forecast.carried().under_way;
+        assert!(under_way.iter().any(|frame| frame.bytes() == [7, 4, 0, 1]), "{under_way:?}");
+    }
+    let calls = Failing { frame: 0, agreed_time: 10 };
+    let mut forecast = Forecast::new(calls, &scenario).unwrap();
+    let expected = Stopped::Refused { gateway: 0, call: "the agreed time", number: 10 };
+    assert_eq!(forecast.run(|_, _| ()), Err(expected));
+}

@@ -1,0 +1,242 @@
+//! The programs record and town: what they print and how they end.
+
+mod common;
+
+use common::{check_bad_usage, check_help_and_version, run, run_on, run_unread, scratch, Ended};
+use host::frame::{failure, restock, DELIVERY, REQUEST};
+use host::scenario::Scenario;
+use std::fs;
+use std::path::Path;
+
+const RECORD: &str = env!("CARGO_BIN_EXE_record");
+const TOWN: &str = env!("CARGO_BIN_EXE_town");
+
+type Lamp = [u8; 18];
+
+const LAMP: &Lamp = b"L00000000000000001";
+const ODD_LAMP: &Lamp = b"A,\"00000000000000~";
+
+/// Where the events of the small record begin, and its length.
+const PLACES: [usize; 5] = [0, 41, 82, 123, 147];
+
+/// An event and a state after it.
+fn recorded(frame: Vec<u8>, stock: u16, [failed, fitted, short]: [u32; 3]) -> Vec<u8> {
+    let counters = [failed, fitted, short].map(u32::to_be_bytes).concat();
+    [frame, stock.to_be_bytes().into(), counters].concat()
+}
+
+/// The frame of a message that is no Failure.
+fn message(kind: u8, from: u8, to: u8, hour: u32, origin: u8, lamp: &Lamp) -> Vec<u8> {
+    let mut frame = failure(origin, hour, lamp);
+    frame[1..4].copy_from_slice(&[kind, from, to]);
+    frame
+}
+
+/// A record with an event of each kind.
+fn small() -> Vec<u8> {
+    [
+        recorded(failure(3, 10, LAMP), 258, [1, 0, 0]),
+        recorded(message(REQUEST, 4, 3, 11, 5, ODD_LAMP), 257, [1, 0, 0]),
+        recorded(message(DELIVERY, 4, 3, 20, 3, LAMP), 257, [1, 1, 0]),
+        recorded(restock(3, u32::MAX - 1, 65_535), 65_535, [u32::MAX; 3]),
+    ]
+    .concat()
+}
+
+const TABLE: &str = "      \
+      hour      kind  from   to  origin                lamp  quantity  stock      failed      fitted       short
+        10   Failure     3    3       3  L00000000000000001              258           1           0           0
+        11   Request     4    3       5  A,\"00000000000000~              257           1           0           0
+        20  Delivery     4    3       3  L00000000000000001              257           1           1           0
+4294967294   Restock     3    3                                 65535  65535  4294967295  4294967295  4294967295
+";
+
+const CSV: &str = "\
+hour,kind,from,to,origin,lamp,quantity,stock,failed,fitted,short
+10,Failure,3,3,3,L00000000000000001,,258,1,0,0
+11,Request,4,3,5,\"A,\"\"00000000000000~\",,257,1,0,0
+20,Delivery,4,3,3,L00000000000000001,,257,1,1,0
+4294967294,Restock,3,3,,,65535,65535,4294967295,4294967295,4294967295
+";
+
+/// These lines of a text.
+fn lines(text: &str, numbers: &[usize]) -> String {
+    let lines: Vec<&str> = text.split_inclusive('\n').collect();
+    numbers.iter().map(|&number| lines[number]).collect()
+}
+
+/// What is printed for the small record with these words before it; it must end well.
+fn picked(words: &[&str]) -> String {
+    run_on(RECORD, &[words, &["-"]].concat(), &small()).good()
+}
+
+/// The name of a file with these bytes.
+fn file(directory: &Path, name: &str, bytes: &[u8]) -> String {
+    let path = directory.join(name);
+    fs::write(&path, bytes).unwrap();
+    path.to_str().unwrap().into()
+}
+
+#[test]
+fn help_and_version_are_printed() {
+    check_help_and_version(RECORD, "record");
+    check_help_and_version(TOWN, "town");
+}
+
+#[test]
+fn a_bad_usage_is_named() {
+    let bad = |words: &[&str], what: &str| check_bad_usage(RECORD, words, what);
+    bad(&[], "FILE is missing");
+    bad(&["--csv"], "FILE is missing");
+    bad(&["-", "--lamp"], "--lamp has no value behind it");
+    bad(&["-", "--csv=yes"], "--csv takes no value");
+    bad(
+        &["-", "--lamp", "L1"],
+        "--lamp names no lamp: a lamp has eighteen characters from ! to ~, \"L1\" has 2",
+    );
+    bad(
+        &["-", "--lamp", "L 0000000000000001"],
+        "--lamp names no lamp: a lamp has eighteen characters from ! to ~, \"L 0000000000000001\" has ' '",
+    );
+    bad(&["-", "--hours", "-"], "--hours - has neither a first nor a last hour");
+    bad(&["-", "--hours", "20-10"], "--hours 20-10: the first hour is behind the last");
+    for (hours, word) in
+        [("x", "x"), ("10-+20", "+20"), ("1-2-3", "2-3"), ("4294967295-", "4294967295")]
+    {
+        bad(
+            &["-", "--hours", hours],
+            &format!("--hours {hours}: an hour is 0 to 4294967294, not \"{word}\""),
+        );
+    }
+    bad(&["-", "--kind", "x"], "--kind is Failure, Request, Delivery or Restock, not \"x\"");
+    check_bad_usage(TOWN, &["x"], "\"x\" is one word too many");
+}
+
+#[test]
+fn a_record_is_a_table_or_csv() {
+    assert_eq!(picked(&[]), TABLE);
+    assert_eq!(picked(&["--csv"]), CSV);
+    let name = file(&scratch("record-table"), "record", &small());
+    assert_eq!(run(RECORD, &[name]).good(), TABLE);
+    assert_eq!(run(RECORD, &["-"]).good(), lines(TABLE, &[0]));
+}
+
+#[test]
+fn events_are_picked() {
+    let check = |words: &[&str], numbers: &[usize]| {
+        assert_eq!(picked(words), lines(TABLE, numbers), "{words:?}");
+        assert_eq!(picked(&[words, &["--csv"]].concat()), lines(CSV, numbers), "{words:?}");
+    };
+    let [lamp, odd] = [LAMP, ODD_LAMP].map(|lamp| std::str::from_utf8(lamp).unwrap());
+    check(&["--lamp", lamp], &[0, 1, 3]);
+    check(&["--lamp", odd], &[0, 2]);
+    check(&["--lamp", odd, "--lamp", lamp], &[0, 1, 2, 3]);
+    check(&["--lamp", "L00000000000000002"], &[0]);
+    check(&["--hours", "10-11"], &[0, 1, 2]);
+    check(&["--hours", "11"], &[0, 2]);
+    check(&["--hours", "11-"], &[0, 2, 3, 4]);
+    check(&["--hours", "-11"], &[0, 1, 2]);
+    check(&["--hours=12-19"], &[0]);
+    check(&["--hours", "10", "--hours", "20-"], &[0, 1, 3, 4]);
+    check(&["--kind", "failure"], &[0, 1]);
+    check(&["--kind", "Request", "--kind", "RESTOCK"], &[0, 2, 4]);
+    check(&["--lamp", lamp, "--kind", "delivery", "--hours", "0-20"], &[0, 3]);
+    check(&["--lamp", lamp, "--kind", "restock"], &[0]);
+}
+
+#[test]
+fn several_files_are_named() {
+    let directory = scratch("record-several");
+    let one = file(&directory, "one", &small());
+    let output = run_on(RECORD, &[&one, "-"], &small()).good();
+    assert_eq!(output, format!("{one}\n{TABLE}\nstandard input\n{TABLE}"));
+
+    let none = file(&directory, "none", &[]);
+    let restocks = run(RECORD, &["--kind", "restock", &none, &one, &none, &one]).good();
+    let table = format!("{one}\n{}", lines(TABLE, &[0, 4]));
+    assert_eq!(restocks, format!("{table}\n{table}"));
+
+    let other = file(&directory, "a,b", &small());
+    let output = run(RECORD, &["--csv", "--kind=restock", &one, &other]).good();
+    let (head, line) = (lines(CSV, &[0]), lines(CSV, &[4]));
+    assert_eq!(output, format!("file,{head}{one},{line}\"{other}\",{line}"));
+}
+
+#[test]
+fn a_record_may_be_cut_anywhere() {
+    let whole = small();
+    for length in 0..=whole.len() {
+        let Ended { status, output, error } = run_on(RECORD, &["--csv", "-"], &whole[..length]);
+        let events = PLACES.iter().filter(|&&place| 0 < place && place <= length).count();
+        let printed: Vec<usize> = (0..=events).collect();
+        assert_eq!(output, lines(CSV, &printed), "{length}");
+        if length == PLACES[events] {
+            assert_eq!((status, error.as_str()), (Some(0), ""), "{length}");
+        } else {
+            let begin = format!("standard input: no record at byte {}: 1, cut: ", PLACES[events]);
+            assert_eq!(status, Some(1), "{length}");
+            assert!(error.starts_with(&begin) && error.lines().count() == 1, "{length}: {error}");
+        }
+    }
+}
+
+#[test]
+fn a_damaged_byte_is_found_whatever_is_picked() {
+    let damaged = |place: usize, byte: u8| {
+        let mut bytes = small();
+        bytes[place] = byte;
+        let Ended { status, output, error } = run_on(RECORD, &["--kind", "failure", "-"], &bytes);
+        assert_eq!((status, output), (Some(1), lines(TABLE, &[0, 1])));
+        error
+    };
+    let begin = "standard input: no record at byte";
+    assert_eq!(
+        damaged(PLACES[2] + 1, 7),
+        format!("{begin} 82: 1, map 63 with kind 7 is no plain event\n")
+    );
+    assert_eq!(
+        damaged(PLACES[2] + 26, 200),
+        format!("{begin} 82: 1, byte 200 in a lamp, whose characters are 33 to 126\n")
+    );
+    assert_eq!(damaged(PLACES[2] + 7, 9), format!("{begin} 82: 1, not in event order\n"));
+    assert_eq!(damaged(PLACES[1] + 2, 255), format!("{begin} 41: 2, gateway 255\n"));
+    assert_eq!(damaged(PLACES[3] + 7, 255), format!("{begin} 123: 3, hour 4294967295\n"));
+}
+
+#[test]
+fn the_next_file_follows_a_bad_one() {
+    let directory = scratch("record-bad");
+    let cut = file(&directory, "cut", &small()[..100]);
+    let whole = file(&directory, "whole", &small());
+    let missing = directory.join("missing").to_str().unwrap().to_string();
+    let no_record = format!("{cut}: no record at byte 82: 1, cut: 18 of a frame's 27 bytes\n");
+    let half = lines(TABLE, &[0, 1, 2]);
+
+    let tables = format!("{cut}\n{half}\n{whole}\n{TABLE}");
+    assert_eq!(run(RECORD, &[&cut, &whole]), Ended::with(1, &tables, &no_record));
+
+    let Ended { status, output, error } = run(RECORD, &[&missing, &cut, &whole]);
+    assert_eq!((status, output), (Some(3), tables));
+    assert!(error.starts_with(&format!("{missing}: ")) && error.ends_with(&no_record), "{error}");
+
+    let Ended { status, output, error } = run(RECORD, &[directory.to_str().unwrap(), &cut]);
+    assert_eq!(status, Some(3));
+    assert!(output.ends_with(&half) && error.ends_with(&no_record), "{error}");
+}
+
+#[test]
+fn nobody_need_read_what_is_printed() {
+    let many: Vec<u8> =
+        (0..5_000).flat_map(|hour| recorded(failure(3, hour, LAMP), 0, [hour, 0, hour])).collect();
+    let name = file(&scratch("record-unread"), "record", &many);
+    assert_eq!(run_unread(RECORD, &[&name], b"").good(), "");
+    assert_eq!(run_unread(RECORD, &["--csv", &name, &name], b"").good(), "");
+    assert_eq!(run_unread(RECORD, &["-"], &small()[..100]).good(), "");
+    assert_eq!(run_unread(TOWN, &[""; 0], b"").good(), "");
+}
+
+#[test]
+fn the_town_is_a_scenario() {
+    let town = Scenario::parse(&run(TOWN, &[""; 0]).good()).unwrap();
+    assert_eq!((town.gateways.len(), town.last_hour), (22, 43_800));
+}
