@@ -7,7 +7,7 @@ mod rounds;
 mod situations;
 
 use host::carrier::{Forecast, Stopped};
-use host::command::{input_text, printed, shown, Arguments, Ending, Program, BAD_FILE};
+use host::command::{printed, shown, Arguments, Ending, Program, BAD_FILE};
 use host::scenario::Scenario;
 use interface::{Calls, MOST_PLACES};
 use library::Library;
@@ -179,12 +179,8 @@ struct Town {
 
 impl Town {
     fn read(name: &OsStr) -> Result<Town, Ending> {
-        let text = input_text(name)?;
-        let name = shown(name);
-        match Scenario::parse(&text) {
-            Ok(scenario) => Ok(Town { name, scenario }),
-            Err(bad) => Err(Ending::Failed(BAD_FILE, format!("{name}:{bad}"))),
-        }
+        let (_, scenario) = Scenario::input(name)?;
+        Ok(Town { name: shown(name), scenario })
     }
 
     fn times(&self) -> Result<Times, Ending> {

@@ -50,7 +50,7 @@ impl Directory {
 
     /// Whether there is a forecast in it that has not ended.
     pub fn has_copy(&self) -> bool {
-        self.path.join(COPY).exists()
+        self.copy_path().exists()
     }
 
     /// Whether there is one that has.

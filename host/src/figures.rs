@@ -34,14 +34,14 @@ pub struct Figures {
     pub on_the_way: i64,
     /// Its failed lamps whose Request last met an empty shelf.
     pub short: i64,
-    /// By how much `short` rose in the period.
-    pub shorter: i64,
+    /// How many those were at the end of the period before.
+    pub short_before: i64,
 }
 
 impl Figures {
     /// What left the shelves or was asked of empty ones, less what came in.
     pub fn to_order(&self) -> i64 {
-        self.drawn - self.restocked + self.shorter
+        self.drawn - self.restocked + self.short - self.short_before
     }
 
     /// Adds what happened in a period, and what it changed of what stands at its end.
@@ -54,13 +54,13 @@ impl Figures {
         self.on_shelves += change.on_shelves;
         self.on_the_way += change.on_the_way;
         self.short += change.short;
-        self.shorter += change.shorter;
+        self.short_before += change.short_before;
     }
 
     /// What stands at the end of a period is there at the next one's beginning, when nothing has happened in it yet.
     fn begin(&self) -> Figures {
         let Figures { on_shelves, on_the_way, short, .. } = *self;
-        Figures { on_shelves, on_the_way, short, ..Figures::default() }
+        Figures { on_shelves, on_the_way, short, short_before: short, ..Figures::default() }
     }
 }
 
@@ -104,10 +104,10 @@ pub struct Accounts {
 
 impl Accounts {
     /// Before the first event, with each gateway's opening stock.
-    pub fn new(opening: &[u16]) -> Accounts {
+    pub fn new(opening: Vec<u16>) -> Accounts {
         Accounts {
-            opening: opening.to_vec(),
-            stock: opening.to_vec(),
+            stock: opening.clone(),
+            opening,
             lamps: Lamps::default(),
             last_hour: 0,
             weeks: Changes::new(WEEK),
@@ -141,6 +141,11 @@ impl Accounts {
         for changes in [&mut self.weeks, &mut self.months, &mut self.years] {
             changes.add(hour, gateway, change);
         }
+    }
+
+    /// Each gateway's opening stock.
+    pub fn opening(&self) -> &[u16] {
+        &self.opening
     }
 
     /// The hour of the last event.
@@ -188,7 +193,6 @@ fn passed(was: Option<Stage>, is: Stage) -> Figures {
             Stage::Fitted => {}
         }
     }
-    change.shorter = change.short;
     change.failed = was.is_none().into();
     change.drawn = (is == Stage::Drawn).into();
     change.fitted = (is == Stage::Fitted).into();

@@ -9,6 +9,7 @@ pub mod digest;
 pub mod directory;
 pub mod figures;
 pub mod frame;
+pub mod generator;
 pub mod history;
 pub mod kept;
 pub mod lamps;

@@ -12,7 +12,7 @@ mod weeks;
 use crate::carrier::Progress;
 use crate::figures::{Accounts, Figures, Period};
 use crate::picture::{escaped, Picture};
-use crate::report::{grouped, order_row, ORDER_COLUMNS};
+use crate::report::{counted, grouped, order_row, ORDER_COLUMNS};
 use crate::scenario::Scenario;
 use std::iter;
 use weeks::Weeks;
@@ -67,9 +67,7 @@ impl Page<'_> {
             Some(title) => format!("Spares forecast: {}", escaped(title)),
             None => "Spares forecast".into(),
         };
-        let gateways = self.scenario.gateways.len();
-        let gateways =
-            if gateways == 1 { "1 gateway".into() } else { format!("{gateways} gateways") };
+        let gateways = counted(self.scenario.gateways.len() as u64, "gateway");
         let last_hour = grouped(self.scenario.last_hour);
         let notice = self.notice();
         let sections = [self.orders(), self.shelves(), self.months(), self.rounds()].concat();
@@ -112,9 +110,7 @@ impl Page<'_> {
     }
 
     fn shelves(&self) -> String {
-        let opening: Vec<u16> =
-            self.scenario.gateways.iter().map(|gateway| gateway.stock).collect();
-        let weeks = Weeks::of(self.accounts, &opening);
+        let weeks = Weeks::of(self.accounts);
         section(&weeks.shelf_picture(), &weeks.shelf_caption(), &weeks.each_shelf())
     }
 
@@ -200,7 +196,7 @@ fn more_years(count: usize, shown: usize) -> String {
     if count <= shown {
         return String::new();
     }
-    format!("<p>And {} years more in years.csv.</p>\n", grouped((count - shown) as u64))
+    format!("<p>And {} more in years.csv.</p>\n", counted((count - shown) as u64, "year"))
 }
 
 /// A picture under its title, with a caption, and what else belongs to its section.
@@ -248,8 +244,7 @@ mod tests {
 
     impl Told {
         fn new(scenario: &Scenario) -> Told {
-            let stock: Vec<u16> = scenario.gateways.iter().map(|gateway| gateway.stock).collect();
-            Told { accounts: Accounts::new(&stock), stock }
+            Told { accounts: Accounts::new(scenario.stocks()), stock: scenario.stocks() }
         }
 
         fn add(&mut self, event: Event) {

@@ -2,7 +2,7 @@
 
 use crate::bytes::{half, word};
 use crate::frame::{
-    length, DELIVERY, FAILURE, LAMP_LENGTH, PLAIN_EVENT, PLAIN_RESTOCK, REQUEST, RESTOCK,
+    length, DELIVERY, FAILURE, LAMP_LENGTH, LONGEST, PLAIN_EVENT, PLAIN_RESTOCK, REQUEST, RESTOCK,
 };
 use interface::NOTHING_DUE;
 use std::fmt;
@@ -96,6 +96,7 @@ impl fmt::Display for Unreadable {
 /// Reads a record event by event. Nothing comes behind the first that cannot be read.
 pub struct Records<R> {
     input: R,
+    /// Where the next event begins.
     place: u64,
     last: Option<Event>,
     over: bool,
@@ -106,20 +107,13 @@ impl<R: Read> Records<R> {
         Records { input, place: 0, last: None, over: false }
     }
 
-    /// Where the next event begins.
-    pub fn place(&self) -> u64 {
-        self.place
-    }
-
     fn read(&mut self) -> Result<Option<Record>, Unreadable> {
-        let mut bytes = [0; crate::frame::LONGEST + STATE_LENGTH];
-        let begin = self.fill(&mut bytes[..2])?;
-        if begin == 0 {
+        let mut bytes = [0; LONGEST + STATE_LENGTH];
+        if self.fill(&mut bytes[..1])? == 0 {
             return Ok(None);
         }
-        let whole = if begin < 2 { 2 } else { length(bytes[0]) + STATE_LENGTH };
-        let whole = whole.clamp(2, bytes.len());
-        let found = begin + self.fill(&mut bytes[begin..whole])?;
+        let whole = (length(bytes[0]) + STATE_LENGTH).min(bytes.len());
+        let found = 1 + self.fill(&mut bytes[1..whole])?;
         let record = parsed(&bytes[..found]).and_then(|record| match self.last {
             Some(last) if record.event < last => Err((FORM, "not in event order".into())),
             _ => Ok(record),
@@ -211,10 +205,8 @@ fn event(kind: Kind, frame: &[u8]) -> Result<Event, (u32, String)> {
         Kind::Restock => from == to,
     };
     if !agree {
-        return Err((
-            FORM,
-            format!("gateways that no {kind} has: from {from} to {to}, origin {origin}"),
-        ));
+        let of_lamp = if kind == Kind::Restock { "".into() } else { format!(", origin {origin}") };
+        return Err((FORM, format!("gateways that no {kind} has: from {from} to {to}{of_lamp}")));
     }
     if [from, to, origin].contains(&NO_GATEWAY) {
         return Err((GATEWAY, "gateway 255".into()));

@@ -1,7 +1,7 @@
 //! What is made of the records at the end of a forecast.
 
 use crate::carrier::Carried;
-use crate::directory::Directory;
+use crate::directory::{Directory, RESULTS};
 use crate::figures::Accounts;
 use crate::history::{BadRecord, History};
 use crate::page::Page;
@@ -22,12 +22,13 @@ pub fn write(
     let accounts = accounts(directory, scenario)?;
     let Carried { progress, trace, most, .. } = carried;
     let page = Page { scenario, accounts: &accounts, progress, trace: &trace.entries, stopped };
-    directory.write("years.csv", |out| report::write_periods(out, "year", accounts.years()))?;
-    directory.write("months.csv", |out| report::write_periods(out, "month", accounts.months()))?;
-    directory.write("drivers.csv", |out| report::write_orders(out, accounts.years()))?;
-    directory.write("lamps.csv", |out| report::write_lamps(out, &accounts.lamps))?;
-    directory.write("places.csv", |out| report::write_places(out, most))?;
-    directory.write("report.html", |out| out.write_all(page.html().as_bytes()))?;
+    let [page_file, years, months, drivers, lamps, places] = RESULTS;
+    directory.write(years, |out| report::write_periods(out, "year", accounts.years()))?;
+    directory.write(months, |out| report::write_periods(out, "month", accounts.months()))?;
+    directory.write(drivers, |out| report::write_orders(out, accounts.years()))?;
+    directory.write(lamps, |out| report::write_lamps(out, &accounts.lamps))?;
+    directory.write(places, |out| report::write_places(out, most))?;
+    directory.write(page_file, |out| out.write_all(page.html().as_bytes()))?;
     directory.sync()?;
     Ok(report::order_table(accounts.years()))
 }
@@ -42,8 +43,7 @@ fn accounts(directory: &Directory, scenario: &Scenario) -> Result<Accounts, BadF
         files.push(BufReader::new(file));
     }
     let bad = |BadRecord { gateway, why }| BadFile::new(&paths[gateway], why);
-    let opening: Vec<u16> = scenario.gateways.iter().map(|gateway| gateway.stock).collect();
-    let mut accounts = Accounts::new(&opening);
+    let mut accounts = Accounts::new(scenario.stocks());
     let mut history = History::new(files).map_err(bad)?;
     while let Some((gateway, record)) = history.read().map_err(bad)? {
         accounts.add(gateway, &record).map_err(|why| BadFile::new(&paths[gateway], why))?;

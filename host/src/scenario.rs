@@ -11,8 +11,10 @@
 //!
 //! The last hour comes first, once; then the gateways, 0, 1 and so on; then failures and restocks in any order.
 
+use crate::command::{input_text, shown, Ending, BAD_FILE};
 use crate::{frame, record};
 use interface::{Opening, MOST_PLACES, NOTHING_DUE};
+use std::ffi::OsStr;
 use std::fmt;
 
 /// The most gateways of a forecast.
@@ -64,6 +66,20 @@ impl Scenario {
             last_line = line;
         }
         reader.finish(last_line)
+    }
+
+    /// Reads the scenario in a file of this name, or on standard input for `-`: its text, and what it says.
+    pub fn input(name: &OsStr) -> Result<(String, Scenario), Ending> {
+        let text = input_text(name)?;
+        match Scenario::parse(&text) {
+            Ok(scenario) => Ok((text, scenario)),
+            Err(bad) => Err(Ending::Failed(BAD_FILE, format!("{}:{bad}", shown(name)))),
+        }
+    }
+
+    /// Each gateway's opening stock.
+    pub fn stocks(&self) -> Vec<u16> {
+        self.gateways.iter().map(|gateway| gateway.stock).collect()
     }
 
     /// The settings that gateway `own` is set up with.

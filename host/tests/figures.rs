@@ -2,6 +2,7 @@
 
 use host::carrier::Forecast;
 use host::figures::{Accounts, Figures, Period, MONTH, WEEK, YEAR};
+use host::generator::Generator;
 use host::history::History;
 use host::lamps::Stage;
 use host::record::{Kind, Record, Records};
@@ -22,8 +23,7 @@ impl Whole {
         let mut records = vec![Vec::new(); scenario.gateways.len()];
         let mut forecast = Forecast::new(Library, &scenario).unwrap();
         forecast.run(|gateway, bytes| records[gateway].extend(bytes)).unwrap();
-        let opening: Vec<u16> = scenario.gateways.iter().map(|gateway| gateway.stock).collect();
-        let mut accounts = Accounts::new(&opening);
+        let mut accounts = Accounts::new(scenario.stocks());
         let mut history = History::new(records.iter().map(Vec::as_slice)).unwrap();
         while let Some((gateway, record)) = history.read().unwrap() {
             accounts.add(gateway, &record).unwrap();
@@ -37,22 +37,16 @@ impl Whole {
 
     /// Holds the periods of a length to add up and to be those of the count.
     fn check(&self, hours: u32, periods: Vec<Period>) {
-        let opening = |gateway: &host::scenario::Gateway| Figures {
-            on_shelves: gateway.stock.into(),
-            ..Figures::default()
-        };
-        let mut before: Vec<Figures> = self.scenario.gateways.iter().map(opening).collect();
+        let opening = |stock: u16| Figures { on_shelves: stock.into(), ..Figures::default() };
+        let mut before: Vec<Figures> = self.scenario.stocks().into_iter().map(opening).collect();
         for period in periods {
             let end = period.number.saturating_mul(hours).min(self.scenario.last_hour);
-            let mut sum = Figures::default();
             for (gateway, figures) in period.gateways.iter().enumerate() {
                 check_gateway(&before[gateway], figures);
                 let counted = self.counted(gateway, hours, period.number, end);
                 assert_eq!(shown(figures), counted, "gateway {gateway}, period {period:?}");
-                sum = added(&sum, figures);
             }
-            assert_eq!(sum, period.all);
-            assert_eq!(period.all.drawn, period.all.handed_out);
+            check_all(&period);
             before = period.gateways;
         }
     }
@@ -119,18 +113,14 @@ fn check_gateway(before: &Figures, figures: &Figures) {
     assert_eq!(figures.to_order(), order);
 }
 
-fn added(one: &Figures, other: &Figures) -> Figures {
-    Figures {
-        failed: one.failed + other.failed,
-        drawn: one.drawn + other.drawn,
-        fitted: one.fitted + other.fitted,
-        restocked: one.restocked + other.restocked,
-        handed_out: one.handed_out + other.handed_out,
-        on_shelves: one.on_shelves + other.on_shelves,
-        on_the_way: one.on_the_way + other.on_the_way,
-        short: one.short + other.short,
-        shorter: one.shorter + other.shorter,
+/// The line of all has the sums of the gateways' lines.
+fn check_all(period: &Period) {
+    let sum = |figure: &dyn Fn(&Figures) -> i64| period.gateways.iter().map(figure).sum::<i64>();
+    for column in 0..8 {
+        assert_eq!(sum(&|figures| shown(figures)[column]), shown(&period.all)[column]);
     }
+    assert_eq!(sum(&Figures::to_order), period.all.to_order());
+    assert_eq!(period.all.drawn, period.all.handed_out);
 }
 
 fn check(whole: &Whole) {
@@ -276,15 +266,4 @@ fn scenario(generator: &mut Generator, last_hour: u32) -> String {
         };
     }
     text
-}
-
-/// A linear congruential generator.
-struct Generator(u64);
-
-impl Generator {
-    fn below(&mut self, limit: u32) -> u32 {
-        self.0 =
-            self.0.wrapping_mul(6_364_136_223_846_793_005).wrapping_add(1_442_695_040_888_963_407);
-        ((self.0 >> 33) % u64::from(limit)) as u32
-    }
 }

@@ -2,7 +2,7 @@
 //! the second implementation makes from the scenario alone. Its status is 1 if one differs.
 
 use check::peer_calls::setup;
-use host::command::{input_text, printed, shown, Arguments, Ending, Program, BAD_FILE};
+use host::command::{printed, Arguments, Ending, Program, BAD_FILE};
 use host::report::counted;
 use host::scenario::Scenario;
 use interface::memory_length;
@@ -57,8 +57,7 @@ fn compare(arguments: &Arguments) -> Result<(), Ending> {
 
 /// What the gateways of a scenario are set up with.
 fn setups(scenario: &OsStr) -> Result<Vec<Setup>, Ending> {
-    let bad = |bad| Ending::Failed(BAD_FILE, format!("{}:{bad}", shown(scenario)));
-    let parsed = Scenario::parse(&input_text(scenario)?).map_err(bad)?;
+    let (_, parsed) = Scenario::input(scenario)?;
     let of_gateway = |own| {
         let opening = parsed.opening(own);
         let length = memory_length(opening.queue_places, opening.outstanding_places);

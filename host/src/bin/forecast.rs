@@ -2,7 +2,7 @@
 //! purchasing, stores and crews read.
 
 use host::carrier::{Progress, Stopped};
-use host::command::{input_text, printed, shown, Arguments, Ending, Program, BAD_FILE};
+use host::command::{printed, shown, Arguments, Ending, Program, BAD_FILE};
 use host::digest::Digest;
 use host::directory::{Directory, RESULTS};
 use host::kept::{Kept, Unfinished};
@@ -85,9 +85,7 @@ fn forecast(arguments: &Arguments) -> Result<(), Ending> {
 
 /// Begins a forecast.
 fn begin(name: &OsStr, directory: &Path, anew: bool) -> Result<Kept<Library>, Ending> {
-    let text = input_text(name)?;
-    let scenario = Scenario::parse(&text)
-        .map_err(|bad| Ending::Failed(BAD_FILE, format!("{}:{bad}", shown(name))))?;
+    let (text, scenario) = Scenario::input(name)?;
     let directory = Directory::make(directory).map_err(unusable)?;
     if directory.has_copy() && !anew {
         let path = directory.path().display();

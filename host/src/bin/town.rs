@@ -5,6 +5,8 @@
 //! through in a district, so that neighbours are alike in sixteen characters.
 
 use host::command::{printed, Program};
+use host::figures::MONTH;
+use host::generator::Generator;
 use std::io::{self, BufWriter, Write};
 use std::process::ExitCode;
 
@@ -23,7 +25,6 @@ Status: 0, 2 for a bad usage, 3 if standard output cannot be written.
 const LAST_HOUR: u32 = 43_800;
 const DEPOT: u32 = 21;
 const FIRST_STORE: u32 = 18;
-const MONTH: u32 = 730;
 
 /// Drivers that the depot is sent each month, and in the last one, when they run out.
 const RESTOCK: u32 = 171;
@@ -66,30 +67,19 @@ fn print(mut out: impl Write) -> io::Result<()> {
             _ => FAILURES[0],
         };
         for number in 0..failures {
-            let hour = generator.failure_hour();
+            let hour = failure_hour(&mut generator);
             writeln!(out, "failure {gateway} {hour} D{gateway:02}-POLE-{number:09}")?;
         }
     }
     out.flush()
 }
 
-/// A linear congruential generator, so that the scenario is the same everywhere.
-struct Generator(u64);
-
-impl Generator {
-    fn below(&mut self, limit: u32) -> u32 {
-        self.0 =
-            self.0.wrapping_mul(6_364_136_223_846_793_005).wrapping_add(1_442_695_040_888_963_407);
-        ((self.0 >> 33) % u64::from(limit)) as u32
+/// An hour of the five years; of those in the summer half of a year one in six is drawn once more.
+fn failure_hour(generator: &mut Generator) -> u32 {
+    let hour = 1 + generator.below(LAST_HOUR);
+    let summer = (3 * MONTH..9 * MONTH).contains(&(hour % (12 * MONTH)));
+    if summer && generator.below(6) == 0 {
+        return 1 + generator.below(LAST_HOUR);
     }
-
-    /// An hour of the five years; of those in the summer half of a year one in six is drawn once more.
-    fn failure_hour(&mut self) -> u32 {
-        let hour = 1 + self.below(LAST_HOUR);
-        let summer = (3 * MONTH..9 * MONTH).contains(&(hour % (12 * MONTH)));
-        if summer && self.below(6) == 0 {
-            return 1 + self.below(LAST_HOUR);
-        }
-        hour
-    }
+    hour
 }

@@ -131,9 +131,9 @@ pub struct Weeks {
 }
 
 impl Weeks {
-    /// The weeks of a forecast that begins with these stocks.
-    pub fn of(accounts: &Accounts, opening: &[u16]) -> Weeks {
-        let mut weeks = Weeks::new(Spans::up_to(accounts.last_hour()), opening);
+    /// The weeks of a forecast.
+    pub fn of(accounts: &Accounts) -> Weeks {
+        let mut weeks = Weeks::new(Spans::up_to(accounts.last_hour()), accounts.opening());
         accounts.weeks().for_each(|week| weeks.add(&week));
         weeks
     }
@@ -163,24 +163,16 @@ impl Weeks {
         let (most_on_shelves, most_short) = (highest(&line), highest(&short));
         let [begin, most, last, lamps] =
             [self.all.opening, most_on_shelves, last(&self.all.steps), most_short].map(grouped);
-        let shelves = Plot {
-            up: Axis::of_numbers("drivers", most_on_shelves, 5),
-            height: 220.0,
-            series: vec![Series::new(
-                Look::Line,
-                "drivers on all shelves together",
-                Shape::Line(line),
-            )],
-        };
-        let shortages = Plot {
-            up: Axis::of_numbers("lamps short", most_short, 3),
-            height: 90.0,
-            series: vec![Series::new(
-                Look::Marked,
-                "shortage: lamps whose Request last met an empty shelf",
-                Shape::Bars(bars(&short)),
-            )],
-        };
+        let shelves = Series::new(Look::Line, "drivers on all shelves together", Shape::Line(line));
+        let shortages = Series::new(
+            Look::Marked,
+            "shortage: lamps whose Request last met an empty shelf",
+            Shape::Bars(bars(&short)),
+        );
+        let plots = [
+            (Axis::of_numbers("drivers", most_on_shelves, 5), 220.0, shelves),
+            (Axis::of_numbers("lamps short", most_short, 3), 90.0, shortages),
+        ];
         Picture {
             name: "shelves",
             title: "Drivers on the shelves at the end of each week",
@@ -189,7 +181,9 @@ impl Weeks {
                  Lamps short at the end of a week: at most {lamps}."
             ),
             right: Axis::of_time(self.spans.end(), WEEK),
-            plots: vec![shelves, shortages],
+            plots: plots
+                .map(|(up, height, series)| Plot { up, height, series: vec![series] })
+                .into(),
         }
     }
 
