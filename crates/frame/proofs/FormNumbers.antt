@@ -30,8 +30,19 @@ good-form WrongLamp e = absurd (false≢true e)
 good-form WrongGateways e = absurd (false≢true e)
 good-form NotTaken e = absurd (false≢true e)
 
--- no number of a form is above 1
-pub number-small : (form : Form) → formNumber form < 2
+-- no form has the number of unsound memory
+pub number-sound : (form : Form) → formNumber form ≡ 10 → ⊥
+number-sound Good e = omega arith
+number-sound TooShort e = omega arith
+number-sound WrongMap e = omega arith
+number-sound WrongLength e = omega arith
+number-sound WrongSense e = omega arith
+number-sound WrongLamp e = omega arith
+number-sound WrongGateways e = omega arith
+number-sound NotTaken e = omega arith
+
+-- and each number fits a byte
+pub number-small : (form : Form) → formNumber form < 256
 number-small Good = omega arith
 number-small TooShort = omega arith
 number-small WrongMap = omega arith

@@ -20,6 +20,8 @@ use Rattle.frame.proofs.Laws.{one-to-one}
 use Rattle.frame.specs.Reasons.{reading, formIn, formNumber}
 use Rattle.frame.specs.Limits.{refusal}
 use Rattle.frame.specs.declared.Frame.{Frame}
+use Rattle.frame.specs.declared.Form.{Form}
+use Rattle.frame.specs.declared.Form.the-variants.{NotTaken}
 use Rattle.frame.specs.declared.Sense.{Sense}
 use Rattle.frame.specs.declared.Sense.the-variants.{Plain, Cancel, Acknowledgment, CancelAcknowledgment}
 use Rattle.memory.specs.Records.{Gateway}
@@ -37,10 +39,10 @@ use Rattle.gateway.specs.Committing.{recordOf, commitOldest, commit}
 use Rattle.gateway.specs.Calls.{unlessBelow, byCarrier, takeByKind, takeBySense, takeFrame, takeBytes}
 use Rattle.gateway.proofs.Searches.{pending-member}
 use Rattle.gateway.proofs.Replies.{Good}
-use Rattle.gateway.proofs.Maintaining.{Proper, Standing, standing, Kept, enough, Ends, unchanged, refuse, with-agreed, with-outstanding, fitting, settle}
+use Rattle.gateway.proofs.Maintaining.{Proper, Standing, standing, Kept, enough, Ends, below-ten, unchanged, refuse, with-agreed, with-outstanding, fitting, settle}
 use Rattle.gateway.proofs.Queues.{leave-out}
 use Rattle.gateway.proofs.Arrivals.{begun-stands, start-stands, lvt-stands}
-use Rattle.frame.proofs.FormNumbers.{number-small}
+use Rattle.frame.proofs.FormNumbers.{number-sound, number-small}
 use Rattle.gateway.proofs.Accepting.{form-passed, Accepted, refusal-few, not-refused, accepted-good, cancel-kind}
 use Rattle.gateway.proofs.Takings.{plain-stands, cancel-stands, done-stands, queue-of, requeue}
 
@@ -51,7 +53,10 @@ either false h l = l refl
 
 module _ {g : Gateway} (p : Proper g) where
   refuses : (number : ℕ) → number < 10 → {b : Bool} → b ≡ false → Ends (g .settings) (refused number g)
-  refuses number h e = refuse p number h
+  refuses number h e = refuse p number (below-ten h)
+
+  refuses-form : (form : Form) → {b : Bool} → b ≡ false → Ends (g .settings) (refused (formNumber form) g)
+  refuses-form form e = refuse p (formNumber form) (record { sound = number-sound form; small = number-small form })
 
   pub plain-keeps : (room : ℕ) (m : Message) → Good (g .settings) false m → m .to ≡ g .settings .own → Ends (g .settings) (settled room g (takePlain m g))
   plain-keeps room m good to-here = settle p room (takePlain m g) (plain-stands p m good to-here)
@@ -67,7 +72,7 @@ module _ {g : Gateway} (p : Proper g) where
       let v = valid-facts g (p .valid) in
       let fewer = without-part (isSent cancel m) (g .outstanding) in
       let k = with-outstanding (standing p) (withoutFirst (isSent cancel m) (g .outstanding)) (λ x n. standing p .outstanding x (part-member fewer n)) in
-      record { gateway = enough k (v .queued) (omega (arith, part-length fewer, v .sent)); number = omega arith })
+      record { gateway = enough k (v .queued) (omega (arith, part-length fewer, v .sent)); number = below-ten (omega arith) })
       (refuses 7 (omega arith))
 
   pub start-keeps : (room : ℕ) → Ends (g .settings) (start room g)
@@ -117,15 +122,15 @@ module _ {g : Gateway} (p : Proper g) where
           )) (v .sent)
 
       oldest : (es : List Entry) → Ends (g .settings) (commitOldest room g es)
-      oldest [] = refuse p 6 (omega arith)
+      oldest [] = refuse p 6 (below-ten (omega arith))
       oldest (e ∷ es) =
           either (ltb (e .message .hour) (g .agreed))
-          (λ h. either (leb (length (recordOf e)) room) (λ l. record { gateway = left; number = omega arith }) (refuses 5 (omega arith)))
+          (λ h. either (leb (length (recordOf e)) room) (λ l. record { gateway = left; number = below-ten (omega arith) }) (refuses 5 (omega arith)))
           (refuses 6 (omega arith))
 
   -- taking a frame
   below-keeps : (hour : ℕ) {r : Outcome} → Ends (g .settings) r → Ends (g .settings) (unlessBelow hour g r)
-  below-keeps hour h = either (ltb hour (g .agreed)) (λ e. refuse p 9 (omega arith)) (λ e. h)
+  below-keeps hour h = either (ltb hour (g .agreed)) (λ e. refuse p 9 (below-ten (omega arith))) (λ e. h)
 
   pub frame-keeps : (room : ℕ) (f : Frame) → Accepted (g .settings) f → Ends (g .settings) (takeFrame room f g)
   unfolding takeFrame
@@ -144,7 +149,7 @@ module _ {g : Gateway} (p : Proper g) where
       by-kind e (Failure origin) i = plain e (rw i (omega arith))
       by-kind e (Request origin) i = plain e (rw i (omega arith))
       by-kind e (Delivery origin) i = plain e (rw i (omega arith))
-      by-kind e (Restock quantity) i = refuse p 1 (omega arith)
+      by-kind e (Restock quantity) i = refuses-form NotTaken {b = false} refl
       by-kind e Start i = take-start-keeps room (f .message .from)
       by-kind e Lvt i = below-keeps (f .message .hour) (take-lvt-keeps room (f .message .from) (f .message .hour))
       by-kind e Update i = take-update-keeps room (f .message .from) (f .message .hour) (omega (arith, a .ranged .hour))
@@ -175,7 +180,7 @@ module _ {g : Gateway} (p : Proper g) where
         passes = not-refused s (r .frame) (eqb-true number 0 z);
       }))
       (refuses number (refusal-few (r .frame) (s .n) (s .own) (s .last))))
-      (refuses form (omega (arith, number-small (formIn byCarrier r))))
+      (refuses-form (formIn byCarrier r))
 
 -- how work ends, however many events it does
 pub record WorkEnds (s : Settings) (r : Progress) : Type 0 where

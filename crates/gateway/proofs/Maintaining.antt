@@ -232,16 +232,24 @@ fitting room e k h =
     (leb-true (length (e .gateway .queue)) (e .gateway .settings .q) (search (and-left, and-right)))
     (leb-true (length (e .gateway .outstanding)) (e .gateway .settings .u) (search (and-left, and-right)))
 
+-- a number that a call may answer to sound memory: it is not 10, and it fits a byte
+pub record Answers (number : ℕ) : Type 0 where
+  pub sound : number ≡ 10 → ⊥
+  pub small : number < 256
+
+pub below-ten : {number : ℕ} → number < 10 → Answers number
+below-ten h = record { sound = λ e. omega (arith, h, e); small = omega (arith, h) }
+
 -- how a call ends: with a proper gateway of those settings, and with no 10
 pub record Ends (s : Settings) (r : Outcome) : Type 0 where
   pub gateway : Kept s (r .gateway)
-  pub number : r .number < 10
+  pub number : Answers (r .number)
 
 -- a refusal changes nothing
 pub unchanged : {g : Gateway} → Proper g → Kept (g .settings) g
 unchanged p = record { same = refl; proper = p }
 
-pub refuse : {g : Gateway} → Proper g → (number : ℕ) → number < 10 → Ends (g .settings) (refused number g)
+pub refuse : {g : Gateway} → Proper g → (number : ℕ) → Answers number → Ends (g .settings) (refused number g)
 refuse p number h = record { gateway = unchanged p; number = h }
 
 -- a call that settles
@@ -255,5 +263,5 @@ settle {g} p room e k = by-case (fits room e) refl
       output = bytesOfFrames
           (e .frames);
     }) (refused 5 g))
-    by-case true h = record { gateway = fitting room e k h; number = omega arith }
-    by-case false h = refuse p 5 (omega arith)
+    by-case true h = record { gateway = fitting room e k h; number = below-ten (omega arith) }
+    by-case false h = refuse p 5 (below-ten (omega arith))

@@ -1,6 +1,6 @@
 -- No call answers 10 to memory that the calls left.
 use mathlib.Core.Path.{_≡_, refl, _∙_, ap, subst}
-use Prim.Native.Nat.{ℕ, _≤_, _<_}
+use Prim.Native.Nat.{ℕ, _≤_}
 use native.Mathlib.Omega.{arith}
 use mathlib.Core.Bool.{Bool, true, false, cond}
 use mathlib.Core.List.{List, []}
@@ -22,12 +22,12 @@ use Rattle.gateway.specs.Calls.{CallResult, refusedWith, leaving, onSoun
 use Rattle.gateway.specs.Claims.{SoundBytes, StaysSound, NeverUnsound}
 use Rattle.gateway.specs.declared.Answer.{Answer}
 use Rattle.gateway.specs.declared.Opening.{Opening}
-use Rattle.gateway.proofs.Maintaining.{Proper, Kept, Ends}
+use Rattle.gateway.proofs.Maintaining.{Proper, Kept, Answers, below-ten, Ends}
 use Rattle.gateway.proofs.Keeps.{start-keeps, commit-keeps, bytes-keep, work-keeps}
 use Rattle.gateway.proofs.Openings.{opened-keeps, opening-long}
 
 -- a proper gateway written over memory that is long enough for it
-written : {s : Settings} {g : Gateway} (memory : List ℕ) → Bytes memory → Kept s g → sizeFor (s .q) (s .u) ≤ length memory → {number : ℕ} → number < 10
+written : {s : Settings} {g : Gateway} (memory : List ℕ) → Bytes memory → Kept s g → sizeFor (s .q) (s .u) ≤ length memory → {number : ℕ} → Answers number
     → StaysSound s memory number (encode g memory)
 written {s} {g} memory bytes k long h =
     let w = codec-laws .writing g memory (k .proper .valid) (k .proper .ranged) (rw (k .same) long) in
@@ -36,7 +36,7 @@ written {s} {g} memory bytes k long h =
       settings = ap (λ (x : Gateway). x .settings) (w .again) ∙ k .same;
       as-long = w .as-long;
       rest = λ n. subst (λ (t : Settings). part (encode g memory) (sizeFor (t .q) (t .u)) n ≡ part memory (sizeFor (t .q) (t .u)) n) (k .same) (w .rest n);
-      answer = h;
+      answer = h .sound;
     }
 
 module _ (memory : List ℕ) (h : SoundBytes memory) where
@@ -62,15 +62,15 @@ module _ (memory : List ℕ) (h : SoundBytes memory) where
           (refusedWith (r .number) memory output)
 
       by-case : (b : Bool) → StaysSound (decode memory .settings) memory (left b .answer .number) (left b .memory)
-      by-case true = written memory (h .bytes) (ends (length output) .gateway) (held .long) (omega arith)
-      by-case false = record { still = h; settings = refl; as-long = refl; rest = λ n. refl; answer = ends (length output) .number }
+      by-case true = written memory (h .bytes) (ends (length output) .gateway) (held .long) (below-ten (omega arith))
+      by-case false = record { still = h; settings = refl; as-long = refl; rest = λ n. refl; answer = ends (length output) .number .sound }
 
   work-sound : (b : ℕ) (output : List ℕ) → StaysSound (decode memory .settings) memory (workedOff b memory output .answer .why) (workedOff b
       memory output .memory)
   unfolding workedOff
   work-sound b output =
       let w = work-keeps b (length output) held-proper in
-      rw (h .is-sound) (written memory (h .bytes) (w .gateway) (held .long) (w .why))
+      rw (h .is-sound) (written memory (h .bytes) (w .gateway) (held .long) (below-ten (w .why)))
 
   time-read : agreedTime memory .number ≡ 0
   unfolding agreedTime
@@ -94,7 +94,7 @@ set-up-sound o list memory list-bytes bytes = by-case (eqb number 0) refl
     by-case : (b : Bool) → eqb number 0 ≡ b → left b .answer .number ≡ 0 → StaysSound (settingsOf o) memory 0 (left b .memory)
     by-case true e z =
         let accepted = eqb-true number 0 e in
-        written memory bytes (opened-keeps o (length memory) list list-bytes accepted) (opening-long o (length memory) list accepted) (omega arith)
+        written memory bytes (opened-keeps o (length memory) list list-bytes accepted) (opening-long o (length memory) list accepted) (below-ten (omega arith))
     by-case false e z = absurd (eqb-false number 0 e z)
 
 pub never-unsound : NeverUnsound

@@ -1,6 +1,6 @@
 -- What is proved of the calls beside their contracts: no call answers 10 to memory that the calls left.
 use mathlib.Core.Path.{_≡_}
-use Prim.Native.Nat.{ℕ, _<_}
+use Prim.Native.Nat.{ℕ}
 use mathlib.Core.Bool.{true}
 use mathlib.Core.List.{List}
 use lib.ListN.{length}
@@ -25,7 +25,7 @@ pub record StaysSound (s : Settings) (memory : List ℕ) (number : ℕ) (after :
   pub settings : decode after .settings ≡ s
   pub as-long : length after ≡ length memory
   pub rest : (n : ℕ) → part after (sizeFor (s .q) (s .u)) n ≡ part memory (sizeFor (s .q) (s .u)) n
-  pub answer : number < 10
+  pub answer : number ≡ 10 → ⊥
 
 -- set up that is not refused makes sound memory of any, and every other call, refused or not, keeps it
 pub record NeverUnsound : Type 0 where

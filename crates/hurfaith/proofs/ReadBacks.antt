@@ -25,7 +25,7 @@ use Rattle.hurfaith.proofs.TakenSizes.{taken-small}
 use Rattle.packing.proofs.Packing.{read-back}
 
 module _ (memory output : List ℕ) (bytes : Bytes memory) where
-  left-number : (r : Outcome) → r .number < 10 → leaving r memory output .answer .number < 256
+  left-number : (r : Outcome) → r .number < 256 → leaving r memory output .answer .number < 256
   unfolding leaving
   left-number r h = by (eqb (r .number) 0)
     where
@@ -39,7 +39,7 @@ module _ (memory output : List ℕ) (bytes : Bytes memory) where
       by true = omega arith
       by false = omega (arith, h)
 
-  call-number : (call : ℕ → Gateway → Outcome) → (Proper (decode memory) → call (length output) (decode memory) .number < 10) → onSound call
+  call-number : (call : ℕ → Gateway → Outcome) → (Proper (decode memory) → call (length output) (decode memory) .number < 256) → onSound call
       memory output .answer .number < 256
   unfolding onSound
   call-number call h = by (sound memory) refl
@@ -51,15 +51,15 @@ module _ (memory output : List ℕ) (bytes : Bytes memory) where
 
   started-number : started memory output .answer .number < 256
   unfolding started
-  started-number = call-number start (λ p. start-keeps p (length output) .number)
+  started-number = call-number start (λ p. start-keeps p (length output) .number .small)
 
   committed-number : committed memory output .answer .number < 256
   unfolding committed
-  committed-number = call-number commit (λ p. commit-keeps p (length output) .number)
+  committed-number = call-number commit (λ p. commit-keeps p (length output) .number .small)
 
   taken-number : (frame : List ℕ) → Bytes frame → taken memory frame output .answer .number < 256
   unfolding taken
-  taken-number frame read = call-number (takeBytes frame) (λ p. bytes-keep p frame read (length output) .number)
+  taken-number frame read = call-number (takeBytes frame) (λ p. bytes-keep p frame read (length output) .number .small)
 
   worked-number : (b : ℕ) → workedOff b memory output .answer .why < 256
   worked-number b =
