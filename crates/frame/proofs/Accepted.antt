@@ -12,7 +12,7 @@ use Rattle.lists.proofs.BoolLaws.{and-left}
 use Rattle.model.specs.Messages.{kindNumber, kindOf}
 use Rattle.frame.specs.Layout.{odd, wholeLength}
 use Rattle.frame.specs.Writing.{lampFits, gatewaysAgree}
-use Rattle.frame.specs.Reasons.{fieldsOf, frameOf, mapFits, senseFits, unless, fieldsForm, formOf, formNumber, formRefusal, readAs, reading}
+use Rattle.frame.specs.Reasons.{fieldsOf, frameOf, mapFits, senseFits, unless, fieldsForm, formOf, isGood, formNumber, formRefusal, readAs, reading}
 use Rattle.buffer.proofs.Readings.{read-one}
 use Rattle.frame.specs.Lamps.{carriesLamp}
 use Rattle.frame.proofs.Presence.{lamp-kinds}
@@ -33,9 +33,9 @@ pub record Passes (s : List ℕ) : Type 0 where
   pub frame : reading s .frame ≡ frameOf (fieldsOf s)
 
 -- a reason counts unless its test was passed
-passed : (b : Bool) (reason rest : Form) → formNumber reason ≡ 1 → unless b reason rest ≡ Good → (b ≡ true) × (rest ≡ Good)
+passed : (b : Bool) (reason rest : Form) → isGood reason ≡ false → unless b reason rest ≡ Good → (b ≡ true) × (rest ≡ Good)
 passed true reason rest n e = (refl, e)
-passed false reason rest n e = let z : formNumber reason ≡ 0 = ap formNumber e in absurd (omega arith)
+passed false reason rest n e = absurd (false≢true (sym n ∙ ap isGood e))
 
 form-read : (form : Form) (f : Frame) → readAs form f .form ≡ form
 form-read Good f = refl
