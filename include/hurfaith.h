@@ -29,8 +29,8 @@ extern "C" {
 enum {
     /* Accepted. For work: all the events asked for are done. */
     HURFAITH_DONE = 0,
-    /* The bytes are not exactly one of the forms of a frame, or are a frame that this call does not take: a Restock by the carrier;
-     * in an opening list all but plain Failure and Restock. */
+    /* Map, kind, sense or gateway fields are those of no frame, or the frame is one that this call does not take: a Restock by the
+     * carrier; in an opening list all but plain Failure and Restock; for the lamp a frame without one. */
     HURFAITH_NO_FRAME = 1,
     /* A gateway number of N or more, or a frame that is addressed elsewhere. */
     HURFAITH_WRONG_GATEWAY = 2,
@@ -53,14 +53,22 @@ enum {
     /* The memory is not sound: too short for its settings, or settings, counts, phase or arrivals impossible, the queue not in
      * order, a processed message behind an unprocessed plain one, a waiting cancel beside an equal plain message, or a stored message
      * of no valid form, number or hour. No call answers 10 to memory that set up made and the other calls left. */
-    HURFAITH_NOT_SOUND = 10
+    HURFAITH_NOT_SOUND = 10,
+    /* A frame of fewer than two bytes, or of another length than its map gives: cut, or with bytes too many. */
+    HURFAITH_WRONG_LENGTH = 11,
+    /* A lamp with a byte outside 33 to 126. */
+    HURFAITH_WRONG_LAMP = 12
 };
 
+/* 1, 11 and 12 are one test in seven steps, wherever a frame is read: fewer than two bytes 11, map and kind 1, length 11, sense 1, lamp
+ * 12, gateway fields 1, a form that this call does not take 1. The first that fails is answered; 2 and 3 come behind all of them. */
+
 /* The 64-bit answers hold three numbers. They never overlap: no call writes more than 14,364 bytes. For hurfaith_agreed_time the
- * third number is the hour, and no bytes are written. */
+ * third number is the hour, and no bytes are written. For hurfaith_lamp all that stands above the number is a place: hurfaith_place. */
 static inline uint32_t hurfaith_number(uint64_t answer) { return (uint32_t)(answer & 0xff); }
 static inline uint32_t hurfaith_written(uint64_t answer) { return (uint32_t)(answer >> 8 & 0xffffff); }
 static inline uint32_t hurfaith_count(uint64_t answer) { return (uint32_t)(answer >> 32); }
+static inline size_t hurfaith_place(uint64_t answer) { return (size_t)(answer >> 8); }
 
 /* The gateway of that place among the neighbours is none. */
 #define HURFAITH_NONE 65535
@@ -73,7 +81,9 @@ uint32_t hurfaith_route(uint32_t gateways, uint32_t own, uint16_t *neighbours, s
 /* Makes a gateway of `memory`, whatever it held. `gateways` is N, 1 to 255; `own` and `supplier` are below N; `stock` is at most
  * 65,535; `last_hour` at most 4,294,967,294; queue_places and outstanding_places are 1 to 512. `list` is the opening list: whole
  * frames, one behind the other, plain Failure and Restock only, from and to this gateway; it may be empty. The agreed time is 0.
- * Answers 0; or 8; or 1, 2 or 3 of the first frame that is refused; or 5 where the list has more frames than there are queue places. */
+ * The list is cut by the lengths that the maps give; what is left over at its end is a cut frame.
+ * Answers 0; or 8; or 1, 11, 12, 2 or 3 of the first frame that is refused; or 5 where the list has more frames than there are queue
+ * places. */
 uint32_t hurfaith_set_up(uint8_t *memory, size_t memory_len, const uint8_t *list, size_t list_len,
     uint32_t gateways, uint32_t own, uint32_t supplier, uint32_t stock, uint32_t last_hour,
     uint32_t queue_places, uint32_t outstanding_places);
@@ -83,7 +93,7 @@ uint32_t hurfaith_set_up(uint8_t *memory, size_t memory_len, const uint8_t *list
 uint64_t hurfaith_work(uint8_t *memory, size_t memory_len, uint8_t *out, size_t out_len, uint32_t budget);
 
 /* Takes one frame that the carrier brought. What it writes are the acknowledgment and cancels, or the frames that go on with the
- * round. Answers 0, or 10, 1, 2, 3, 9, 4 or 7, 5, looked for in that order. After 5 the frame may be brought again. */
+ * round. Answers 0, or 10, then 1, 11 or 12, then 2, 3, 9, 4 or 7, 5, looked for in that order. After 5 the frame may be brought again. */
 uint64_t hurfaith_take(uint8_t *memory, size_t memory_len, const uint8_t *frame, size_t frame_len, uint8_t *out, size_t out_len);
 
 /* Opens a round at gateway 0. Writes at most two frames. Answers 0, or 10, 4, 5. */
@@ -96,6 +106,10 @@ uint64_t hurfaith_commit(uint8_t *memory, size_t memory_len, uint8_t *out, size_
 
 /* The agreed time: hurfaith_number is 0 and hurfaith_count the hour, or hurfaith_number is 10. `memory` is only read. */
 uint64_t hurfaith_agreed_time(const uint8_t *memory, size_t memory_len);
+
+/* The lamp of a frame, of whatever gateway and hour: hurfaith_number is 0, and the lamp is the eighteen bytes of `frame` from
+ * hurfaith_place on; or hurfaith_number is 1, 11 or 12, and hurfaith_place 0. `frame` is only read. */
+uint64_t hurfaith_lamp(const uint8_t *frame, size_t frame_len);
 
 #ifdef __cplusplus
 }

@@ -9,7 +9,7 @@ mod situations;
 use host::carrier::{Forecast, Stopped};
 use host::command::{printed, shown, Arguments, Ending, Program, BAD_FILE};
 use host::scenario::Scenario;
-use interface::{Calls, MOST_PLACES};
+use interface::{Calls, LampPlace, MOST_PLACES};
 use library::Library;
 use measure::{in_turn, timed, with_unit, Times};
 use plain::Plain;
@@ -125,7 +125,12 @@ fn calls(tables: &mut Tables<impl Write>) -> Result<(), Ending> {
         })?;
         tables.row(&format!("commit, {count} queued"), times)?;
     }
-    Ok(())
+    // The frame stands in the place of the memory, and the answer goes to the output.
+    let times = on_copies(&request(10, 1), |calls, frame, output| {
+        let LampPlace { number, place } = calls.lamp(frame);
+        output[..2].copy_from_slice(&[number as u8, place as u8]);
+    })?;
+    tables.row("read the lamp", times)
 }
 
 /// The time of one call on fresh copies of a memory. Both implementations must leave the same.

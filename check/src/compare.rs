@@ -1,11 +1,13 @@
 //! One call made three times, on copies of one memory and one output: all answers, memories and outputs must be equal.
 
-use crate::peer_calls::{Peer, UNSOUND};
-use crate::tally::{Called, Lacking, Tally};
+use crate::peer_calls::{setup, Peer, UNSOUND};
+use crate::tally::{Called, Lacking, Reader, Tally};
 use crate::Wrong;
 use interface::{ample_output, AgreedTime, Answer, Calls, Opening, MOST_PLACES};
 use library::Library;
-use peer::memory;
+use peer::gateway::{self, Gateway};
+use peer::refusal::{Reason, Refusal, REASONS};
+use peer::{frame, memory};
 use plain::Plain;
 
 /// What unwritten output bytes hold, so that a stray write shows.
@@ -79,6 +81,10 @@ impl Comparison {
 
         self.tally.count(call.called(), by_library.answer.number);
         self.count_reason(call, memory, &by_library.answer);
+        if let Call::Take { frame } = call {
+            self.count_taken(frame, by_library.answer.number)?;
+            self.lamp(frame)?;
+        }
         let Left { answer, memory: after, output } = by_library;
         memory.copy_from_slice(&after);
         Ok((answer, output[..answer.written].to_vec()))
@@ -114,6 +120,11 @@ impl Comparison {
         if number == 5 {
             self.tally.count_lacking(Lacking::QueuePlaces);
         }
+        let reason = match Gateway::set_up(&setup(opening, list, before.len())) {
+            Err(Refusal::Frame(reason)) => Some(reason),
+            _ => None,
+        };
+        self.count_refused_frame(Reader::SetUp, reason, number)?;
         Ok(number)
     }
 
@@ -127,6 +138,19 @@ impl Comparison {
         }
         self.tally.count(Called::AgreedTime, time.number);
         Ok(time)
+    }
+
+    /// Reads the lamp of a frame.
+    pub fn lamp(&mut self, frame: &[u8]) -> Result<(), Wrong> {
+        let found = Library.lamp(frame);
+        for (name, other) in OTHERS {
+            let other_found = other.lamp(frame);
+            if found != other_found {
+                return Err(format!("lamp of {frame:?}: {found:?}, by {name} {other_found:?}"));
+            }
+        }
+        self.tally.count(Called::Lamp, found.number);
+        self.count_refused_frame(Reader::Lamp, frame::lamp_place(frame).err(), found.number)
     }
 
     pub fn route(&mut self, gateways: u32, own: u32, count: usize) -> Result<(), Wrong> {
@@ -150,6 +174,34 @@ impl Comparison {
         }
         self.tally.count(Called::Route, number);
         Ok(())
+    }
+
+    /// Counts why a frame was not taken; in memory that is not sound it is not read.
+    fn count_taken(&mut self, frame: &[u8], number: u32) -> Result<(), Wrong> {
+        if number == UNSOUND {
+            return Ok(());
+        }
+        self.count_refused_frame(Reader::Take, gateway::carried(frame).err(), number)
+    }
+
+    /// Counts the reason why a call refused a frame, whose number the answer must be.
+    fn count_refused_frame(
+        &mut self,
+        reader: Reader,
+        reason: Option<Reason>,
+        number: u32,
+    ) -> Result<(), Wrong> {
+        match reason {
+            Some(reason) if reason.number() == number => {
+                self.tally.count_refused_frame(reader, reason);
+                Ok(())
+            }
+            Some(reason) => Err(format!("{reader:?} answered {number} in place of {reason}")),
+            None if REASONS.iter().any(|reason| reason.number() == number) => {
+                Err(format!("{reader:?} answered {number} for no reason"))
+            }
+            None => Ok(()),
+        }
     }
 
     /// Counts why memory was not sound, or what was too little.
@@ -258,6 +310,22 @@ mod tests {
             equal(Call::Start, "peer", &by_library, &by_peer).is_ok()
         };
         (0..by_library.memory.len()).filter(may_differ).collect()
+    }
+
+    #[test]
+    fn a_refused_frame_is_answered_with_the_number_of_its_reason() {
+        let mut comparison = Comparison::default();
+        let mut count =
+            |reason, number| comparison.count_refused_frame(Reader::Take, reason, number).is_ok();
+        for reason in REASONS {
+            for number in [0, 1, 2, 11, 12] {
+                assert_eq!(count(Some(reason), number), number == reason.number());
+            }
+        }
+        assert_eq!(
+            [0, 1, 2, 5, 11, 12].map(|number| count(None, number)),
+            [true, false, true, true, false, false]
+        );
     }
 
     #[test]

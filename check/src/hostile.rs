@@ -19,6 +19,30 @@ pub fn damaged(generator: &mut Generator, bytes: &[u8]) -> Vec<u8> {
     bytes
 }
 
+/// A frame with a thing or two wrong.
+pub fn damaged_frame(generator: &mut Generator, frame: &[u8]) -> Vec<u8> {
+    let mut bytes = frame.to_vec();
+    for _ in 0..=generator.below(2) {
+        match generator.below(2) {
+            0 => bytes = damaged(generator, &bytes),
+            _ => change_field(generator, &mut bytes),
+        }
+    }
+    bytes
+}
+
+/// Changes a byte of the lamp, the sense or a gateway's number where a frame with a lamp and a sense has it.
+fn change_field(generator: &mut Generator, frame: &mut [u8]) {
+    let (at, value) = match generator.below(3) {
+        0 => (9 + generator.below(18), generator.pick(&[0, 32, 127, 255])),
+        1 => (27, generator.pick(&[0, 4, 255])),
+        _ => (generator.pick(&[2, 3, 8]), generator.below(4)),
+    };
+    if let Some(byte) = frame.get_mut(usize::from(at)) {
+        *byte = value;
+    }
+}
+
 /// Memory with one thing changed. It may still be sound.
 pub fn spoiled(generator: &mut Generator, memory: &[u8]) -> Vec<u8> {
     let mut memory = memory.to_vec();

@@ -1,5 +1,5 @@
 //! The long comparison: `check SEED COUNT` makes the runs of COUNT seeds and prints how many calls were made and how
-//! they were answered. Its status is 1 if anything differs or goes wrong, and if some answer was never met.
+//! they were answered. Its status is 1 if anything differs or goes wrong, and if some answer or reason was never met.
 
 use check::compare::Comparison;
 use check::{runs, Wrong};
@@ -17,12 +17,13 @@ Makes every call three times on copies of the same bytes, by the proved library,
 the second implementation, and compares what they answer and leave: the routing, gateways with all
 places in use, then random runs of COUNT seeds, SEED and those behind it. Behind 4294967295 comes 0.
 
-Prints how often each call had each answer, then what can be answered and never was. Few seeds do not
-meet every answer; with a COUNT of 0 there are no random runs, and most are never met. How far it has
-come is on standard error every ten seconds.
+Prints how often each call had each answer, and how often each call that reads frames refused one for
+each reason; then what can be and never was. Few seeds do not meet every answer and reason; with a
+COUNT of 0 there are no random runs, and most are never met. How far it has come is on standard error
+every ten seconds.
 
-Status: 0 if nothing differs and every answer was met, 1 otherwise, 2 for a bad usage, 3 if standard
-output cannot be written.
+Status: 0 if nothing differs and every answer and reason was met, 1 otherwise, 2 for a bad usage, 3 if
+standard output cannot be written.
 
   check 1 2000
 ";

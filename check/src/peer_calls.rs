@@ -1,9 +1,10 @@
 //! The second implementation behind the interface of the calls: it reads a gateway from the lent memory, does
 //! the call and writes the gateway back.
 
-use interface::{AgreedTime, Answer, Calls, Opening, NO_NEIGHBOUR};
+use interface::{AgreedTime, Answer, Calls, LampPlace, Opening, NO_NEIGHBOUR};
 use peer::frame::{self, Frame};
-use peer::gateway::{Gateway, Refusal, Setup};
+use peer::gateway::{Gateway, Setup};
+use peer::refusal::Refusal;
 use peer::{memory, record, routing};
 
 /// The number of memory that is not sound.
@@ -21,10 +22,10 @@ impl Calls for Peer {
             _ => None,
         };
         let Some(found) = found else {
-            return Refusal::Setting as u32;
+            return Refusal::Setting.number();
         };
         if neighbours.len() < 4 {
-            return Refusal::NoRoom as u32;
+            return Refusal::NoRoom.number();
         }
         let two = |list: &[i32]| [0, 1].map(|at| list.get(at).map_or(NO_NEIGHBOUR, |&i| i as u16));
         neighbours[..2].copy_from_slice(&two(&found.from));
@@ -38,7 +39,7 @@ impl Calls for Peer {
                 memory::write(&gateway, memory);
                 0
             }
-            Err(refusal) => refusal as u32,
+            Err(refusal) => refusal.number(),
         }
     }
 
@@ -49,7 +50,7 @@ impl Calls for Peer {
         let worked = gateway.work(budget, output.len());
         memory::write(&gateway, memory);
         let written = put(&worked.output, output);
-        Answer { number: worked.why.map_or(0, |why| why as u32), written, events: worked.count }
+        Answer { number: worked.why.map_or(0, Refusal::number), written, events: worked.count }
     }
 
     fn take(&self, memory: &mut [u8], frame: &[u8], output: &mut [u8]) -> Answer {
@@ -70,6 +71,13 @@ impl Calls for Peer {
         match memory::read(memory) {
             Ok(gateway) => AgreedTime { number: 0, hour: gateway.agreed() },
             Err(_) => AgreedTime { number: UNSOUND, hour: 0 },
+        }
+    }
+
+    fn lamp(&self, frame: &[u8]) -> LampPlace {
+        match frame::lamp_place(frame) {
+            Ok(place) => LampPlace { number: 0, place },
+            Err(reason) => LampPlace { number: reason.number(), place: 0 },
         }
     }
 }
@@ -104,7 +112,7 @@ fn changed(
             output[..bytes.len()].copy_from_slice(&bytes);
             Answer { number: 0, written: bytes.len(), events: 0 }
         }
-        Err(refusal) => refused(refusal as u32),
+        Err(refusal) => refused(refusal.number()),
     }
 }
 

@@ -197,7 +197,7 @@ fn probe(
     let frame = draw::frame(generator, &site);
     if generator.below(2) == 0 {
         let frame =
-            if generator.below(3) == 0 { hostile::damaged(generator, &frame) } else { frame };
+            if generator.below(3) == 0 { hostile::damaged_frame(generator, &frame) } else { frame };
         let room = generator.pick(&[AMPLE, AMPLE, 0, 8, 28, 56]);
         comparison.call(Call::Take { frame: &frame }, &mut memory.to_vec(), room)?;
         return Ok(());
@@ -285,7 +285,12 @@ pub fn set_ups(
                 own: opening.own as u8,
                 last_hour: opening.last_hour,
             };
-            list.extend(draw::frame(generator, &site));
+            let mut frame = draw::frame(generator, &site);
+            if generator.below(2) == 0 {
+                frame = hostile::damaged_frame(generator, &frame);
+            }
+            comparison.lamp(&frame)?;
+            list.extend(frame);
         }
         if generator.below(3) == 0 {
             list = hostile::damaged(generator, &list);

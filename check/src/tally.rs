@@ -1,10 +1,12 @@
-//! How many calls of each kind were made, with which answers, and which answers are still missing.
+//! How many calls of each kind were made, with which answers and for which reasons, and which of them are still missing.
 
 use peer::frame::{self, Frame, Sense};
-use peer::memory::{Unsound, REASONS};
+use peer::memory::{self, Unsound};
 use peer::model::Kind;
+use peer::refusal::{self, Reason};
 use std::collections::BTreeMap;
 use std::fmt;
+use std::ops::RangeInclusive;
 
 /// What a call was, as finely as refusals are told apart.
 #[derive(Clone, Copy, Debug, PartialEq, Eq, PartialOrd, Ord)]
@@ -25,12 +27,16 @@ pub enum Called {
     Start,
     Commit,
     AgreedTime,
+    Lamp,
 }
 
+/// The numbers of all answers.
+const NUMBERS: RangeInclusive<u32> = 0..=12;
+
 /// Every kind of call with the numbers that it can answer.
-const ANSWERS: [(Called, &[u32]); 16] = [
+const ANSWERS: [(Called, &[u32]); 17] = [
     (Called::Route, &[0, 5, 8]),
-    (Called::SetUp, &[0, 1, 2, 3, 5, 8]),
+    (Called::SetUp, &[0, 1, 2, 3, 5, 8, 11, 12]),
     (Called::Work, &[0, 5, 6, 10]),
     (Called::TakeFailure, &[0, 2, 3, 5, 9, 10]),
     (Called::TakeRequest, &[0, 2, 3, 5, 9, 10]),
@@ -41,11 +47,22 @@ const ANSWERS: [(Called, &[u32]); 16] = [
     (Called::TakeStart, &[0, 2, 4, 5, 10]),
     (Called::TakeLvt, &[0, 2, 3, 4, 5, 9, 10]),
     (Called::TakeUpdate, &[0, 2, 3, 4, 5, 10]),
-    (Called::TakeOtherBytes, &[1, 10]),
+    (Called::TakeOtherBytes, &[1, 10, 11, 12]),
     (Called::Start, &[0, 4, 5, 10]),
     (Called::Commit, &[0, 5, 6, 10]),
     (Called::AgreedTime, &[0, 10]),
+    (Called::Lamp, &[0, 1, 11, 12]),
 ];
+
+/// The calls that read frames.
+#[derive(Clone, Copy, Debug, PartialEq, Eq, PartialOrd, Ord)]
+pub enum Reader {
+    Take,
+    SetUp,
+    Lamp,
+}
+
+const READERS: [Reader; 3] = [Reader::Take, Reader::SetUp, Reader::Lamp];
 
 /// Why there was no room.
 #[derive(Clone, Copy, Debug, PartialEq, Eq, PartialOrd, Ord)]
@@ -75,6 +92,7 @@ const SITUATIONS: [Situation; 3] =
 #[derive(Clone, Debug, Default)]
 pub struct Tally {
     answers: BTreeMap<(Called, u32), u64>,
+    refused_frames: BTreeMap<(Reader, Reason), u64>,
     unsound: BTreeMap<Unsound, u64>,
     lacking: BTreeMap<Lacking, u64>,
     situations: BTreeMap<Situation, u64>,
@@ -84,21 +102,21 @@ impl Called {
     /// What taking these bytes is.
     pub fn taking(bytes: &[u8]) -> Called {
         match frame::read(bytes) {
-            Some(Frame::Event { sense: Sense::Plain, message }) => match message.kind {
+            Ok(Frame::Event { sense: Sense::Plain, message }) => match message.kind {
                 Kind::Failure => Called::TakeFailure,
                 Kind::Request => Called::TakeRequest,
                 Kind::Delivery => Called::TakeDelivery,
                 Kind::Restock => Called::TakeOtherBytes,
             },
-            Some(Frame::Event { sense: Sense::Cancel, .. }) => Called::TakeCancel,
-            Some(Frame::Event { sense: Sense::Acknowledgment, .. }) => Called::TakeAcknowledgment,
-            Some(Frame::Event { sense: Sense::AcknowledgmentOfCancel, .. }) => {
+            Ok(Frame::Event { sense: Sense::Cancel, .. }) => Called::TakeCancel,
+            Ok(Frame::Event { sense: Sense::Acknowledgment, .. }) => Called::TakeAcknowledgment,
+            Ok(Frame::Event { sense: Sense::AcknowledgmentOfCancel, .. }) => {
                 Called::TakeAcknowledgmentOfCancel
             }
-            Some(Frame::Start { .. }) => Called::TakeStart,
-            Some(Frame::Lvt { .. }) => Called::TakeLvt,
-            Some(Frame::Update { .. }) => Called::TakeUpdate,
-            None => Called::TakeOtherBytes,
+            Ok(Frame::Start { .. }) => Called::TakeStart,
+            Ok(Frame::Lvt { .. }) => Called::TakeLvt,
+            Ok(Frame::Update { .. }) => Called::TakeUpdate,
+            Err(_) => Called::TakeOtherBytes,
         }
     }
 }
@@ -106,6 +124,11 @@ impl Called {
 impl Tally {
     pub fn count(&mut self, called: Called, number: u32) {
         *self.answers.entry((called, number)).or_default() += 1;
+    }
+
+    /// Counts why a call refused a frame.
+    pub fn count_refused_frame(&mut self, reader: Reader, reason: Reason) {
+        *self.refused_frames.entry((reader, reason)).or_default() += 1;
     }
 
     pub fn count_unsound(&mut self, reason: Unsound) {
@@ -129,6 +152,11 @@ impl Tally {
         self.answers.get(&(called, number)).copied().unwrap_or(0)
     }
 
+    /// How often a call refused a frame for that reason.
+    fn refused_frames(&self, reader: Reader, reason: Reason) -> u64 {
+        self.refused_frames.get(&(reader, reason)).copied().unwrap_or(0)
+    }
+
     /// Answers, reasons and situations that can be and were never met.
     pub fn gaps(&self) -> Vec<String> {
         let mut gaps = Vec::new();
@@ -137,7 +165,14 @@ impl Tally {
                 gaps.push(format!("{called:?} was never answered with {number}"));
             }
         }
-        for reason in REASONS.iter().filter(|reason| !self.unsound.contains_key(reason)) {
+        for reader in READERS {
+            for reason in refusal::REASONS {
+                if self.refused_frames(reader, reason) == 0 {
+                    gaps.push(format!("{reader:?} never refused a frame for {reason}"));
+                }
+            }
+        }
+        for reason in memory::REASONS.iter().filter(|reason| !self.unsound.contains_key(reason)) {
             gaps.push(format!("memory was never unsound for {reason:?}"));
         }
         for lacking in LACKING.iter().filter(|lacking| !self.lacking.contains_key(lacking)) {
@@ -162,16 +197,28 @@ impl Tally {
 impl fmt::Display for Tally {
     fn fmt(&self, formatter: &mut fmt::Formatter) -> fmt::Result {
         write!(formatter, "{:28}", "calls answered with")?;
-        for number in 0..=10 {
+        for number in NUMBERS {
             write!(formatter, "{number:>9}")?;
         }
         writeln!(formatter)?;
         for (called, numbers) in ANSWERS {
             write!(formatter, "{:28}", format!("{called:?}"))?;
-            for number in 0..=10 {
+            for number in NUMBERS {
                 let times = self.times(called, number);
                 let shown = times > 0 || numbers.contains(&number);
                 write!(formatter, "{:>9}", if shown { times.to_string() } else { "-".into() })?;
+            }
+            writeln!(formatter)?;
+        }
+        write!(formatter, "{:48}", "frames refused for")?;
+        for reader in READERS {
+            write!(formatter, "{:>9}", format!("{reader:?}"))?;
+        }
+        writeln!(formatter)?;
+        for reason in refusal::REASONS {
+            write!(formatter, "{:48}", reason.to_string())?;
+            for reader in READERS {
+                write!(formatter, "{:>9}", self.refused_frames(reader, reason))?;
             }
             writeln!(formatter)?;
         }

@@ -223,8 +223,8 @@ impl World {
 
 /// The frames that gateway `own` put out.
 fn frames(own: u8, output: &[u8]) -> Result<Vec<Frame>, Wrong> {
-    let frames = frame::list(output).into_iter().collect::<Option<_>>();
-    frames.ok_or_else(|| format!("{own} puts out what is no frame"))
+    let frames = frame::list(output).into_iter().collect::<Result<_, _>>();
+    frames.map_err(|reason| format!("{own} puts out what is no frame: {reason}"))
 }
 
 /// The settings of a set-up.

@@ -44,6 +44,8 @@ fn without_seeds_answers_are_missing_and_nothing_differs() {
     let Ended { status, output, error } = run(CHECK, &["1", "0"]);
     assert_eq!((status, error.as_str()), (Some(1), ""));
     assert!(output.contains("\nthere were no ForecastsWhole\n"), "{output}");
+    let reason = "SetUp never refused a frame for 12 lamp: a byte outside 33 to 126";
+    assert!(output.contains(&format!("\n{reason}\n")), "{output}");
     let last = output.lines().last().unwrap();
     assert!(last.starts_with("no seeds: no difference, ") && last.ends_with(" gaps"), "{last}");
 }

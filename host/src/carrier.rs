@@ -8,13 +8,11 @@
 
 use crate::frame::{frames, Frame};
 use crate::places::{due, Places};
+use crate::refusal::{named, NOTHING, NO_ROOM};
 use crate::scenario::{more_places, Scenario};
 use interface::{ample_output, memory_length, AgreedTime, Answer, Calls, MOST_PLACES, NOTHING_DUE};
 use std::collections::VecDeque;
 use std::fmt;
-
-const NO_ROOM: u32 = 5;
-const NOTHING: u32 = 6;
 
 /// The longest window, in hours. In a longer one gateways run so far ahead that they undo more than they gain.
 const LONGEST_WINDOW: u32 = 32;
@@ -103,7 +101,7 @@ impl fmt::Display for Stopped {
     fn fmt(&self, formatter: &mut fmt::Formatter) -> fmt::Result {
         match self {
             Stopped::Refused { gateway, call, number } => {
-                write!(formatter, "gateway {gateway} answered {number} to {call}")
+                write!(formatter, "gateway {gateway} answered {} to {call}", named(*number))
             }
             Stopped::WantOfPlaces(wants) => {
                 write!(formatter, "the forecast cannot go on for want of places")?;

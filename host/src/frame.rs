@@ -12,6 +12,15 @@ const WIDTHS: [usize; 8] = [1, 1, 1, 4, 1, 18, 2, 1];
 pub const PLAIN_EVENT: u8 = 63;
 pub const PLAIN_RESTOCK: u8 = 79;
 
+/// Added to the map of a Failure, a Request or a Delivery where the frame has a sense: a cancel or an acknowledgment.
+pub const SENSE_BIT: u8 = 128;
+
+/// The sense of a cancel; 2 and 3 are those of the acknowledgments of a message and of a cancel.
+pub const CANCEL: u8 = 1;
+
+/// The one map of each kind, without the sense.
+const MAPS: [u8; 7] = [PLAIN_EVENT, PLAIN_EVENT, PLAIN_EVENT, PLAIN_RESTOCK, 7, 15, 15];
+
 /// Kinds of events, as in the second byte of a frame.
 pub const FAILURE: u8 = 0;
 pub const REQUEST: u8 = 1;
@@ -66,6 +75,12 @@ pub fn frames(mut output: &[u8]) -> impl Iterator<Item = Frame> + '_ {
 pub fn length(map: u8) -> usize {
     let stands = |bit: &usize| map >> bit & 1 == 1;
     1 + (0..8).filter(stands).map(|bit| WIDTHS[bit]).sum::<usize>()
+}
+
+/// Whether the map is that of the kind, with a sense only for a kind with a lamp.
+pub fn in_table(map: u8, kind: u8) -> bool {
+    let without_sense = if kind <= DELIVERY { map & !SENSE_BIT } else { map };
+    MAPS.get(usize::from(kind)) == Some(&without_sense)
 }
 
 /// The frame of an opening Failure.

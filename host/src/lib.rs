@@ -19,6 +19,7 @@ pub mod places;
 pub mod progress;
 pub mod record;
 pub mod record_files;
+pub mod refusal;
 pub mod report;
 pub mod results;
 pub mod scenario;

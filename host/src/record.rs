@@ -2,8 +2,9 @@
 
 use crate::bytes::{half, word};
 use crate::frame::{
-    length, DELIVERY, FAILURE, LAMP_LENGTH, LONGEST, PLAIN_EVENT, PLAIN_RESTOCK, REQUEST, RESTOCK,
+    in_table, length, CANCEL, DELIVERY, FAILURE, LAMP_LENGTH, LONGEST, REQUEST, RESTOCK, SENSE_BIT,
 };
+use crate::refusal;
 use interface::NOTHING_DUE;
 use std::fmt;
 use std::io::{self, Read};
@@ -11,11 +12,7 @@ use std::io::{self, Read};
 /// The state after an event: stock, failed, fitted and short, high byte first.
 const STATE_LENGTH: usize = 14;
 
-/// Document 01's numbers for what is no record: form, gateway number (N read as 255), hour.
-const FORM: u32 = 1;
-const GATEWAY: u32 = 2;
-const HOUR: u32 = 3;
-
+/// N is read as 255, so that no gateway has this number.
 const NO_GATEWAY: u8 = 255;
 
 /// A lamp's number.
@@ -74,11 +71,10 @@ pub struct Record {
 #[derive(Debug)]
 pub enum Unreadable {
     File(io::Error),
-    /// Where the event begins that is no record, with document 01's number and in words.
+    /// Where the event begins that is no record, and the first reason of it.
     NoRecord {
         place: u64,
-        number: u32,
-        what: String,
+        reason: Reason,
     },
 }
 
@@ -86,9 +82,95 @@ impl fmt::Display for Unreadable {
     fn fmt(&self, formatter: &mut fmt::Formatter) -> fmt::Result {
         match self {
             Unreadable::File(error) => write!(formatter, "{error}"),
-            Unreadable::NoRecord { place, number, what } => {
-                write!(formatter, "no record at byte {place}: {number}, {what}")
+            Unreadable::NoRecord { place, reason } => {
+                let number = refusal::named(reason.number());
+                write!(formatter, "no record at byte {place}: {number}, {reason}")
             }
+        }
+    }
+}
+
+/// Why an event is no record. The reasons are looked for in this order.
+#[derive(Clone, Copy, Debug, PartialEq, Eq)]
+pub enum Reason {
+    FewerThanTwoBytes,
+    MapAndKind {
+        map: u8,
+        kind: u8,
+    },
+    CutFrame {
+        found: usize,
+        length: usize,
+    },
+    /// A sense that there is not.
+    Sense(u8),
+    /// A byte of the lamp that no lamp has.
+    Lamp(u8),
+    /// Gateways that no event of its kind has.
+    GatewayFields(Event),
+    /// A frame of a round, which has no sense, or a cancel or an acknowledgment: none of them stands in a record.
+    NotTaken {
+        kind: u8,
+        sense: Option<u8>,
+    },
+    GatewayNumber,
+    Hour,
+    /// Only so many bytes of a state.
+    CutState(usize),
+    EventOrder,
+}
+
+impl Reason {
+    /// The number of a refusal for this reason.
+    pub fn number(&self) -> u32 {
+        match self {
+            Reason::FewerThanTwoBytes | Reason::CutFrame { .. } | Reason::CutState(_) => {
+                refusal::LENGTH
+            }
+            Reason::Lamp(_) => refusal::LAMP,
+            Reason::MapAndKind { .. }
+            | Reason::Sense(_)
+            | Reason::GatewayFields(_)
+            | Reason::NotTaken { .. }
+            | Reason::EventOrder => refusal::FORM,
+            Reason::GatewayNumber => refusal::GATEWAY,
+            Reason::Hour => refusal::HOUR,
+        }
+    }
+}
+
+impl fmt::Display for Reason {
+    fn fmt(&self, formatter: &mut fmt::Formatter) -> fmt::Result {
+        match self {
+            Reason::FewerThanTwoBytes => write!(formatter, "a frame of fewer than two bytes"),
+            Reason::MapAndKind { map, kind } => {
+                write!(formatter, "map {map} with kind {kind}, which no frame has")
+            }
+            Reason::CutFrame { found, length } => {
+                write!(formatter, "cut: {found} of a frame's {length} bytes")
+            }
+            Reason::Sense(sense) => write!(formatter, "sense {sense} is not 1 to 3"),
+            Reason::Lamp(byte) => write!(formatter, "byte {byte} is outside 33 to 126"),
+            Reason::GatewayFields(Event { kind, from, to, origin, .. }) => {
+                write!(formatter, "gateways that no {kind} has: from {from} to {to}")?;
+                match kind {
+                    Kind::Restock => Ok(()),
+                    _ => write!(formatter, ", origin {origin}"),
+                }
+            }
+            Reason::NotTaken { kind, sense: None } => {
+                write!(formatter, "kind {kind}, a frame of a round and no event")
+            }
+            Reason::NotTaken { sense: Some(CANCEL), .. } => {
+                write!(formatter, "a cancel and no plain event")
+            }
+            Reason::NotTaken { .. } => write!(formatter, "an acknowledgment and no plain event"),
+            Reason::GatewayNumber => write!(formatter, "gateway {NO_GATEWAY}"),
+            Reason::Hour => write!(formatter, "hour {NOTHING_DUE}"),
+            Reason::CutState(found) => {
+                write!(formatter, "cut: {found} of a state's {STATE_LENGTH} bytes")
+            }
+            Reason::EventOrder => write!(formatter, "not in event order"),
         }
     }
 }
@@ -114,18 +196,16 @@ impl<R: Read> Records<R> {
         }
         let whole = (length(bytes[0]) + STATE_LENGTH).min(bytes.len());
         let found = 1 + self.fill(&mut bytes[1..whole])?;
-        let record = parsed(&bytes[..found]).and_then(|record| match self.last {
-            Some(last) if record.event < last => Err((FORM, "not in event order".into())),
-            _ => Ok(record),
-        });
-        match record {
+        let reason = match parsed(&bytes[..found]) {
+            Ok(record) if self.last.is_some_and(|last| record.event < last) => Reason::EventOrder,
             Ok(record) => {
                 self.place += found as u64;
                 self.last = Some(record.event);
-                Ok(Some(record))
+                return Ok(Some(record));
             }
-            Err((number, what)) => Err(Unreadable::NoRecord { place: self.place, number, what }),
-        }
+            Err(reason) => reason,
+        };
+        Err(Unreadable::NoRecord { place: self.place, reason })
     }
 
     /// Reads as many bytes as there are; how many that is.
@@ -156,25 +236,13 @@ impl<R: Read> Iterator for Records<R> {
     }
 }
 
-/// The record that these bytes are, or the number and the words of the first reason why they are none.
-fn parsed(bytes: &[u8]) -> Result<Record, (u32, String)> {
-    let &[map, kind, ..] = bytes else {
-        return Err((FORM, "cut: one byte is left".into()));
-    };
-    let kind = match (kind, map) {
-        (FAILURE, PLAIN_EVENT) => Kind::Failure,
-        (REQUEST, PLAIN_EVENT) => Kind::Request,
-        (DELIVERY, PLAIN_EVENT) => Kind::Delivery,
-        (RESTOCK, PLAIN_RESTOCK) => Kind::Restock,
-        _ => return Err((FORM, format!("map {map} with kind {kind} is no plain event"))),
-    };
-    let (frame, state) = bytes.split_at(length(map).min(bytes.len()));
-    if frame.len() < length(map) {
-        return Err((FORM, format!("cut: {} of a frame's {} bytes", frame.len(), length(map))));
-    }
-    let event = event(kind, frame)?;
+/// The record that these bytes are, or the first reason why they are none. There is at least one byte.
+fn parsed(bytes: &[u8]) -> Result<Record, Reason> {
+    let (frame, state) = bytes.split_at(length(bytes[0]).min(bytes.len()));
+    let event = event(frame)?;
+    check_limits(&event)?;
     let Ok(state) = <[u8; STATE_LENGTH]>::try_from(state) else {
-        return Err((FORM, format!("cut: {} of a state's {STATE_LENGTH} bytes", state.len())));
+        return Err(Reason::CutState(state.len()));
     };
     let after = State {
         stock: half(&state, 0),
@@ -185,18 +253,60 @@ fn parsed(bytes: &[u8]) -> Result<Record, (u32, String)> {
     Ok(Record { event, after })
 }
 
-/// The event of a frame that has its map's length.
-fn event(kind: Kind, frame: &[u8]) -> Result<Event, (u32, String)> {
+/// The event of a plain frame, or the first reason why these bytes are none.
+fn event(frame: &[u8]) -> Result<Event, Reason> {
+    let &[map, number, ..] = frame else { return Err(Reason::FewerThanTwoBytes) };
+    if !in_table(map, number) {
+        return Err(Reason::MapAndKind { map, kind: number });
+    }
+    if frame.len() < length(map) {
+        return Err(Reason::CutFrame { found: frame.len(), length: length(map) });
+    }
+    let sense = sense(map, frame)?;
+    let not_taken = Reason::NotTaken { kind: number, sense };
+    let event = fields(kind(number).ok_or(not_taken)?, frame);
+    check_fields(&event)?;
+    sense.map_or(Ok(event), |_| Err(not_taken))
+}
+
+/// The sense of a whole frame with this map, if it has one.
+fn sense(map: u8, frame: &[u8]) -> Result<Option<u8>, Reason> {
+    match frame.last() {
+        _ if map & SENSE_BIT == 0 => Ok(None),
+        Some(&sense @ 1..=3) => Ok(Some(sense)),
+        sense => Err(Reason::Sense(sense.copied().unwrap_or(0))),
+    }
+}
+
+/// The kind of an event with this number; `None` for a frame of a round.
+fn kind(number: u8) -> Option<Kind> {
+    match number {
+        FAILURE => Some(Kind::Failure),
+        REQUEST => Some(Kind::Request),
+        DELIVERY => Some(Kind::Delivery),
+        RESTOCK => Some(Kind::Restock),
+        _ => None,
+    }
+}
+
+/// The fields of a whole frame of an event.
+fn fields(kind: Kind, frame: &[u8]) -> Event {
     let (from, to, hour) = (frame[2], frame[3], word(frame, 4));
     let (mut origin, mut lamp, mut quantity) = (0, [0; LAMP_LENGTH], 0);
     if kind == Kind::Restock {
         quantity = half(frame, 8);
     } else {
         origin = frame[8];
-        lamp.copy_from_slice(&frame[9..]);
-        if let Some(byte) = lamp.iter().find(|byte| !(33..=126).contains(*byte)) {
-            return Err((FORM, format!("byte {byte} in a lamp, whose characters are 33 to 126")));
-        }
+        lamp.copy_from_slice(&frame[9..][..LAMP_LENGTH]);
+    }
+    Event { hour, kind, origin, lamp, quantity, from, to }
+}
+
+/// Refuses an event whose lamp cannot be, or whose gateways do not agree.
+fn check_fields(event: &Event) -> Result<(), Reason> {
+    let &Event { kind, origin, ref lamp, from, to, .. } = event;
+    if kind != Kind::Restock {
+        check_lamp(lamp)?;
     }
     let agree = match kind {
         Kind::Failure => from == to && to == origin,
@@ -204,17 +314,27 @@ fn event(kind: Kind, frame: &[u8]) -> Result<Event, (u32, String)> {
         Kind::Delivery => to == origin,
         Kind::Restock => from == to,
     };
-    if !agree {
-        let of_lamp = if kind == Kind::Restock { "".into() } else { format!(", origin {origin}") };
-        return Err((FORM, format!("gateways that no {kind} has: from {from} to {to}{of_lamp}")));
+    match agree {
+        true => Ok(()),
+        false => Err(Reason::GatewayFields(*event)),
     }
+}
+
+/// Refuses an event of a gateway or an hour that there is not.
+fn check_limits(event: &Event) -> Result<(), Reason> {
+    let &Event { hour, origin, from, to, .. } = event;
     if [from, to, origin].contains(&NO_GATEWAY) {
-        return Err((GATEWAY, "gateway 255".into()));
+        return Err(Reason::GatewayNumber);
     }
     if hour == NOTHING_DUE {
-        return Err((HOUR, format!("hour {hour}")));
+        return Err(Reason::Hour);
     }
-    Ok(Event { hour, kind, origin, lamp, quantity, from, to })
+    Ok(())
+}
+
+fn check_lamp(lamp: &Lamp) -> Result<(), Reason> {
+    let other = lamp.iter().find(|byte| !(33..=126).contains(*byte));
+    other.map_or(Ok(()), |&byte| Err(Reason::Lamp(byte)))
 }
 
 /// A lamp's number as text.
@@ -240,6 +360,7 @@ mod tests {
 
     const LAMP: &Lamp = b"L00000000000000001";
     const STATE: [u8; 14] = [1, 2, 0, 0, 0, 3, 0, 0, 0, 4, 0, 0, 1, 0];
+    const START: [u8; 4] = [7, 4, 1, 2];
 
     fn recorded(frame: Vec<u8>) -> Vec<u8> {
         [&frame[..], &STATE].concat()
@@ -285,35 +406,105 @@ mod tests {
         assert_eq!(read(&[]), (vec![], None));
     }
 
+    /// Why these bytes are no record, behind a good one.
+    fn why(second: &[u8]) -> String {
+        let first = recorded(failure(3, 258, LAMP));
+        let (records, why) = read(&[&first[..], second].concat());
+        assert_eq!(records.len(), 1);
+        why.unwrap().strip_prefix("no record at byte 41: ").unwrap().into()
+    }
+
+    /// A record with these bytes in these places.
+    fn with(changes: &[(usize, u8)]) -> Vec<u8> {
+        let mut bytes = recorded(failure(3, 300, LAMP));
+        for &(place, byte) in changes {
+            bytes[place] = byte;
+        }
+        bytes
+    }
+
+    /// A record of a frame with this sense, and these bytes in these places.
+    fn with_sense(sense: u8, changes: &[(usize, u8)]) -> Vec<u8> {
+        let mut bytes = with(changes);
+        bytes[0] |= SENSE_BIT;
+        bytes.insert(27, sense);
+        bytes
+    }
+
     #[test]
     fn what_is_no_record_has_a_place_and_a_number() {
-        let first = recorded(failure(3, 258, LAMP));
-        let bad = |second: &[u8]| read(&[&first[..], second].concat()).1.unwrap();
-        let with = |place: usize, byte: u8| {
-            let mut second = recorded(failure(3, 300, LAMP));
-            second[place] = byte;
-            bad(&second)
-        };
-        assert_eq!(bad(&[63]), "no record at byte 41: 1, cut: one byte is left");
-        assert_eq!(bad(&first[..5]), "no record at byte 41: 1, cut: 5 of a frame's 27 bytes");
-        assert_eq!(bad(&first[..40]), "no record at byte 41: 1, cut: 13 of a state's 14 bytes");
-        assert_eq!(with(0, 79), "no record at byte 41: 1, map 79 with kind 0 is no plain event");
-        assert_eq!(with(0, 191), "no record at byte 41: 1, map 191 with kind 0 is no plain event");
-        assert_eq!(with(1, 4), "no record at byte 41: 1, map 63 with kind 4 is no plain event");
+        let fewer = "11 (length), a frame of fewer than two bytes";
+        assert_eq!(why(&[63]), fewer);
+        assert_eq!(why(&[0]), fewer);
+        assert_eq!(why(&with(&[(0, 0)])), fewer);
+        assert_eq!(why(&with(&[(0, 79)])), "1 (form), map 79 with kind 0, which no frame has");
         assert_eq!(
-            with(3, 4),
-            "no record at byte 41: 1, gateways that no Failure has: from 3 to 4, origin 3"
+            why(&with(&[(0, 207), (1, 3)])),
+            "1 (form), map 207 with kind 3, which no frame has"
         );
-        assert_eq!(
-            with(26, 32),
-            "no record at byte 41: 1, byte 32 in a lamp, whose characters are 33 to 126"
-        );
-        assert_eq!(with(6, 0), "no record at byte 41: 1, not in event order");
-        assert_eq!(bad(&recorded(failure(255, 300, LAMP))), "no record at byte 41: 2, gateway 255");
-        assert_eq!(
-            bad(&recorded(failure(3, NOTHING_DUE, LAMP))),
-            "no record at byte 41: 3, hour 4294967295"
-        );
+        assert_eq!(why(&with(&[(1, 4)])), "1 (form), map 63 with kind 4, which no frame has");
+        assert_eq!(why(&with(&[])[..2]), "11 (length), cut: 2 of a frame's 27 bytes");
+        assert_eq!(why(&with(&[])[..26]), "11 (length), cut: 26 of a frame's 27 bytes");
+        assert_eq!(why(&restock(6, 300, 1)[..9]), "11 (length), cut: 9 of a frame's 10 bytes");
+        assert_eq!(why(&with_sense(0, &[])), "1 (form), sense 0 is not 1 to 3");
+        assert_eq!(why(&with_sense(4, &[])), "1 (form), sense 4 is not 1 to 3");
+        assert_eq!(why(&with(&[(9, 32)])), "12 (lamp), byte 32 is outside 33 to 126");
+        assert_eq!(why(&with(&[(26, 127)])), "12 (lamp), byte 127 is outside 33 to 126");
+        assert_eq!(read(&with(&[(9, 33), (26, 126)])).1, None);
+        let no_failure = "1 (form), gateways that no Failure has: from 3 to 4, origin 3";
+        assert_eq!(why(&with(&[(3, 4)])), no_failure);
+        let mut other_shelf = recorded(restock(6, 300, 1));
+        other_shelf[3] = 7;
+        assert_eq!(why(&other_shelf), "1 (form), gateways that no Restock has: from 6 to 7");
+        assert_eq!(why(&with_sense(1, &[])), "1 (form), a cancel and no plain event");
+        for sense in [2, 3] {
+            let acknowledgment = "1 (form), an acknowledgment and no plain event";
+            assert_eq!(why(&with_sense(sense, &[])), acknowledgment);
+        }
+        let start = "1 (form), kind 4, a frame of a round and no event";
+        assert_eq!(why(&recorded(START.into())), start);
+        let no_gateway = "2 (gateway number or addressee), gateway 255";
+        assert_eq!(why(&recorded(failure(255, 300, LAMP))), no_gateway);
+        let no_hour = "3 (hour past the last hour), hour 4294967295";
+        assert_eq!(why(&recorded(failure(3, NOTHING_DUE, LAMP))), no_hour);
+        assert_eq!(why(&with(&[])[..27]), "11 (length), cut: 0 of a state's 14 bytes");
+        assert_eq!(why(&with(&[])[..40]), "11 (length), cut: 13 of a state's 14 bytes");
+        assert_eq!(why(&with(&[(6, 0)])), "1 (form), not in event order");
+    }
+
+    /// Of two neighbours in the order of the reasons, where both hold, the first is named.
+    #[test]
+    fn the_first_reason_is_named() {
+        let number = |bytes: &[u8]| why(bytes).split_once(" ").unwrap().0.parse::<u32>().unwrap();
+        let map_of_one_byte_and_no_kind = with(&[(0, 0), (1, 7)]);
+        assert_eq!(number(&map_of_one_byte_and_no_kind), 11);
+        let no_kind_and_cut_frame = &with(&[(1, 7)])[..2];
+        assert_eq!(number(no_kind_and_cut_frame), 1);
+        let cut_frame_and_lamp = &with(&[(9, 32)])[..26];
+        assert_eq!(number(cut_frame_and_lamp), 11);
+        let sense_and_lamp = with_sense(4, &[(9, 32)]);
+        assert_eq!(number(&sense_and_lamp), 1);
+        let lamp_and_gateway_fields = with(&[(9, 32), (3, 4)]);
+        assert_eq!(number(&lamp_and_gateway_fields), 12);
+        let lamp_and_cancel = with_sense(1, &[(9, 32)]);
+        assert_eq!(number(&lamp_and_cancel), 12);
+        let gateway_fields_and_cancel = with_sense(1, &[(3, 4)]);
+        assert!(why(&gateway_fields_and_cancel).starts_with("1 (form), gateways"));
+        let cut_cancel = &with_sense(1, &[])[..27];
+        assert_eq!(number(cut_cancel), 11);
+        let cut_start = &START[..3];
+        assert_eq!(number(cut_start), 11);
+        let cancel_and_gateway_number =
+            recorded([&[191], &failure(255, 300, LAMP)[1..], &[1]].concat());
+        assert_eq!(number(&cancel_and_gateway_number), 1);
+        let gateway_fields_and_number = with(&[(3, 255)]);
+        assert_eq!(number(&gateway_fields_and_number), 1);
+        let gateway_number_and_hour = recorded(failure(255, NOTHING_DUE, LAMP));
+        assert_eq!(number(&gateway_number_and_hour), 2);
+        let hour_and_cut_state = &recorded(failure(3, NOTHING_DUE, LAMP))[..40];
+        assert_eq!(number(hour_and_cut_state), 3);
+        let cut_state_and_event_order = &with(&[(6, 0)])[..40];
+        assert_eq!(number(cut_state_and_event_order), 11);
     }
 
     #[test]

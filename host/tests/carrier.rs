@@ -1,9 +1,10 @@
 //! The carrier over the proved library: forecasts that end, one that cannot go on, and calls that answer what they never should.
 
 use host::carrier::{Forecast, Progress, Stopped, Want};
+use host::frame::REQUEST;
 use host::record::{Kind, Record, Records, State};
 use host::scenario::Scenario;
-use interface::{AgreedTime, Answer, Calls, Opening};
+use interface::{AgreedTime, Answer, Calls, LampPlace, Opening};
 use library::Library;
 
 /// Runs a scenario: how it ended, and each gateway's events.
@@ -122,13 +123,17 @@ impl Calls for Failing {
             number => AgreedTime { number, hour: 0 },
         }
     }
+
+    fn lamp(&self, frame: &[u8]) -> LampPlace {
+        Library.lamp(frame)
+    }
 }
 
 /// A round stops the forecast at any answer that it does not expect, and its frame is not lost.
 #[test]
 fn a_round_looks_at_every_answer() {
     let scenario = Scenario::parse(include_str!("../../examples/two/scenario")).unwrap();
-    for number in [1, 4, 5, 10] {
+    for number in [1, 4, 5, 10, 11, 12] {
         let calls = Failing { frame: number, agreed_time: 0 };
         let mut forecast = Forecast::new(calls, &scenario).unwrap();
         let expected = Stopped::Refused { gateway: 1, call: "a frame", number };
@@ -140,4 +145,31 @@ fn a_round_looks_at_every_answer() {
     let mut forecast = Forecast::new(calls, &scenario).unwrap();
     let expected = Stopped::Refused { gateway: 0, call: "the agreed time", number: 10 };
     assert_eq!(forecast.run(|_, _| ()), Err(expected));
+}
+
+/// What stops a forecast is printed with the number and what it means.
+#[test]
+fn a_refusal_is_named() {
+    let named = |call, number| Stopped::Refused { gateway: 3, call, number }.to_string();
+    assert_eq!(named("a frame", 1), "gateway 3 answered 1 (form) to a frame");
+    assert_eq!(named("work", 10), "gateway 3 answered 10 (memory not sound) to work");
+    assert_eq!(named("a frame", 11), "gateway 3 answered 11 (length) to a frame");
+    assert_eq!(named("set up", 12), "gateway 3 answered 12 (lamp) to set up");
+}
+
+/// An opening list that is cut is told from one with a mistyped lamp and from one with a message that it must not have.
+#[test]
+fn a_bad_opening_list_is_named() {
+    let stopped = |change: fn(&mut Vec<u8>)| {
+        let text = include_str!("../../examples/two/scenario");
+        let mut scenario = Scenario::parse(text).unwrap();
+        change(&mut scenario.gateways[0].list);
+        Forecast::new(Library, &scenario).err().unwrap().to_string()
+    };
+    let cut = stopped(|list| list.truncate(list.len() - 1));
+    assert_eq!(cut, "gateway 0 answered 11 (length) to set up");
+    let mistyped = stopped(|list| list[9] = b' ');
+    assert_eq!(mistyped, "gateway 0 answered 12 (lamp) to set up");
+    let request = stopped(|list| list[1] = REQUEST);
+    assert_eq!(request, "gateway 0 answered 1 (form) to set up");
 }

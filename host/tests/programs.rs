@@ -173,7 +173,8 @@ fn a_record_may_be_cut_anywhere() {
         if length == PLACES[events] {
             assert_eq!((status, error.as_str()), (Some(0), ""), "{length}");
         } else {
-            let begin = format!("standard input: no record at byte {}: 1, cut: ", PLACES[events]);
+            let place = PLACES[events];
+            let begin = format!("standard input: no record at byte {place}: 11 (length), ");
             assert_eq!(status, Some(1), "{length}");
             assert!(error.starts_with(&begin) && error.lines().count() == 1, "{length}: {error}");
         }
@@ -191,16 +192,26 @@ fn a_damaged_byte_is_found_whatever_is_picked() {
     };
     let begin = "standard input: no record at byte";
     assert_eq!(
+        damaged(PLACES[2], 0),
+        format!("{begin} 82: 11 (length), a frame of fewer than two bytes\n")
+    );
+    assert_eq!(
         damaged(PLACES[2] + 1, 7),
-        format!("{begin} 82: 1, map 63 with kind 7 is no plain event\n")
+        format!("{begin} 82: 1 (form), map 63 with kind 7, which no frame has\n")
     );
     assert_eq!(
         damaged(PLACES[2] + 26, 200),
-        format!("{begin} 82: 1, byte 200 in a lamp, whose characters are 33 to 126\n")
+        format!("{begin} 82: 12 (lamp), byte 200 is outside 33 to 126\n")
     );
-    assert_eq!(damaged(PLACES[2] + 7, 9), format!("{begin} 82: 1, not in event order\n"));
-    assert_eq!(damaged(PLACES[1] + 2, 255), format!("{begin} 41: 2, gateway 255\n"));
-    assert_eq!(damaged(PLACES[3] + 7, 255), format!("{begin} 123: 3, hour 4294967295\n"));
+    assert_eq!(damaged(PLACES[2] + 7, 9), format!("{begin} 82: 1 (form), not in event order\n"));
+    assert_eq!(
+        damaged(PLACES[1] + 2, 255),
+        format!("{begin} 41: 2 (gateway number or addressee), gateway 255\n")
+    );
+    assert_eq!(
+        damaged(PLACES[3] + 7, 255),
+        format!("{begin} 123: 3 (hour past the last hour), hour 4294967295\n")
+    );
 }
 
 #[test]
@@ -209,7 +220,8 @@ fn the_next_file_follows_a_bad_one() {
     let cut = file(&directory, "cut", &small()[..100]);
     let whole = file(&directory, "whole", &small());
     let missing = directory.join("missing").to_str().unwrap().to_string();
-    let no_record = format!("{cut}: no record at byte 82: 1, cut: 18 of a frame's 27 bytes\n");
+    let no_record =
+        format!("{cut}: no record at byte 82: 11 (length), cut: 18 of a frame's 27 bytes\n");
     let half = lines(TABLE, &[0, 1, 2]);
 
     let tables = format!("{cut}\n{half}\n{whole}\n{TABLE}");

@@ -45,7 +45,7 @@ pub struct Opening {
     pub outstanding_places: u32,
 }
 
-/// What a call answers: document 01's number (of work: why it stopped), 0 where nothing is refused.
+/// What a call answers: the number of documents 01 and 02 (of work: why it stopped), 0 where nothing is refused.
 #[derive(Clone, Copy, Debug, Default, PartialEq, Eq)]
 pub struct Answer {
     pub number: u32,
@@ -80,6 +80,20 @@ impl AgreedTime {
     }
 }
 
+/// Where the lamp of a frame begins: 0 and the place of its first byte, or a refusal's number and 0.
+#[derive(Clone, Copy, Debug, Default, PartialEq, Eq)]
+pub struct LampPlace {
+    pub number: u32,
+    pub place: usize,
+}
+
+impl LampPlace {
+    /// The number and 256 times the place, taken apart.
+    pub const fn unpacked(packed: u64) -> LampPlace {
+        LampPlace { number: packed as u32 & 0xff, place: (packed >> 8) as usize }
+    }
+}
+
 /// The calls. Memory is lent for the time of a call; a refusal leaves memory and output as they were.
 pub trait Calls {
     /// The neighbours of gateway `own`: two that it hears, then two that it tells, with
@@ -102,4 +116,7 @@ pub trait Calls {
     fn commit(&self, memory: &mut [u8], output: &mut [u8]) -> Answer;
 
     fn agreed_time(&self, memory: &[u8]) -> AgreedTime;
+
+    /// Reads the lamp of a frame: 0, or 1, 11 or 12 where the frame is refused, 1 too where it has no lamp.
+    fn lamp(&self, frame: &[u8]) -> LampPlace;
 }

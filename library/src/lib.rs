@@ -3,7 +3,7 @@
 //! Every call of C is here, and no other unsafe code. Slices of Rust keep what the library counts on:
 //! pointers to so many bytes, of which the written ones overlap nothing else.
 
-use interface::{AgreedTime, Answer, Calls, Opening};
+use interface::{AgreedTime, Answer, Calls, LampPlace, Opening};
 
 mod declared {
     //! The functions that `include/hurfaith.h` declares.
@@ -56,6 +56,7 @@ mod declared {
             output_length: usize,
         ) -> u64;
         pub fn hurfaith_agreed_time(memory: *const u8, memory_length: usize) -> u64;
+        pub fn hurfaith_lamp(frame: *const u8, frame_length: usize) -> u64;
     }
 }
 
@@ -146,5 +147,10 @@ impl Calls for Library {
         AgreedTime::unpacked(unsafe {
             declared::hurfaith_agreed_time(memory.as_ptr(), memory.len())
         })
+    }
+
+    fn lamp(&self, frame: &[u8]) -> LampPlace {
+        // SAFETY: the pointer and the length are those of one slice.
+        LampPlace::unpacked(unsafe { declared::hurfaith_lamp(frame.as_ptr(), frame.len()) })
     }
 }

@@ -1,6 +1,7 @@
 //! Frames of document 01: one byte, the map; then the fields whose bit stands, in bit order.
 
 use crate::model::{Hour, Kind, Lamp, Message};
+use crate::refusal::Reason;
 
 /// The width in bytes of the field of each bit: kind, from, to, hour, origin, lamp, quantity, sense.
 const WIDTHS: [usize; 8] = [1, 1, 1, 4, 1, 18, 2, 1];
@@ -46,40 +47,50 @@ struct Fields {
     sense: u8,
 }
 
-/// Reads a frame; `None` (answer 1) if the bytes are not exactly one of the forms.
-pub fn read(bytes: &[u8]) -> Option<Frame> {
-    let (&map, rest) = bytes.split_first()?;
-    let fields = Fields::read(map, rest)?;
-    if map & !SENSE_BIT != *MAPS.get(usize::from(fields.kind))? {
-        return None;
-    }
-    let sense = match (map & SENSE_BIT != 0, fields.sense) {
-        (false, _) => Sense::Plain,
-        (true, _) if fields.kind > 2 => return None,
-        (true, 1) => Sense::Cancel,
-        (true, 2) => Sense::Acknowledgment,
-        (true, 3) => Sense::AcknowledgmentOfCancel,
-        (true, _) => return None,
+/// Reads a frame, or tells the first reason why the bytes are not exactly one of the forms.
+pub fn read(bytes: &[u8]) -> Result<Frame, Reason> {
+    let &[map, kind, ..] = bytes else {
+        return Err(Reason::FewerThanTwoBytes);
     };
-    let Fields { from, to, hour, .. } = fields;
-    match fields.kind {
-        4 => Some(Frame::Start { from, to }),
-        5 => Some(Frame::Lvt { from, to, hour }),
-        6 => Some(Frame::Update { from, to, hour }),
-        _ => Some(Frame::Event { sense, message: fields.message()? }),
+    if !in_table(map, kind) {
+        return Err(Reason::MapAndKind);
+    }
+    let fields = Fields::read(map, &bytes[1..]).ok_or(Reason::Length)?;
+    let sense = fields.sense_of(map).ok_or(Reason::Sense)?;
+    if map & LAMP_BIT != 0 && !fields.lamp.iter().all(|byte| (33..=126).contains(byte)) {
+        return Err(Reason::Lamp);
+    }
+    let frame = fields.frame(sense);
+    match frame {
+        Frame::Event { message, .. } if !message.gateways_agree() => Err(Reason::GatewayFields),
+        _ => Ok(frame),
     }
 }
 
-/// The frames that stand one behind the other in a list; `None` for one that is of no valid form
-/// or cut.
-pub fn list(mut bytes: &[u8]) -> Vec<Option<Frame>> {
+/// The place of the lamp's first byte in a frame, behind the fields of the lower bits.
+pub fn lamp_place(bytes: &[u8]) -> Result<usize, Reason> {
+    let map = Fields::of(&read(bytes)?).map();
+    if map & LAMP_BIT == 0 {
+        return Err(Reason::FormNotTaken);
+    }
+    Ok(length(map & (LAMP_BIT - 1)))
+}
+
+/// The frames that stand one behind the other in a list, cut by the lengths of their maps.
+pub fn list(mut bytes: &[u8]) -> Vec<Result<Frame, Reason>> {
     let mut frames = Vec::new();
     while let Some(&map) = bytes.first() {
-        let split = bytes.split_at_checked(length(map));
-        frames.push(split.and_then(|(first, _)| read(first)));
-        bytes = split.map_or(&[], |(_, rest)| rest);
+        let (first, rest) = bytes.split_at(length(map).min(bytes.len()));
+        frames.push(read(first));
+        bytes = rest;
     }
     frames
+}
+
+/// The map is the kind's one map, with a sense only for kinds 0 to 2.
+fn in_table(map: u8, kind: u8) -> bool {
+    let without_sense = if kind <= 2 { map & !SENSE_BIT } else { map };
+    MAPS.get(usize::from(kind)) == Some(&without_sense)
 }
 
 /// The whole length of a frame with this map.
@@ -188,19 +199,33 @@ impl Fields {
         ]
     }
 
-    /// The message of kinds 0 to 3, if its lamp and its gateways are valid.
-    fn message(&self) -> Option<Message> {
+    /// The sense of a frame with this map, if it is one of the three where its bit stands.
+    fn sense_of(&self, map: u8) -> Option<Sense> {
+        match (map & SENSE_BIT != 0, self.sense) {
+            (false, _) => Some(Sense::Plain),
+            (true, 1) => Some(Sense::Cancel),
+            (true, 2) => Some(Sense::Acknowledgment),
+            (true, 3) => Some(Sense::AcknowledgmentOfCancel),
+            (true, _) => None,
+        }
+    }
+
+    /// The frame of a kind from 0 to 6.
+    fn frame(&self, sense: Sense) -> Frame {
         let Fields { from, to, hour, origin, lamp, quantity, .. } = *self;
-        let kind = match self.kind {
-            0 => Kind::Failure,
-            1 => Kind::Request,
-            2 => Kind::Delivery,
-            3 => Kind::Restock,
-            _ => return None,
+        let event = |kind| {
+            let message = Message { hour, kind, origin, lamp, quantity, from, to };
+            Frame::Event { sense, message }
         };
-        let message = Message { hour, kind, origin, lamp, quantity, from, to };
-        let lamp_valid = kind == Kind::Restock || lamp.iter().all(|byte| (33..=126).contains(byte));
-        (lamp_valid && message.gateways_agree()).then_some(message)
+        match self.kind {
+            0 => event(Kind::Failure),
+            1 => event(Kind::Request),
+            2 => event(Kind::Delivery),
+            3 => event(Kind::Restock),
+            4 => Frame::Start { from, to },
+            5 => Frame::Lvt { from, to, hour },
+            _ => Frame::Update { from, to, hour },
+        }
     }
 }
 
@@ -233,7 +258,7 @@ mod tests {
     fn plain_request() {
         let frame = Frame::Event { sense: Sense::Plain, message: request() };
         assert_eq!(write(&frame), request_bytes());
-        assert_eq!(read(&request_bytes()), Some(frame));
+        assert_eq!(read(&request_bytes()), Ok(frame));
         assert_eq!(line(&frame), "1 8 9 16909060 7 0 0 L00000000000000001");
     }
 
@@ -244,10 +269,11 @@ mod tests {
         for (sense, value) in senses.into_iter().zip(1..) {
             let frame = Frame::Event { sense, message: request() };
             assert_eq!(write(&frame), with(bytes.clone(), 27, value));
-            assert_eq!(read(&with(bytes.clone(), 27, value)), Some(frame));
+            assert_eq!(read(&with(bytes.clone(), 27, value)), Ok(frame));
         }
-        assert_eq!(read(&bytes), None, "sense 0");
-        assert_eq!(read(&with(bytes, 27, 4)), None, "sense 4");
+        for value in (0..=255).filter(|value| !(1..=3).contains(value)) {
+            assert_eq!(read(&with(bytes.clone(), 27, value)), Err(Reason::Sense), "sense {value}");
+        }
     }
 
     #[test]
@@ -275,10 +301,10 @@ mod tests {
         ];
         for (bytes, frame, text) in cases {
             assert_eq!(write(&frame), bytes);
-            assert_eq!(read(bytes), Some(frame));
+            assert_eq!(read(bytes), Ok(frame));
             assert_eq!(line(&frame), text);
             let with_sense = [&[bytes[0] | 128], &bytes[1..], &[1]].concat();
-            assert_eq!(read(&with_sense), None, "kinds 3 to 6 have no sense");
+            assert_eq!(read(&with_sense), Err(Reason::MapAndKind), "kinds 3 to 6 have no sense");
         }
     }
 
@@ -287,9 +313,13 @@ mod tests {
         let start = Frame::Start { from: 1, to: 2 };
         let request = Frame::Event { sense: Sense::Plain, message: request() };
         let bytes = [&request_bytes()[..], &[7, 4, 1, 2]].concat();
-        assert_eq!(list(&bytes), [Some(request), Some(start)]);
-        assert_eq!(list(&bytes[..30]), [Some(request), None], "a cut tail");
-        assert_eq!(list(&[0, 7, 4, 1, 2]), [None, Some(start)], "a map of no field");
+        assert_eq!(list(&bytes), [Ok(request), Ok(start)]);
+        assert_eq!(list(&bytes[..30]), [Ok(request), Err(Reason::Length)], "a cut tail");
+        let one_byte = Err(Reason::FewerThanTwoBytes);
+        assert_eq!(list(&bytes[..28]), [Ok(request), one_byte], "a tail of one byte");
+        assert_eq!(list(&[0, 7, 4, 1, 2]), [one_byte, Ok(start)], "a map of no field");
+        let tail = [&request_bytes()[..], &[63, 3, 1]].concat();
+        assert_eq!(list(&tail), [Ok(request), Err(Reason::MapAndKind)], "a cut tail of no kind");
         assert_eq!(list(&[]), []);
     }
 
@@ -306,18 +336,21 @@ mod tests {
     fn every_other_length_is_refused() {
         let bytes = request_bytes();
         for length in 0..bytes.len() {
-            assert_eq!(read(&bytes[..length]), None);
+            let reason = if length < 2 { Reason::FewerThanTwoBytes } else { Reason::Length };
+            assert_eq!(read(&bytes[..length]), Err(reason), "length {length}");
         }
-        assert_eq!(read(&[&bytes[..], &[0]].concat()), None);
+        assert_eq!(read(&[&bytes[..], &[0]].concat()), Err(Reason::Length));
     }
 
     #[test]
     fn every_other_map_and_kind_is_refused() {
-        for map in (0..=255).filter(|&map| map != 63) {
-            assert_eq!(read(&with(request_bytes(), 0, map)), None, "map {map}");
+        let refused = Err(Reason::MapAndKind);
+        for map in (0..=255).filter(|map| ![63, 63 + 128].contains(map)) {
+            assert_eq!(read(&with(request_bytes(), 0, map)), refused, "map {map}");
         }
+        assert_eq!(read(&with(request_bytes(), 0, 63 + 128)), Err(Reason::Length), "no sense");
         for kind in 3..=255 {
-            assert_eq!(read(&with(request_bytes(), 1, kind)), None, "kind {kind}");
+            assert_eq!(read(&with(request_bytes(), 1, kind)), refused, "kind {kind}");
         }
     }
 
@@ -325,27 +358,70 @@ mod tests {
     fn lamp_bytes_are_33_to_126() {
         for at in 9..27 {
             for value in 0..=255 {
-                let valid = read(&with(request_bytes(), at, value)).is_some();
-                assert_eq!(valid, (33..=126).contains(&value));
+                let reason = read(&with(request_bytes(), at, value)).err();
+                let valid = (33..=126).contains(&value);
+                assert_eq!(reason, (!valid).then_some(Reason::Lamp));
             }
         }
     }
 
     #[test]
     fn gateways_must_agree() {
-        let read_with = |kind, from, to, origin| {
-            let head = [63, kind, from, to, 0, 0, 0, 1, origin];
-            read(&[&head[..], &LAMP].concat()).is_some()
+        let agree = |bytes: &[u8]| match read(bytes) {
+            Ok(_) => true,
+            Err(reason) => {
+                assert_eq!(reason, Reason::GatewayFields);
+                false
+            }
         };
-        assert!(read_with(0, 5, 5, 5));
-        assert!(!read_with(0, 6, 5, 5));
-        assert!(!read_with(0, 5, 6, 5));
-        assert!(!read_with(0, 5, 5, 6));
-        assert!(read_with(1, 255, 254, 0));
-        assert!(read_with(2, 6, 5, 5));
-        assert!(!read_with(2, 5, 5, 6));
-        assert!(!read_with(2, 6, 5, 6));
-        assert!(read(&[79, 3, 6, 6, 0, 0, 0, 5, 1, 2]).is_some());
-        assert!(read(&[79, 3, 6, 7, 0, 0, 0, 5, 1, 2]).is_none());
+        let agree_with = |kind, from, to, origin| {
+            let head = [63, kind, from, to, 0, 0, 0, 1, origin];
+            agree(&[&head[..], &LAMP].concat())
+        };
+        assert!(agree_with(0, 5, 5, 5));
+        assert!(!agree_with(0, 6, 5, 5));
+        assert!(!agree_with(0, 5, 6, 5));
+        assert!(!agree_with(0, 5, 5, 6));
+        assert!(agree_with(1, 255, 254, 0));
+        assert!(agree_with(2, 6, 5, 5));
+        assert!(!agree_with(2, 5, 5, 6));
+        assert!(!agree_with(2, 6, 5, 6));
+        assert!(agree(&[79, 3, 6, 6, 0, 0, 0, 5, 1, 2]));
+        assert!(!agree(&[79, 3, 6, 7, 0, 0, 0, 5, 1, 2]));
+    }
+
+    /// Each frame has two faults that are neighbours in the order.
+    #[test]
+    fn the_first_reason_is_told() {
+        let reason = |bytes: &[u8]| read(bytes).unwrap_err();
+        assert_eq!(reason(&[9]), Reason::FewerThanTwoBytes, "and no map of a kind");
+        assert_eq!(reason(&[63, 7]), Reason::MapAndKind, "and a length of no map");
+        let failure = [&[63 + 128, 0, 5, 5, 0, 0, 0, 1, 5][..], &LAMP, &[1]].concat();
+        assert!(read(&failure).is_ok());
+        let sense_4 = with(failure.clone(), 27, 4);
+        assert_eq!(reason(&[&sense_4[..], &[0]].concat()), Reason::Length, "and sense 4");
+        assert_eq!(reason(&with(sense_4, 26, 32)), Reason::Sense, "and a bad lamp");
+        let bad_lamp = with(failure, 26, 127);
+        assert_eq!(reason(&with(bad_lamp, 2, 6)), Reason::Lamp, "and gateways that differ");
+    }
+
+    #[test]
+    fn the_place_of_the_lamp() {
+        let failure = [&[63, 0, 5, 5, 0, 0, 0, 1, 5][..], &LAMP].concat();
+        let cancel = with([failure.clone(), vec![1]].concat(), 0, 63 + 128);
+        for bytes in [&failure, &request_bytes(), &cancel] {
+            let place = lamp_place(bytes).unwrap();
+            assert_eq!(bytes[place..place + 18], LAMP);
+        }
+        assert_eq!(lamp_place(&[]), Err(Reason::FewerThanTwoBytes));
+        assert_eq!(lamp_place(&with(failure.clone(), 1, 3)), Err(Reason::MapAndKind));
+        assert_eq!(lamp_place(&failure[..26]), Err(Reason::Length));
+        assert_eq!(lamp_place(&with(cancel, 27, 0)), Err(Reason::Sense));
+        assert_eq!(lamp_place(&with(failure.clone(), 9, 32)), Err(Reason::Lamp));
+        assert_eq!(lamp_place(&with(failure, 8, 6)), Err(Reason::GatewayFields));
+        assert_eq!(lamp_place(&[79, 3, 6, 7, 0, 0, 0, 5, 1, 2]), Err(Reason::GatewayFields));
+        assert_eq!(lamp_place(&[79, 3, 6, 6, 0, 0, 0, 5, 1, 2]), Err(Reason::FormNotTaken));
+        assert_eq!(lamp_place(&[7, 4, 1, 2]), Err(Reason::FormNotTaken));
+        assert_eq!(lamp_place(&[7, 4, 1, 2, 3]), Err(Reason::Length), "a long Start");
     }
 }

@@ -1,25 +1,11 @@
-//! A gateway: its calls, what they turn down, and undoing (rollback).
+//! A gateway: its calls, the order in which they turn things down, and undoing (rollback).
 
 use crate::frame::{self, Frame, Sense};
 use crate::model::{self, Done, Hour, Kind, Message, Settings, State, MAX_LAST_HOUR, NOTHING_DUE};
 use crate::record;
+use crate::refusal::{Reason, Refusal};
 use crate::round::{self, Least, Round};
 use std::collections::VecDeque;
-
-/// Why a call is turned down, or why work stopped; the numbers are document 01's. 10 is
-/// `memory::Unsound`, as a gateway here is not kept in lent memory.
-#[derive(Clone, Copy, Debug, PartialEq, Eq)]
-pub enum Refusal {
-    Form = 1,
-    Number = 2,
-    PastLastHour = 3,
-    OutOfTurn = 4,
-    NoRoom = 5,
-    Nothing = 6,
-    NotOutstanding = 7,
-    Setting = 8,
-    BelowAgreed = 9,
-}
 
 /// What set up is given. Settings are wider than their ranges.
 #[derive(Clone, Debug)]
@@ -117,8 +103,8 @@ impl Gateway {
             round: Round::new(nodes, own),
         };
         for frame in frame::list(&setup.opening) {
-            let frame = frame.ok_or(Refusal::Form)?;
-            let message = opening_message(&frame).ok_or(Refusal::Form)?;
+            let frame = frame?;
+            let message = opening_message(&frame)?;
             gateway.check_limits(&frame)?;
             gateway.enter(message);
         }
@@ -144,7 +130,7 @@ impl Gateway {
 
     /// Takes a frame that the carrier brings.
     pub fn take(&mut self, bytes: &[u8], room: usize) -> Result<Vec<Frame>, Refusal> {
-        let frame = frame::read(bytes).filter(is_carried).ok_or(Refusal::Form)?;
+        let frame = carried(bytes)?;
         self.check_limits(&frame)?;
         self.check_agreed(&frame)?;
         self.attempt(room, |next, output| match frame {
@@ -358,19 +344,24 @@ impl Gateway {
     }
 }
 
-/// The message of a frame that an opening list may hold.
-fn opening_message(frame: &Frame) -> Option<Message> {
-    match *frame {
-        Frame::Event { sense: Sense::Plain, message } => {
-            matches!(message.kind, Kind::Failure | Kind::Restock).then_some(message)
-        }
-        _ => None,
+/// Reads a frame that the carrier brings: every form but a Restock.
+pub fn carried(bytes: &[u8]) -> Result<Frame, Reason> {
+    match frame::read(bytes)? {
+        Frame::Event { message, .. } if message.kind == Kind::Restock => Err(Reason::FormNotTaken),
+        frame => Ok(frame),
     }
 }
 
-/// The carrier brings every form but a Restock.
-fn is_carried(frame: &Frame) -> bool {
-    !matches!(frame, Frame::Event { message, .. } if message.kind == Kind::Restock)
+/// The message of a frame that an opening list may hold.
+fn opening_message(frame: &Frame) -> Result<Message, Reason> {
+    match *frame {
+        Frame::Event { sense: Sense::Plain, message }
+            if matches!(message.kind, Kind::Failure | Kind::Restock) =>
+        {
+            Ok(message)
+        }
+        _ => Err(Reason::FormNotTaken),
+    }
 }
 
 /// The bytes that frames take in the output.
@@ -640,8 +631,7 @@ mod tests {
         let message = request(60, LAMP_1, 0, 1);
         let of = |gateway: &Gateway, message| refuses(gateway, plain(message));
 
-        assert_eq!(gateway.clone().take(&[], AMPLE), Err(Refusal::Form));
-        assert_eq!(of(&gateway, restock(7, 900, 1)), Refusal::Form);
+        assert_eq!(of(&gateway, restock(7, 900, 1)), Refusal::Frame(Reason::FormNotTaken));
         assert_eq!(of(&gateway, Message { from: 2, hour: 900, ..message }), Refusal::Number);
         assert_eq!(of(&gateway, Message { origin: 2, hour: 900, ..message }), Refusal::Number);
         assert_eq!(of(&gateway, Message { to: 0, hour: 900, ..message }), Refusal::Number);
@@ -733,7 +723,8 @@ mod tests {
         for change in settings {
             assert_eq!(answer(&|setup| change(setup)), Some(Refusal::Setting));
         }
-        assert_eq!(answer(&|setup| setup.opening.truncate(36)), Some(Refusal::Form), "cut");
+        let cut = answer(&|setup| setup.opening.truncate(36));
+        assert_eq!(cut, Some(Refusal::Frame(Reason::Length)));
         assert_eq!(answer(&|setup| setup.own = 1), Some(Refusal::Number));
         assert_eq!(answer(&|setup| setup.last_hour = 99), Some(Refusal::PastLastHour));
         assert_eq!(answer(&|setup| setup.queue_places = 1), Some(Refusal::NoRoom));
@@ -744,16 +735,97 @@ mod tests {
                 setup.opening.extend(frame::write(&frame));
             })
         };
-        assert_eq!(with(plain(request(7, LAMP_1, 0, 0))), Some(Refusal::Form));
-        assert_eq!(with(event(Sense::Cancel, opening[0])), Some(Refusal::Form));
-        assert_eq!(with(Frame::Start { from: 0, to: 0 }), Some(Refusal::Form));
+        let not_taken = Some(Refusal::Frame(Reason::FormNotTaken));
+        assert_eq!(with(plain(request(7, LAMP_1, 0, 0))), not_taken);
+        assert_eq!(with(event(Sense::Cancel, opening[0])), not_taken);
+        assert_eq!(with(Frame::Start { from: 0, to: 0 }), not_taken);
         assert_eq!(with(plain(failure(2, 101, LAMP_1))), Some(Refusal::Number));
         assert_eq!(with(plain(failure(0, 101, LAMP_1))), Some(Refusal::PastLastHour));
         assert_eq!(with(plain(failure(0, 7, LAMP_1))), Some(Refusal::NoRoom));
-        let early_number = answer(&|setup| {
-            let first = frame::write(&plain(failure(1, 7, LAMP_1)));
-            setup.opening = [first, vec![0]].concat();
-        });
-        assert_eq!(early_number, Some(Refusal::Number), "each frame's refusals in turn");
+    }
+
+    /// What taking the bytes, and an opening list that ends with them, are refused for.
+    fn reasons(bytes: &[u8]) -> [Refusal; 2] {
+        let mut gateway = gateway(0, 0, &[failure(0, 7, LAMP_1)]);
+        let mut setup = setup(2, 0, 1, 0, 100, &[failure(0, 7, LAMP_1)]);
+        setup.opening.extend(bytes);
+        let before = gateway.clone();
+        let taken = gateway.take(bytes, AMPLE).expect_err("a refusal");
+        assert_eq!(gateway, before, "a refusal writes nothing");
+        [taken, Gateway::set_up(&setup).expect_err("a refusal")]
+    }
+
+    /// The frame with one byte changed.
+    fn changed(frame: &Frame, at: usize, value: u8) -> Vec<u8> {
+        let mut bytes = frame::write(frame);
+        bytes[at] = value;
+        bytes
+    }
+
+    #[test]
+    fn taking_and_set_up_tell_the_reasons_of_a_frame() {
+        let both = |bytes: &[u8], reason| {
+            assert_eq!(reasons(bytes), [Refusal::Frame(reason); 2], "{bytes:?}");
+        };
+        let failure = plain(failure(0, 7, LAMP_1));
+        let cancel = event(Sense::Cancel, request(7, LAMP_1, 0, 0));
+        let restock = frame::write(&plain(restock(0, 7, 9)));
+
+        both(&[63], Reason::FewerThanTwoBytes);
+        both(&[0], Reason::FewerThanTwoBytes);
+        both(&[63, 3], Reason::MapAndKind);
+        both(&frame::write(&failure)[..26], Reason::Length);
+        both(&changed(&cancel, 27, 4), Reason::Sense);
+        both(&changed(&failure, 26, 127), Reason::Lamp);
+        both(&changed(&failure, 8, 1), Reason::GatewayFields);
+        both(&restock[..9], Reason::Length);
+
+        let form = Refusal::Frame(Reason::FormNotTaken);
+        assert_eq!(gateway(0, 0, &[]).take(&restock, AMPLE), Err(form));
+        let nothing = gateway(0, 0, &[]).take(&[], AMPLE);
+        assert_eq!(nothing, Err(Refusal::Frame(Reason::FewerThanTwoBytes)));
+        let long = [&frame::write(&failure)[..], &[9]].concat();
+        let taken = gateway(0, 0, &[]).take(&long, AMPLE);
+        assert_eq!(taken, Err(Refusal::Frame(Reason::Length)));
+    }
+
+    /// Each frame has two faults that are neighbours in the order.
+    #[test]
+    fn the_first_reason_of_a_frame_is_told() {
+        let both = |bytes: &[u8], reason| {
+            assert_eq!(reasons(bytes), [Refusal::Frame(reason); 2], "{bytes:?}");
+        };
+        let set_up = |bytes: &[u8], reason| assert_eq!(reasons(bytes)[1], Refusal::Frame(reason));
+        let cancel = event(Sense::Cancel, failure(0, 7, LAMP_1));
+
+        both(&[9], Reason::FewerThanTwoBytes);
+        both(&[63, 7], Reason::MapAndKind);
+        let mut sense_4 = changed(&cancel, 27, 4);
+        sense_4[9] = 32;
+        both(&sense_4[..27], Reason::Length);
+        both(&sense_4, Reason::Sense);
+        let mut bad_lamp = changed(&cancel, 9, 32);
+        bad_lamp[8] = 1;
+        both(&bad_lamp, Reason::Lamp);
+        set_up(&changed(&cancel, 8, 1), Reason::GatewayFields);
+        let restock = changed(&plain(restock(0, 7, 9)), 3, 1);
+        assert_eq!(reasons(&restock)[0], Refusal::Frame(Reason::GatewayFields));
+
+        let to_2 = plain(request(101, LAMP_1, 0, 2));
+        set_up(&changed(&to_2, 9, 32), Reason::Lamp);
+        set_up(&frame::write(&to_2), Reason::FormNotTaken);
+    }
+
+    #[test]
+    fn an_opening_list_is_refused_frame_after_frame() {
+        let answer = |first: Message, behind: &[u8]| {
+            let mut setup = setup(2, 0, 1, 0, 100, &[first]);
+            setup.opening.extend(behind);
+            Gateway::set_up(&setup).err()
+        };
+        assert_eq!(answer(failure(1, 7, LAMP_1), &[0]), Some(Refusal::Number));
+        assert_eq!(answer(failure(0, 101, LAMP_1), &[0]), Some(Refusal::PastLastHour));
+        let tail = Some(Refusal::Frame(Reason::FewerThanTwoBytes));
+        assert_eq!(answer(failure(0, 100, LAMP_1), &[0]), tail);
     }
 }

@@ -1,4 +1,4 @@
-//! The rules of document 01 written again from the papers, for comparison.
+//! The rules of document 01 and request (a) of document 02 written again from the papers, for comparison.
 
 pub mod arcs;
 pub mod carrier;
@@ -11,6 +11,7 @@ pub mod memory;
 pub mod model;
 pub mod queue;
 pub mod record;
+pub mod refusal;
 pub mod round;
 pub mod routing;
 pub mod run;

@@ -13,11 +13,11 @@ usage: peer arcs <NUMBER
 ";
 
 const HELP: &str = "
-The rules of document 01 written a second time, for comparison.
+The rules of document 01 and request (a) of document 02 written a second time, for comparison.
 
   arcs           the arcs between a NUMBER of gateways, as the program arcs prints them
-  frames         a line for each item of a STREAM of candidate frames: 1 if it is refused, else its
-                 kind, from, to, hour, origin, quantity, sense and lamp
+  frames         a line for each item of a STREAM of candidate frames: the number and the reason if
+                 it is refused, else its kind, from, to, hour, origin, quantity, sense and lamp
   examples       the examples of document 01, run by the gateways and by the single queue
   sample-frames  a stream of COUNT items, valid and damaged frames, the same for the same SEED
   run            COUNT random forecasts, drawn from SEED on, each compared with the single queue

@@ -260,7 +260,7 @@ fn message(place: &[u8], sense: Sense) -> Option<Message> {
         to: place[3],
     };
     let frame = Frame::Event { sense, message };
-    (frame::read(&frame::write(&frame)) == Some(frame)).then_some(message)
+    (frame::read(&frame::write(&frame)) == Ok(frame)).then_some(message)
 }
 
 /// A stored message's numbers and hour; `here` is its gateway that must be this one.

@@ -12,7 +12,7 @@ pub fn records(setups: &[Setup]) -> Vec<Vec<Done>> {
     let mut records = vec![Vec::new(); setups.len()];
     let mut list = BinaryHeap::new();
     for frame in setups.iter().flat_map(|setup| frame::list(&setup.opening)) {
-        if let Some(Frame::Event { message, .. }) = frame {
+        if let Ok(Frame::Event { message, .. }) = frame {
             list.push(Reverse(message));
         }
     }

@@ -1,8 +1,8 @@
 //! A gateway's part in the rounds that find the agreed time (global virtual time).
 
 use crate::frame::Frame;
-use crate::gateway::Refusal;
 use crate::model::{Hour, NOTHING_DUE};
+use crate::refusal::Refusal;
 use crate::routing::{self, Neighbours};
 
 /// The round as one gateway knows it.

@@ -1,10 +1,11 @@
 //! A run: the gateways of a forecast, the frames under way, and what must hold after every call.
 
 use crate::frame::{self, Frame, Sense};
-use crate::gateway::{Gateway, Refusal, Setup};
+use crate::gateway::{Gateway, Setup};
 use crate::model::{Done, Hour, NOTHING_DUE};
 use crate::queue;
 use crate::record;
+use crate::refusal::Refusal;
 use crate::round;
 use crate::under_way::{check_agreed, Carried, UnderWay, Wrong};
 

@@ -68,6 +68,9 @@ const DAMAGES: [Damage; 20] = [
     Damage::Empty,
 ];
 
+/// The least multiple of the numbers of forms and of ways of damage.
+const BOTH: usize = 80;
+
 /// Values for the fields of the next frame.
 struct Values {
     hour: Hour,
@@ -79,15 +82,16 @@ struct Values {
 }
 
 /// A stream of `count` items, in threes: a valid frame, one that differs from it in a field or two,
-/// and that one damaged. All forms come in turn, then again with the next way of damage, so that
-/// 3 x 16 x 20 = 960 items damage every form in every way.
+/// and that one damaged. All forms come in turn, and all ways of damage. After 80 threes both begin
+/// again together, and the ways go one further, so that 3 x 16 x 20 = 960 items damage every form in
+/// every way.
 pub fn frames(seed: u32, count: usize) -> Vec<u8> {
     let mut generator = Generator::new(seed);
     let mut values = Values { hour: 0, from: 0, to: 0, origin: 0, quantity: 0, lamp: *LAMPS[0] };
     let mut bytes = Vec::new();
     for number in 0..count {
-        let form = number / 3 % FORMS;
-        let way = DAMAGES[number / 3 / FORMS % DAMAGES.len()];
+        let three = number / 3;
+        let form = three % FORMS;
         match number % 3 {
             0 => values.change_half(&mut generator),
             1 => values.change_few(&mut generator),
@@ -95,11 +99,16 @@ pub fn frames(seed: u32, count: usize) -> Vec<u8> {
         }
         let mut item = frame::write(&values.frame(form));
         if number % 3 == 2 {
-            item = damage(way, item, &mut generator);
+            item = damage(DAMAGES[way(three)], item, &mut generator);
         }
         stream::append(&mut bytes, &item);
     }
     bytes
+}
+
+/// The place among the ways of damage for the third item of a three.
+fn way(three: usize) -> usize {
+    (three + three / BOTH) % DAMAGES.len()
 }
 
 impl Values {
@@ -226,6 +235,8 @@ fn random_bytes(generator: &mut Generator) -> Vec<u8> {
 #[cfg(test)]
 mod tests {
     use super::*;
+    use crate::refusal::{Reason, REASONS};
+    use std::collections::BTreeSet;
 
     const WHOLE_SAMPLE: usize = 3 * FORMS * DAMAGES.len();
 
@@ -247,14 +258,29 @@ mod tests {
             assert_eq!(lines.lines().count(), WHOLE_SAMPLE);
             assert!(!lines.contains("differs"));
             for (number, line) in lines.lines().enumerate() {
-                assert!(number % 3 == 2 || line != "1", "item {number} is valid");
+                assert!(number % 3 == 2 || !is_refused(line), "item {number} is valid");
             }
         }
     }
 
     #[test]
-    fn many_damaged_frames_are_refused() {
+    fn every_form_is_damaged_in_every_way() {
+        let pairs = (0..FORMS * DAMAGES.len()).map(|three| (three % FORMS, way(three)));
+        assert_eq!(pairs.collect::<BTreeSet<_>>().len(), FORMS * DAMAGES.len());
+    }
+
+    #[test]
+    fn many_damaged_frames_are_refused_and_for_every_reason() {
         let lines = stream::frame_lines(&frames(1, WHOLE_SAMPLE));
-        assert!(lines.lines().filter(|&line| line == "1").count() > 150);
+        assert!(lines.lines().filter(|line| is_refused(line)).count() > 150);
+        for reason in REASONS.iter().filter(|&&reason| reason != Reason::FormNotTaken) {
+            let text = reason.to_string();
+            assert!(lines.lines().any(|line| line == text), "{text}");
+        }
+    }
+
+    /// A reason has a colon and a blank in it, and no line of fields has.
+    fn is_refused(line: &str) -> bool {
+        line.contains(": ")
     }
 }

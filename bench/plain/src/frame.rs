@@ -1,6 +1,7 @@
 //! Reading frames, and putting them one behind the other into an output.
 
 use crate::message::{Kind, Message, State};
+use crate::refusal;
 
 #[derive(Clone, Copy, Debug, PartialEq, Eq)]
 pub enum Sense {
@@ -28,6 +29,10 @@ impl Frame {
 /// The one map of each kind.
 const MAPS: [u8; 7] = [63, 63, 63, 79, 7, 15, 15];
 const SENSE_BIT: u8 = 128;
+
+/// Where the lamp and the sense stand in frames that have them.
+const LAMP_AT: usize = 9;
+const SENSE_AT: usize = 27;
 
 /// The whole length of a frame with each map.
 static LENGTHS: [u8; 256] = lengths();
@@ -59,37 +64,58 @@ pub fn plain_length(kind: Kind) -> usize {
     length(MAPS[kind as usize])
 }
 
-/// The frame that bytes are; `None` if they are not exactly one of the forms.
-pub fn read(bytes: &[u8]) -> Option<Frame> {
-    let (&map, &number) = (bytes.first()?, bytes.get(1)?);
-    let kind = Kind::from_number(number)?;
+/// The frame that bytes are, or the number of what is wrong with them first.
+pub fn read(bytes: &[u8]) -> Result<Frame, u32> {
+    let &[map, number, ..] = bytes else {
+        return Err(refusal::LENGTH);
+    };
+    let kind = Kind::from_number(number).ok_or(refusal::FORM)?;
     let with_sense = map & SENSE_BIT != 0;
     if map & !SENSE_BIT != MAPS[kind as usize] || with_sense && !kind.has_lamp() {
-        return None;
+        return Err(refusal::FORM);
     }
     if bytes.len() != length(map) {
-        return None;
+        return Err(refusal::LENGTH);
     }
-    let hour = match kind {
-        Kind::Start => 0,
-        _ => u32::from_be_bytes(bytes[4..8].try_into().ok()?),
-    };
-    let (mut origin, mut lamp, mut quantity) = (0, [0; 18], 0);
-    if kind.has_lamp() {
-        origin = bytes[8];
-        lamp = bytes[9..27].try_into().ok()?;
-    } else if kind == Kind::Restock {
-        quantity = u16::from_be_bytes([bytes[8], bytes[9]]);
-    }
-    let sense = match (with_sense, bytes.get(27)) {
+    let sense = match (with_sense, bytes.get(SENSE_AT)) {
         (false, _) => Sense::Plain,
         (true, Some(1)) => Sense::Cancel,
         (true, Some(2)) => Sense::Acknowledgment,
         (true, Some(3)) => Sense::CancelAcknowledgment,
-        _ => return None,
+        _ => return Err(refusal::FORM),
     };
-    let message = Message { hour, kind, origin, lamp, quantity, from: bytes[2], to: bytes[3] };
-    (message.lamp_fits() && message.gateways_agree()).then_some(Frame { message, sense })
+    let message = message(kind, bytes);
+    if !message.lamp_fits() {
+        return Err(refusal::LAMP);
+    }
+    if !message.gateways_agree() {
+        return Err(refusal::FORM);
+    }
+    Ok(Frame { message, sense })
+}
+
+/// The fields of a frame that is as long as its kind's.
+fn message(kind: Kind, bytes: &[u8]) -> Message {
+    let hour = match kind {
+        Kind::Start => 0,
+        _ => u32::from_be_bytes([bytes[4], bytes[5], bytes[6], bytes[7]]),
+    };
+    let (mut origin, mut lamp, mut quantity) = (0, [0; 18], 0);
+    if kind.has_lamp() {
+        origin = bytes[8];
+        lamp.copy_from_slice(&bytes[LAMP_AT..SENSE_AT]);
+    } else if kind == Kind::Restock {
+        quantity = u16::from_be_bytes([bytes[8], bytes[9]]);
+    }
+    Message { hour, kind, origin, lamp, quantity, from: bytes[2], to: bytes[3] }
+}
+
+/// Where the lamp of a frame begins, or a number; a frame without a lamp is refused.
+pub fn lamp_place(bytes: &[u8]) -> Result<usize, u32> {
+    match read(bytes)?.message.kind.has_lamp() {
+        true => Ok(LAMP_AT),
+        false => Err(refusal::FORM),
+    }
 }
 
 /// Frames one behind the other.

@@ -15,11 +15,11 @@ mod routing;
 mod soundness;
 
 use frame::{Frame, Output, Sense};
-use interface::{AgreedTime, Answer, Calls, Opening, NOTHING_DUE};
+use interface::{AgreedTime, Answer, Calls, LampPlace, Opening, NOTHING_DUE};
 use memory::Header;
 use message::Kind;
 
-/// Document 01's numbers of refusals.
+/// The numbers of refusals of documents 01 and 02.
 pub(crate) mod refusal {
     pub const FORM: u32 = 1;
     pub const NUMBER: u32 = 2;
@@ -31,6 +31,8 @@ pub(crate) mod refusal {
     pub const SETTING: u32 = 8;
     pub const BELOW_AGREED: u32 = 9;
     pub const UNSOUND: u32 = 10;
+    pub const LENGTH: u32 = 11;
+    pub const LAMP: u32 = 12;
 }
 
 /// Plain Rust.
@@ -87,6 +89,13 @@ impl Calls for Plain {
             None => AgreedTime { number: refusal::UNSOUND, hour: 0 },
         }
     }
+
+    fn lamp(&self, frame: &[u8]) -> LampPlace {
+        match frame::lamp_place(frame) {
+            Ok(place) => LampPlace { number: 0, place },
+            Err(number) => LampPlace { number, place: 0 },
+        }
+    }
 }
 
 fn refused(number: u32) -> Answer {
@@ -106,8 +115,10 @@ fn accepted<'a>(
 
 fn take(memory: &mut [u8], bytes: &[u8], output: &mut Output) -> Result<(), u32> {
     let header = soundness::sound(memory).ok_or(refusal::UNSOUND)?;
-    let frame = frame::read(bytes).filter(|frame| frame.message.kind != Kind::Restock);
-    let frame = frame.ok_or(refusal::FORM)?;
+    let frame = frame::read(bytes)?;
+    if frame.message.kind == Kind::Restock {
+        return Err(refusal::FORM);
+    }
     check_limits(&header, &frame)?;
     let Frame { message, sense } = frame;
     match (message.kind, sense) {

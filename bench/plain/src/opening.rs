@@ -20,9 +20,7 @@ pub fn set_up(memory: &mut [u8], list: &[u8], opening: &Opening) -> Result<(), u
         return Err(refusal::NO_ROOM);
     }
     for bytes in frames(list) {
-        if let Some(frame) = frame::read(bytes) {
-            enter(memory, &mut header, &frame);
-        }
+        enter(memory, &mut header, &frame::read(bytes)?);
     }
     header.write(memory);
     Ok(())
@@ -69,10 +67,10 @@ fn frames(mut list: &[u8]) -> impl Iterator<Item = &[u8]> {
 }
 
 fn check(header: &Header, bytes: &[u8]) -> Result<(), u32> {
-    let may_open = |frame: &Frame| {
-        frame.sense == Sense::Plain && matches!(frame.message.kind, Kind::Failure | Kind::Restock)
-    };
-    let frame = frame::read(bytes).filter(may_open).ok_or(refusal::FORM)?;
+    let frame = frame::read(bytes)?;
+    if frame.sense != Sense::Plain || !matches!(frame.message.kind, Kind::Failure | Kind::Restock) {
+        return Err(refusal::FORM);
+    }
     check_limits(header, &frame)
 }
 

@@ -7,16 +7,16 @@ use mathlib.Core.Logic.{_⊎_, inl, inr, ⊎-elim}
 use mathlib.Core.List.{List}
 use lib.Dec.{eqb}
 use lib.ListN.{length, getD}
-use borrow.Author.Tests.{leb-true, ltb-true, eqb-true}
+use borrow.Author.Tests.{leb-true, ltb-true, eqb-true, eq-eqb, ne-eqb}
 use Rattle.lists.proofs.BoolLaws.{and-left}
 use Rattle.model.specs.Messages.{kindNumber, kindOf}
 use Rattle.frame.specs.Layout.{odd, wholeLength}
 use Rattle.frame.specs.Writing.{lampFits, gatewaysAgree}
 use Rattle.frame.specs.Reasons.{fieldsOf, frameOf, mapFits, senseFits, unless, fieldsForm, formOf, isGood, formNumber, formRefusal, readAs, reading}
 use Rattle.buffer.proofs.Readings.{read-one}
-use Rattle.frame.specs.Lamps.{carriesLamp}
+use Rattle.frame.specs.Lamps.{lampForm, carriesLamp, lampRefusal}
 use Rattle.frame.proofs.Presence.{lamp-kinds}
-use Rattle.frame.proofs.FormNumbers.{good-form, form-both}
+use Rattle.frame.proofs.FormNumbers.{good-number, good-form, form-both}
 use Rattle.frame.specs.declared.Frame.{Frame}
 use Rattle.frame.specs.declared.Form.{Form}
 use Rattle.frame.specs.declared.Reading.{Reading}
@@ -128,20 +128,33 @@ kind-byte s p = by (table (getD s 0 0) (getD s 1 0) (p .map))
     by (start e h) = from 7 e refl
     by (hourly e h k) = from 15 e refl
 
--- a frame with a lamp has at least 27 bytes
-pub lamp-inside : (s : List ℕ) → carriesLamp (reading s) ≡ true → 27 ≤ length s
-unfolding wholeLength
-lamp-inside s e =
+-- there is a lamp just where reading it is not refused
+pub lamp-carried : (s : List ℕ) → lampRefusal s ≡ 0 → carriesLamp (reading s) ≡ true
+lamp-carried s h = good-number (lampForm (reading s)) ∙ eq-eqb (lampRefusal s) 0 h
+
+pub lamp-not-carried : (s : List ℕ) → (lampRefusal s ≡ 0 → ⊥) → carriesLamp (reading s) ≡ false
+lamp-not-carried s h = good-number (lampForm (reading s)) ∙ ne-eqb (lampRefusal s) 0 h
+
+-- a frame with a lamp has one of two maps
+pub lamp-maps : (s : List ℕ) → carriesLamp (reading s) ≡ true → Passes s × ((getD s 0 0 ≡ 63) ⊎ (getD s 0 0 ≡ 191))
+lamp-maps s e =
     let both = form-both _ (reading s .form) e in
     let p : Passes s = accepted s (good-form (reading s .form) (both .0)) in
-    by p (table (getD s 0 0) (getD s 1 0) (p .map)) (leb-true _ 2 (sym (lamp-kinds _) ∙ both .1))
+    (p, by p (table (getD s 0 0) (getD s 1 0) (p .map)) (leb-true _ 2 (sym (lamp-kinds _) ∙ both .1)))
   where
     kind : (p : Passes s) → getD s 1 0 < 7 → kindNumber (reading s .frame .message .kind) ≡ getD s 1 0
     kind p h = ap (λ (f : Frame). kindNumber (f .message .kind)) (p .frame) ∙ kind-back (fieldsOf s .kind) _ _ (rw (kind-byte s p) h) ∙ kind-byte s p
 
-    by : (p : Passes s) → Table (getD s 0 0) (getD s 1 0) → kindNumber (reading s .frame .message .kind) ≤ 2 → 27 ≤ length s
-    by p (plain q h) k = let size = rw q at (p .whole) in omega arith
-    by p (sensed q h) k = let size = rw q at (p .whole) in omega arith
+    by : (p : Passes s) → Table (getD s 0 0) (getD s 1 0) → kindNumber (reading s .frame .message .kind) ≤ 2 → (getD s 0 0 ≡ 63) ⊎ (getD s 0 0 ≡ 191)
+    by p (plain q h) k = inl q
+    by p (sensed q h) k = inr q
     by p (restock q h) k = let same = kind p (omega arith) in absurd (omega arith)
     by p (start q h) k = let same = kind p (omega arith) in absurd (omega arith)
     by p (hourly q h j) k = let same = kind p (omega arith) in absurd (omega arith)
+
+-- so it has at least 27 bytes
+pub lamp-inside : (s : List ℕ) → carriesLamp (reading s) ≡ true → 27 ≤ length s
+unfolding wholeLength
+lamp-inside s e =
+    let (p, maps) = lamp-maps s e in
+    ⊎-elim (λ q. let size = rw q at (p .whole) in omega arith) (λ q. let size = rw q at (p .whole) in omega arith) maps

@@ -1,6 +1,6 @@
 -- Laws of the reasons for which a byte string is refused, and of their numbers.
 use mathlib.Core.Path.{_≡_, refl, sym, _∙_}
-use Prim.Native.Nat.{_<_}
+use Prim.Native.Nat.{ℕ, _<_}
 use native.Mathlib.Omega.{arith}
 use mathlib.Core.Bool.{Bool, true, false, not, _&&_, false≢true}
 use lib.Dec.{eqb}
@@ -56,13 +56,20 @@ number-small NotTaken = omega arith
 pub form-passes : (taken : Bool) (form : Form) → isGood (formWhere taken form) ≡ (isGood form && taken)
 form-passes true Good = refl
 form-passes false Good = refl
-form-passes taken TooShort = refl
-form-passes taken WrongMap = refl
-form-passes taken WrongLength = refl
-form-passes taken WrongSense = refl
-form-passes taken WrongLamp = refl
-form-passes taken WrongGateways = refl
-form-passes taken NotTaken = refl
+form-passes true TooShort = refl
+form-passes false TooShort = refl
+form-passes true WrongMap = refl
+form-passes false WrongMap = refl
+form-passes true WrongLength = refl
+form-passes false WrongLength = refl
+form-passes true WrongSense = refl
+form-passes false WrongSense = refl
+form-passes true WrongLamp = refl
+form-passes false WrongLamp = refl
+form-passes true WrongGateways = refl
+form-passes false WrongGateways = refl
+form-passes true NotTaken = refl
+form-passes false NotTaken = refl
 
 -- and so by its number
 pub number-passes : (taken : Bool) (form : Form) → eqb (formNumber (formWhere taken form)) 0 ≡ (isGood form && taken)
@@ -77,12 +84,12 @@ form-both taken form e = by (isGood form) taken (sym (form-passes taken form) �
 
 -- the branches of the code that finds it
 module _ (taken : Bool) (form : Form) {good : Bool} (e : good ≡ isGood form) where
-  pub form-kept : not good ≡ true → form ≡ formWhere taken form
-  form-kept h = rw (sym e ∙ not-true good h)
+  pub form-kept : {number : ℕ} → not good ≡ true → number ≡ formNumber form → number ≡ formNumber (formWhere taken form)
+  form-kept h n = n ∙ rw (sym e ∙ not-true good h)
 
   module _ (h : not good ≡ false) where
-    pub form-taken : taken ≡ true → Good ≡ formWhere taken form
+    pub form-taken : taken ≡ true → 0 ≡ formNumber (formWhere taken form)
     form-taken t = rw (sym e ∙ not-false good h, t)
 
-    pub form-not-taken : taken ≡ false → NotTaken ≡ formWhere taken form
-    form-not-taken t = rw (sym e ∙ not-false good h, t)
+    pub form-not-taken : {number : ℕ} → taken ≡ false → number ≡ formNumber NotTaken → number ≡ formNumber (formWhere taken form)
+    form-not-taken t n = n ∙ rw (sym e ∙ not-false good h, t)

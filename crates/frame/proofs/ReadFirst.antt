@@ -318,21 +318,22 @@ cut-small at map (w ∷ ws) s zero b = by (odd map)
     by false = rw (no-bytes s at) (one-le-pow w 256 (omega arith))
 cut-small at map (w ∷ ws) s (suc i) b = cut-small (at + cond (odd map) w 0) (map / 2) ws s i b
 
+-- where the lamp stands
+pub lamp-part : (s : List ℕ) → getD s 0 0 ≡ 63 ⊎ getD s 0 0 ≡ 191 → 27 ≤ length s → fieldsOf s .lamp ≡ part s 9 18
+unfolding fieldsOf
+lamp-part s (inl e) h = rw e (lamp-bytes s 9 h)
+lamp-part s (inr e) h = rw e (lamp-bytes s 9 h)
+
 module _ (s : List ℕ) (b : Bytes s) (p : Passes s) where
   abbrev LampRanged : Type 0
   LampRanged = (length (fieldsOf s .lamp) ≡ 18) × Bytes (fieldsOf s .lamp)
-
-  lamp-there : getD s 0 0 ≡ 63 ⊎ getD s 0 0 ≡ 191 → 27 ≤ length s → fieldsOf s .lamp ≡ part s 9 18
-  unfolding fieldsOf
-  lamp-there (inl e) h = rw e (lamp-bytes s 9 h)
-  lamp-there (inr e) h = rw e (lamp-bytes s 9 h)
 
   lamp-ranged : LampRanged
   unfolding fieldsOf wholeLength
   lamp-ranged = by (table (getD s 0 0) (getD s 1 0) (p .map))
     where
       there : getD s 0 0 ≡ 63 ⊎ getD s 0 0 ≡ 191 → 27 ≤ length s → LampRanged
-      there e h = (ap length (lamp-there e h) ∙ length-part s 9 18 h, subst Bytes (sym (lamp-there e h)) (bytes-part s 9 18 b))
+      there e h = (ap length (lamp-part s e h) ∙ length-part s 9 18 h, subst Bytes (sym (lamp-part s e h)) (bytes-part s 9 18 b))
 
       none : fieldsOf s .lamp ≡ replicate 18 0 → LampRanged
       none e = (ap length e, subst Bytes (sym e) (bytes-zeros 18))

@@ -1,16 +1,18 @@
 -- What is proved of these definitions beside the contracts.
 use mathlib.Core.Path.{_≡_}
 use mathlib.Core.Bool.{true, cond}
-use mathlib.Core.List.{List}
+use mathlib.Core.List.{List, []}
 use Prim.Native.Nat.{ℕ, _<_, _^_}
 use lib.Count.{ones}
 use lib.ListN.{length}
+use denote.Ref.{RefT, now}
 use Rattle.buffer.specs.Slice.{Bytes}
 use Rattle.model.specs.Messages.{originOf, quantityOf, kindOf}
 use Rattle.frame.specs.Layout.{gatewayWidth, lampWidth, widths, standing}
 use Rattle.frame.specs.Kinds.{hasOrigin, hasQuantity}
 use Rattle.frame.specs.Writing.{wellFormed, written}
 use Rattle.frame.specs.Reasons.{reading, readAs}
+use Rattle.frame.specs.Lamps.{IsLamp, lampRefusal}
 use Rattle.frame.specs.declared.Frame.{Frame}
 use Rattle.frame.specs.declared.Form.the-variants.{Good}
 
@@ -42,3 +44,9 @@ pub record FieldCount : Type 0 where
 pub record OwnFields : Type 0 where
   pub origin : (number origin quantity : ℕ) → originOf (kindOf number origin quantity) ≡ cond (hasOrigin number) origin 0
   pub quantity : (number origin quantity : ℕ) → quantityOf (kindOf number origin quantity) ≡ cond (hasQuantity number) quantity 0
+
+-- the part that reading the lamp hands back is the lamp where its number is 0, eighteen bytes, and is empty exactly where it is not
+pub record LampAndNumber : Type 0 where
+  pub found : (frame p : RefT (List ℕ)) → IsLamp frame p → lampRefusal (now frame) ≡ 0 → now p ≡ reading (now frame) .frame .message .lamp
+  pub whole : (frame p : RefT (List ℕ)) → IsLamp frame p → lampRefusal (now frame) ≡ 0 → length (now p) ≡ lampWidth
+  pub refused : (frame p : RefT (List ℕ)) → IsLamp frame p → (lampRefusal (now frame) ≡ 0 → ⊥) → now p ≡ []

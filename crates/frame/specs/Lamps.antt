@@ -1,8 +1,9 @@
--- Reading the lamp hands back its eighteen bytes of the frame, as a part of the lent frame.
+-- Reading the lamp hands back its eighteen bytes of the frame, as a part of the lent frame. The part alone cannot say why there is
+-- none: a number beside it does.
 use mathlib.Core.Path.{_≡_}
 use Prim.Native.Nat.{ℕ, _+_}
 use mathlib.Core.Bool.{Bool, cond}
-use mathlib.Core.List.{List, [], _∷_}
+use mathlib.Core.List.{List}
 use lib.ListN.{take}
 use denote.Ref.{RefT, ptr, now}
 use Rattle.lists.specs.Lists.{tally}
@@ -47,11 +48,6 @@ lampLength r = cond (carriesLamp r) lampWidth 0
 -- the part that holds a frame's lamp
 abbrev pub IsLamp : RefT (List ℕ) → RefT (List ℕ) → Type 0
 IsLamp frame p = IsPart frame (lampStart (reading (now frame))) (lampLength (reading (now frame))) p
-
--- this paper's number of the answer: the empty part is 1
-abbrev pub lampNumber : List ℕ → ℕ
-lampNumber [] = 1
-lampNumber (b ∷ bs) = 0
 
 -- what reading the lamp of a byte string is refused with, or 0
 abbrev pub lampRefusal : List ℕ → ℕ

@@ -124,14 +124,14 @@ formWhere taken form = unless (isGood form) form (unless taken NotTaken Good)
 abbrev pub formIn : (Frame → Bool) → Reading → Form
 formIn taken r = formWhere (taken (r .frame)) (r .form)
 
--- this paper's number of a reason: each is 1
+-- the number of a reason: 11 length, 12 lamp, 1 map, kind, sense, gateway fields and a form not taken in this call
 abbrev pub formNumber : Form → ℕ
 formNumber Good = 0
-formNumber TooShort = 1
+formNumber TooShort = 11
 formNumber WrongMap = 1
-formNumber WrongLength = 1
+formNumber WrongLength = 11
 formNumber WrongSense = 1
-formNumber WrongLamp = 1
+formNumber WrongLamp = 12
 formNumber WrongGateways = 1
 formNumber NotTaken = 1
 

@@ -18,31 +18,31 @@ pub fn is_good(form: Form) -> bool
     }
 }
 
-// The first reason in a call that takes such a frame or does not.
-pub fn form_where(taken: bool, form: Form) -> Form
-    ensures { λ r. ⌜ r ≡ formWhere taken form ⌝ }
-{
-    if !is_good(form) {
-        return form;
-    }
-    if taken {
-        return Form::Good;
-    }
-    Form::NotTaken
-}
-
 // The number with which a call refuses for that reason, or 0.
 pub fn form_number(form: Form) -> u8
     ensures { λ r. ⌜ r ≡ formNumber form ⌝ }
 {
     match form {
         Form::Good => 0,
-        Form::TooShort => 1,
+        Form::TooShort => 11,
         Form::WrongMap => 1,
-        Form::WrongLength => 1,
+        Form::WrongLength => 11,
         Form::WrongSense => 1,
-        Form::WrongLamp => 1,
+        Form::WrongLamp => 12,
         Form::WrongGateways => 1,
         Form::NotTaken => 1,
     }
+}
+
+// The number of the first reason in a call that takes such a frame or does not, or 0.
+pub fn number_where(taken: bool, form: Form) -> u8
+    ensures { λ r. ⌜ r ≡ formNumber (formWhere taken form) ⌝ }
+{
+    if !is_good(form) {
+        return form_number(form);
+    }
+    if taken {
+        return 0;
+    }
+    form_number(Form::NotTaken)
 }

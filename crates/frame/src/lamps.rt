@@ -4,6 +4,11 @@ ghost use Prim.Native.Nat.{_+_, _≤_};
 ghost use lib.ListN.{length};
 ghost use Rattle.buffer.specs.Slice.{part};
 
+// Where the lamp begins in a frame that has one, and where it ends.
+pub const LAMP_PLACE: usize = 9;
+
+pub const LAMP_END: usize = 27;
+
 // The eighteen bytes from a position on.
 pub fn read_lamp(bytes: &[u8], at: usize) -> [u8; 18]
     requires { ⌜ at + 18 ≤ length (now bytes) ⌝ }

@@ -1,5 +1,5 @@
 // The program frames: reads byte strings from standard input, each a length byte and then so many bytes, and prints a line
-// for each: the fields of the frame that it is, or the number with which it is refused. What is cut short is refused.
+// for each: the fields of the frame that it is, or the number with which it is refused and why. An item that the input cuts is refused with 11.
 use libc::STDIN_FILENO;
 use libc::STDOUT_FILENO;
 ghost use mathlib.Core.Path.{_≡_};
@@ -83,9 +83,9 @@ fn put_item(out: &mut [u8], at: usize, item: &[u8], next: Item) -> usize
 {
     let size = next.size;
     if !next.whole {
-        out[at] = b'1';
-        out[at + 1] = b'\n';
-        return at + 2;
+        let end = reasons::put_cut(out, at);
+        out[end] = b'\n';
+        return end + 1;
     }
     let end = report::put_line(out, at, &item[..size]);
     if report::differs(&item[..size]) {

@@ -9,6 +9,7 @@ pub mod Keeps
 pub mod Openings
 pub mod SoundAfter
 pub mod Table
+pub mod ReasonTable
 pub mod Calling
 pub mod Replies
 pub mod Knowing

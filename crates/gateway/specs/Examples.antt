@@ -41,7 +41,7 @@ abbrev failure : ℕ → ℕ → ℕ → Message
 failure own hour character = record { hour = hour; from = own; to = own; kind = Failure own; lamp = lampWith character }
 
 -- one of two gateways, with its agreed time and what is queued and outstanding
-abbrev amongTwo : ℕ → ℕ → List Entry → List Sent → Gateway
+abbrev pub amongTwo : ℕ → ℕ → List Entry → List Sent → Gateway
 amongTwo own agreed queue outstanding = record {
   settings = record { n = 2; own = own; supplier = 0; last = 100; q = 4; u = 4 };
   state = noState;

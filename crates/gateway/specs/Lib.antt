@@ -9,5 +9,6 @@ pub mod Committing
 pub mod Rounds
 pub mod Calls
 pub mod Examples
+pub mod ReasonExamples
 pub mod Claims
 pub mod inside

@@ -72,7 +72,7 @@ opened o fs = record {
   outstanding = [];
 }
 
--- what set up is refused with, or 0: 8, each frame's 1, 2, 3 in turn, then 5
+-- what set up is refused with, or 0: 8, then of each frame in turn the number of its form, 2 or 3, then 5
 unfoldable pub setUpRefusal : Opening → ℕ → List ℕ → ℕ
 unfolding openingValid firstRefusal cutFrames
 setUpRefusal o size list =

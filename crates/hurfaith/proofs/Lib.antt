@@ -5,3 +5,4 @@ pub mod TakenSizes
 pub mod Packing
 pub mod ReadBacks
 pub mod Routing
+pub mod LampPlaces

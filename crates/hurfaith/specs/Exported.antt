@@ -1,12 +1,16 @@
 -- The answers of the exported functions: what a call leaves, with the numbers of its answer packed into one.
-use Prim.Native.Nat.{ℕ}
+use mathlib.Core.Path.{_≡_}
+use Prim.Native.Nat.{ℕ, _+_, _/_, _%_}
 use mathlib.Core.Bool.{cond}
 use mathlib.Core.List.{List, _∷_}
 use lib.Dec.{leb, eqb}
 use lib.ListN.{length, drop}
+use denote.Ref.{RefT, ptr, now}
 use Rattle.routing.specs.Answers.{neighboursOf}
 use Rattle.packing.specs.Packed.{packed, ReadBack, numberAt}
 use Rattle.buffer.specs.Slice.{Bytes}
+use Rattle.frame.specs.Reasons.{reading}
+use Rattle.frame.specs.Lamps.{lampRefusal, lampStart, IsLamp}
 use Rattle.gateway.specs.Calls.{CallResult, taken, started, committed, workedOff, agreedTime}
 use Rattle.gateway.specs.declared.Answer.{Answer}
 use Rattle.gateway.specs.declared.Worked.{Worked}
@@ -32,6 +36,13 @@ numberAlone l = record { answer = l .answer .number; memory = l .memory; output 
 -- the agreed time's number and hour
 abbrev pub packedTime : AgreedTime → ℕ
 packedTime t = packed (t .number) 0 (t .hour)
+
+-- the answer of reading the lamp: the number, and above it the place of the lamp's first byte in the frame, 0 where it is refused;
+-- a C program reads back the number, and the very place of the part that reading the lamp hands back
+pub record LampAnswer (frame : RefT (List ℕ)) (answer : ℕ) : Type 0 where
+  pub equal : answer ≡ packed (lampRefusal (now frame)) (lampStart (reading (now frame))) 0
+  pub number : answer % 256 ≡ lampRefusal (now frame)
+  pub place : (p : RefT (List ℕ)) → IsLamp frame p → ptr p ≡ (ptr frame .0, answer / 256 + ptr frame .1)
 
 -- what the call of routing leaves: its number, and the array
 pub record RouteResult : Type 0 where

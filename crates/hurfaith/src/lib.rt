@@ -1,7 +1,9 @@
 // The calls for programs in C and other languages. Each promises what the call below it promises; an answer of several numbers
 // comes packed into one. include/hurfaith.h is their C side.
 use commit::commit;
+use frame::lamps::LAMP_PLACE;
 use gateway::Opening;
+use lamp::lamp_number;
 use neighbours::neighbours_of;
 use opening::set_up::set_up;
 use packing::number_at;
@@ -14,7 +16,7 @@ use work::work;
 ghost use mathlib.Core.Path.{_≡_};
 ghost use mathlib.Core.List.{[]};
 ghost use Rattle.gateway.specs.Calls.{left, workedOff, started, committed, agreedTime, taken, setUp};
-ghost use Rattle.hurfaith.specs.Exported.{packedAnswer, packedWork, packedTime, routed, numberAlone, settingsGiven};
+ghost use Rattle.hurfaith.specs.Exported.{packedAnswer, packedWork, packedTime, routed, numberAlone, settingsGiven, LampAnswer};
 
 // The neighbours of a gateway: the two that it hears from and the two that it tells, 65,535 where there is none.
 #[no_mangle]
@@ -115,4 +117,16 @@ pub extern "C" fn hurfaith_agreed_time(memory: &[u8]) -> u64
 {
     let time = agreed_time(memory);
     packed(time.number, 0, time.hour)
+}
+
+// Reading the lamp: the number, and the place of the lamp's first byte in the frame.
+#[no_mangle]
+pub extern "C" fn hurfaith_lamp(frame: &[u8]) -> u64
+    ensures { λ r. ⌜ LampAnswer (frame .entry) r ⌝ }
+{
+    let number = lamp_number(frame);
+    if number != 0 {
+        return packed(number, 0, 0);
+    }
+    packed(number, LAMP_PLACE, 0)
 }

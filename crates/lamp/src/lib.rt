@@ -1,32 +1,39 @@
-// The lamp of a frame.
-use frame::Form;
+// The lamp of a frame: the part that holds it, and beside it the number that says why there is none.
 use frame::Reading;
-use frame::forms::form_where;
-use frame::forms::is_good;
+use frame::forms::number_where;
+use frame::lamps::LAMP_END;
+use frame::lamps::LAMP_PLACE;
 use frame::tables::has_lamp;
 use model::kind_number;
 use reader::read;
 ghost use mathlib.Core.Path.{_≡_};
-ghost use Rattle.frame.specs.Lamps.{lampForm, IsLamp, lampNumber, lampRefusal};
+ghost use Rattle.frame.specs.Reasons.{formNumber};
+ghost use Rattle.frame.specs.Lamps.{lampForm, IsLamp, lampRefusal};
 
-// The eighteen bytes of a frame's lamp, as the part of the frame that holds them. The empty part stands for 1: no frame, or
-// a frame without a lamp.
+// The eighteen bytes of a frame's lamp, as the part of the frame that holds them. The part is empty where `lamp_number` is not 0.
 pub fn lamp(frame: &[u8]) -> &[u8]
-    ensures { λ r. ⌜ IsLamp (frame .entry) r × (lampNumber (now r) ≡ lampRefusal (now (frame .entry))) ⌝ }
+    ensures { λ r. ⌜ IsLamp (frame .entry) r ⌝ }
 {
-    if is_good(lamp_form(read(frame))) {
-        return &frame[9..27];
+    if lamp_number(frame) == 0 {
+        return &frame[LAMP_PLACE..LAMP_END];
     }
     &frame[0..0]
 }
 
-// The first reason why there is no lamp to read; the last is that the frame has none.
-fn lamp_form(reading: Reading) -> Form
-    ensures { λ r. ⌜ r ≡ lampForm reading ⌝ }
+// What reading a frame's lamp is refused with, or 0.
+pub fn lamp_number(frame: &[u8]) -> u8
+    ensures { λ r. ⌜ r ≡ lampRefusal (now (frame .entry)) ⌝ }
+{
+    form_refusal(read(frame))
+}
+
+// The number of the first reason why there is no lamp to read, or 0; the last reason is that the frame has none.
+fn form_refusal(reading: Reading) -> u8
+    ensures { λ r. ⌜ r ≡ formNumber (lampForm reading) ⌝ }
 {
     let form = reading.form;
     let frame = reading.frame;
     let message = frame.message;
     let kind = message.kind;
-    form_where(has_lamp(kind_number(kind)), form)
+    number_where(has_lamp(kind_number(kind)), form)
 }

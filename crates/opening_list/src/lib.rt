@@ -3,8 +3,7 @@ use effects::insert::insert_place;
 use effects::insert::pending;
 use frame::Frame;
 use frame::Reading;
-use frame::forms::form_number;
-use frame::forms::form_where;
+use frame::forms::number_where;
 use frame::tables::sense_number;
 use frame::tables::whole_length;
 use limits::check;
@@ -84,7 +83,7 @@ fn form_refusal(reading: Reading) -> u8
 {
     let form = reading.form;
     let frame = reading.frame;
-    form_number(form_where(may_open(frame), form))
+    number_where(may_open(frame), form)
 }
 
 // One pass: the first refusal, and the number of frames before it or in all.

@@ -7,29 +7,15 @@ use mathlib.Core.List.{List, _++_}
 use lib.ListN.{length, set}
 use Rattle.buffer.specs.Slice.{write, Puts}
 use Rattle.buffer.proofs.Putting.{puts-byte, puts-more, puts-length}
-use Rattle.text.specs.Decimal.{decimal}
-use Rattle.text.proofs.Putting.{length-within}
 use Rattle.model.specs.Messages.{kindNumber, originOf, quantityOf}
 use Rattle.model.specs.declared.Message.{Message}
 use Rattle.frame.specs.Kinds.{hasLamp, senseNumber}
-use Rattle.frame.specs.Reasons.{reading, isGood, formNumber}
+use Rattle.frame.specs.Reasons.{reading, isGood}
 use Rattle.frame.specs.declared.Frame.{Frame}
 use Rattle.frame.specs.declared.Reading.{Reading}
-use Rattle.report.specs.Line.{field, route, content, lampText, frameText, line}
-
--- a number has at most ten digits
-pub few-digits : (n : ℕ) → n < 4294967296 → length (decimal n) ≤ 10
-few-digits n h = length-within 9 n (omega arith) .1
-
--- a number and a blank
-pub field-put : (at n : ℕ) (m : List ℕ) {p : ℕ} {now : List ℕ} → at + 11 ≤ length m → n < 4294967296
-    → (p ≡ at + length (decimal n)) × (now ≡ write at (decimal n) m) → Puts at (field n) m (set now p 32) (p + 1)
-unfolding field
-field-put at n m {p} {now} room h e =
-    let d = few-digits n h in
-    let digits : Puts at (decimal n) m now p = record { position = e .0; output = e .1 } in
-    let l = puts-length (omega arith) digits in
-    puts-more (omega arith) digits (puts-byte p 32 now (omega (arith, e .0)))
+use Rattle.text.specs.Decimal.{field}
+use Rattle.reasons.specs.Words.{refusedText}
+use Rattle.report.specs.Line.{route, content, lampText, frameText, line}
 
 -- a stretch that is no longer than a bound leaves the length, and more can be put behind it
 same : (at a : ℕ) (m : List ℕ) {xs m₁ : List ℕ} {p : ℕ} → at + a ≤ length m → Puts at xs m m₁ p → p ≤ at + a → length m₁ ≡ length m
@@ -85,12 +71,12 @@ module _ (at : ℕ) (m : List ℕ) (x : Message) {k : ℕ} {has : Bool} (e : k �
   dash-put room h = rw (lamp-test, h) (puts-byte at 45 m room)
 
 module _ (at : ℕ) (m s : List ℕ) (r : Reading) {b : Bool} (e : r ≡ reading s) (good : b ≡ isGood (r .form)) where
-  is-line : line s ≡ cond b (frameText (r .frame)) (decimal (formNumber (r .form)))
+  is-line : line s ≡ cond b (frameText (r .frame)) (refusedText (r .form))
   unfolding line
   is-line = rw (← e, ← good)
 
   pub good-put : {now : List ℕ} {p : ℕ} → b ≡ true → Puts at (frameText (r .frame)) m now p → Puts at (line s) m now p
   good-put h x = rw (is-line, h) x
 
-  pub refused-put : {now : List ℕ} {p number : ℕ} → b ≡ false → number ≡ formNumber (r .form) → Puts at (decimal number) m now p → Puts at (line s) m now p
-  refused-put h n x = rw (is-line, h, ← n) x
+  pub refused-put : {now : List ℕ} {p : ℕ} → b ≡ false → Puts at (refusedText (r .form)) m now p → Puts at (line s) m now p
+  refused-put h x = rw (is-line, h) x

@@ -1,18 +1,15 @@
 -- The line that the program frames prints of a byte string: kind, from, to, hour, origin, quantity, sense and lamp, or the number
--- with which it is refused.
+-- with which it is refused and the reason in words.
 use Prim.Native.Nat.{ℕ}
 use mathlib.Core.Bool.{cond}
 use mathlib.Core.List.{List, [], _∷_, _++_}
-use Rattle.text.specs.Decimal.{decimal}
+use Rattle.text.specs.Decimal.{field}
 use Rattle.model.specs.Messages.{kindNumber, originOf, quantityOf}
 use Rattle.model.specs.declared.Message.{Message}
 use Rattle.frame.specs.Kinds.{hasLamp, senseNumber}
-use Rattle.frame.specs.Reasons.{reading, isGood, formNumber}
+use Rattle.frame.specs.Reasons.{reading, isGood}
 use Rattle.frame.specs.declared.Frame.{Frame}
-
--- a number and a blank
-unfoldable pub field : ℕ → List ℕ
-field n = decimal n ++ (32 ∷ [])
+use Rattle.reasons.specs.Words.{refusedText}
 
 -- kind, from, to and hour; a field that the kind lacks is 0
 unfoldable pub route : Message → List ℕ
@@ -31,4 +28,4 @@ frameText f = route (f .message) ++ (content f ++ lampText (f .message))
 
 -- the line of a byte string, without its line end
 unfoldable pub line : List ℕ → List ℕ
-line s = let r = reading s in cond (isGood (r .form)) (frameText (r .frame)) (decimal (formNumber (r .form)))
+line s = let r = reading s in cond (isGood (r .form)) (frameText (r .frame)) (refusedText (r .form))

@@ -1,9 +1,8 @@
-// A frame as a line of text, for those who run the gateways: its fields, or the number with which it is refused.
+// A frame as a line of text, for those who run the gateways: its fields, or the number with which it is refused and why.
 use buffer::copy;
 use check::same;
 use frame::Frame;
 use frame::WriteAnswer;
-use frame::forms::form_number;
 use frame::forms::is_good;
 use frame::tables::has_lamp;
 use frame::tables::sense_number;
@@ -12,7 +11,8 @@ use model::kind_number;
 use model::origin_of;
 use model::quantity_of;
 use reader::read;
-use text::put_decimal;
+use reasons::put_refused;
+use text::put_field;
 use writer::write;
 ghost use mathlib.Core.Path.{_≡_};
 ghost use mathlib.Core.Bool.{false};
@@ -21,7 +21,7 @@ ghost use lib.ListN.{length};
 ghost use Rattle.buffer.specs.Slice.{Puts};
 ghost use Rattle.frame.specs.Writing.{writing};
 ghost use Rattle.report.specs.inside.Again.{writtenAs};
-ghost use Rattle.report.specs.Line.{field, route, content, lampText, frameText, line};
+ghost use Rattle.report.specs.Line.{route, content, lampText, frameText, line};
 
 // Whether a frame, read and written again, has other bytes than it had: never, since frames and values are one to one. The
 // program frames asks it all the same, so that the writer too runs on every frame that is read.
@@ -62,7 +62,7 @@ pub fn put_line(out: &mut [u8], at: usize, item: &[u8]) -> usize
         let frame = reading.frame;
         return put_frame(out, at, frame);
     }
-    put_decimal(out, at, form_number(form) as u32)
+    put_refused(out, at, form)
 }
 
 fn put_frame(out: &mut [u8], at: usize, frame: Frame) -> usize
@@ -113,14 +113,4 @@ fn put_lamp(out: &mut [u8], at: usize, message: Message) -> usize
     }
     out[at] = 45;
     at + 1
-}
-
-// A number and a blank.
-fn put_field(out: &mut [u8], at: usize, number: u32) -> usize
-    requires { ⌜ at + 11 ≤ length (now out) ⌝ }
-    ensures { λ r. ⌜ (Puts at (field number) (now (out .entry)) (now (out .exit)) r) × (r ≤ at + 11) ⌝ }
-{
-    let end = put_decimal(out, at, number);
-    out[end] = 32;
-    end + 1
 }

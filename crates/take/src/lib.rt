@@ -4,7 +4,7 @@ use frame::Frame;
 use frame::Reading;
 use frame::Sense;
 use frame::forms::form_number;
-use frame::forms::form_where;
+use frame::forms::number_where;
 use gateway::Answer;
 use gateway::refused;
 use limits::check;
@@ -58,7 +58,7 @@ fn form_refusal(reading: Reading) -> u8
     let frame = reading.frame;
     let message = frame.message;
     let kind = message.kind;
-    form_number(form_where(kind_number(kind) != 3, form))
+    number_where(kind_number(kind) != 3, form)
 }
 
 // Numbers and hour are looked at before the rest: 2, then 3.

@@ -6,9 +6,9 @@ use native.Mathlib.Omega.{arith}
 use native.Mathlib.Nat.{pow-succ'}
 use native.Mathlib.Decide.{decLt}
 use lib.ListN.{length, set, length-append}
-use Rattle.buffer.specs.Slice.{Puts}
+use Rattle.buffer.specs.Slice.{write, Puts}
 use Rattle.buffer.proofs.Putting.{puts-byte, puts-more, puts-length}
-use Rattle.text.specs.Decimal.{decimal, digit}
+use Rattle.text.specs.Decimal.{decimal, digit, field}
 use Rattle.text.proofs.Digits.{decimal-small, decimal-more}
 
 pub length-small : (n : ℕ) → n < 10 → length (decimal n) ≡ 1
@@ -36,3 +36,17 @@ module _ (m : List ℕ) (at n : ℕ) (room : at + length (decimal n) ≤ length 
       let l : length (decimal n) ≡ length (decimal (n / 10)) + 1 = length-more n h in
       let fits : at + length (decimal (n / 10)) ≤ length m = omega arith in
       rw (decimal-more n h) (puts-more fits a (puts-byte next (48 + n % 10) now (omega (arith, puts-length fits a))))
+
+-- a number has at most ten digits
+pub few-digits : (n : ℕ) → n < 4294967296 → length (decimal n) ≤ 10
+few-digits n h = length-within 9 n (omega arith) .1
+
+-- a number and a blank
+pub field-put : (at n : ℕ) (m : List ℕ) {p : ℕ} {now : List ℕ} → at + 11 ≤ length m → n < 4294967296
+    → (p ≡ at + length (decimal n)) × (now ≡ write at (decimal n) m) → Puts at (field n) m (set now p 32) (p + 1)
+unfolding field
+field-put at n m {p} {now} room h e =
+    let d = few-digits n h in
+    let digits : Puts at (decimal n) m now p = record { position = e .0; output = e .1 } in
+    let l = puts-length (omega arith) digits in
+    puts-more (omega arith) digits (puts-byte p 32 now (omega (arith, e .0)))

@@ -23,6 +23,11 @@ digits (suc most) n =
 unfoldable pub decimal : (n : ℕ) → List ℕ
 decimal n = digits n n
 
+-- A number and a blank.
+unfoldable pub field : (n : ℕ) → List ℕ
+unfolding decimal
+field n = decimal n ++ (32 ∷ [])
+
 -- The value of digits that stand behind others of value n: ten times that, and the digit.
 unfoldable pub valueFrom : (n : ℕ) → List ℕ → ℕ
 valueFrom n [] = n

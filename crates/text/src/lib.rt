@@ -4,7 +4,7 @@ ghost use mathlib.Core.Path.{_≡_};
 ghost use Prim.Native.Nat.{_+_, _≤_};
 ghost use lib.ListN.{length};
 ghost use Rattle.buffer.specs.Slice.{Puts};
-ghost use Rattle.text.specs.Decimal.{decimal, spelled};
+ghost use Rattle.text.specs.Decimal.{decimal, field, spelled};
 
 // What a text spells.
 pub enum Spelled {
@@ -37,6 +37,16 @@ pub fn put_decimal(out: &mut [u8], at: usize, n: u32) -> usize
     let next = put_decimal(out, at, n / 10);
     out[next] = 48 + (n % 10) as u8;
     next + 1
+}
+
+// Puts a number and a blank, and answers the position behind them.
+pub fn put_field(out: &mut [u8], at: usize, number: u32) -> usize
+    requires { ⌜ at + 11 ≤ length (now out) ⌝ }
+    ensures { λ r. ⌜ (Puts at (field number) (now (out .entry)) (now (out .exit)) r) × (r ≤ at + 11) ⌝ }
+{
+    let end = put_decimal(out, at, number);
+    out[end] = 32;
+    end + 1
 }
 
 // The number up to most that a text spells in decimal, without leading zeros and with nothing else in it.

@@ -47,13 +47,24 @@ picked has no table, and CSV has the name in a first column, file.
 the lamps, one of the hours and one of the kinds. Every FILE is checked to its end all the same.
 
 Where a FILE is no record from some place on, the events before it are printed, and standard error
-has the place, a number and why:
+has the place, a number, what it means and why:
 
-  gateway-003.record: no record at byte 41: 1, cut: 5 of a frame's 27 bytes
+  gateway-003.record: no record at byte 41: 11 (length), cut: 5 of a frame's 27 bytes
 
-The place is the first byte of the event, counted from 0. The number is 1 for bytes that have not
-the form of an event and its state, or an event that is not in order; 2 for a gateway that cannot
-be, 255; 3 for an hour that cannot be, 4294967295. Then comes the next FILE.
+The place is the first byte of the event, counted from 0. Then comes the next FILE. The numbers, of
+which an event with several faults has that of the first in this order:
+
+  11        a frame of fewer than two bytes
+  1         a map and kind that no frame has
+  11        a cut frame
+  1         a sense that is not 1 to 3
+  12        a byte of the lamp that is not 33 to 126
+  1         gateways that do not agree
+  1         a cancel, an acknowledgment or a frame of a round
+  2         a gateway that cannot be, 255
+  3         an hour that cannot be, 4294967295
+  11        a cut state
+  1         an event that is not in order
 
 Status: 0 if every FILE is a record, 1 if one is not, 2 for a bad usage, 3 if a FILE cannot be read
 or standard output cannot be written; where there are several, the highest.

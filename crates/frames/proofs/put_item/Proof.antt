@@ -1,18 +1,15 @@
 -- `frames::put_item` meets its contract.
 use borrow.Author.Needs.{needs}
 use native.Mathlib.Omega.{arith}
-use lib.ListN.{length-take, length-set}
+use lib.ListN.{length-take}
 use Rattle.frames.proofs.put_item.Statement.{statement}
 use Rattle.frames.proofs.put_item.Tie as tie
 
+put-cut-requires : tie.Need-put-cut-requires
+put-cut-requires c κs = search needs
+
 slice-write-out : tie.Need-slice-write-out
 slice-write-out c = search needs
-
-add-out : tie.Need-add-out
-add-out c = search needs
-
-slice-write-out-2 : tie.Need-slice-write-out-2
-slice-write-out-2 c = simp length-set (omega arith)
 
 add-result : tie.Need-add-result
 add-result c = search needs
@@ -50,8 +47,8 @@ same-length-2 c = search needs
 returns-2 : tie.Need-returns-2
 returns-2 c = search needs
 
-slice-write-out-3 : tie.Need-slice-write-out-3
-slice-write-out-3 c = search needs
+slice-write-out-2 : tie.Need-slice-write-out-2
+slice-write-out-2 c = search needs
 
 add-result-3 : tie.Need-add-result-3
 add-result-3 c = search needs
@@ -66,9 +63,8 @@ pub put-item-spec : {M : Type 1} → statement M
 put-item-spec =
     tie.close
     (tie.spec
+    put-cut-requires
     slice-write-out
-    add-out
-    slice-write-out-2
     add-result
     same-length
     returns
@@ -81,7 +77,7 @@ put-item-spec =
     add-result-2
     same-length-2
     returns-2
-    slice-write-out-3
+    slice-write-out-2
     add-result-3
     same-length-3
     returns-3)

@@ -1,20 +1,14 @@
 -- `lamp::lamp` meets its contract.
 use borrow.Author.Needs.{needs}
-use mathlib.Core.Path.{refl, _∙_}
+use mathlib.Core.Path.{refl, sym, _∙_}
 use Rattle.buffer.specs.Slice.{part}
 use Rattle.frame.specs.Lamps.{lampPlace}
-use Rattle.lamp.proofs.LampAnswers.{lamp-test, lamp-room, lamp-number, none-number}
+use Rattle.frame.proofs.Accepted.{lamp-carried, lamp-not-carried, lamp-inside}
 use Rattle.lamp.proofs.lamp.Statement.{statement}
 use Rattle.lamp.proofs.lamp.Tie as tie
 
-read-requires : tie.Need-read-requires
-read-requires c κs = search needs
-
-lamp-form-requires : tie.Need-lamp-form-requires
-lamp-form-requires c κs = search needs
-
-is-good-requires : tie.Need-is-good-requires
-is-good-requires c κs = search needs
+lamp-number-requires : tie.Need-lamp-number-requires
+lamp-number-requires c κs = search needs
 
 sub-result : tie.Need-sub-result
 sub-result c = search needs
@@ -23,22 +17,13 @@ part-result-start : tie.Need-part-result-start
 part-result-start c = search needs
 
 part-result-end : tie.Need-part-result-end
-part-result-end c =
-    let at-good = c .before in
-    let at-form = at-good .before in
-    lamp-room _ (at-form .before .read .ensures .0) (at-form .lamp-form .ensures) (at-good .is-good .ensures) (c .if1 .taken)
+part-result-end c = lamp-inside _ (lamp-carried _ (sym (c .before .lamp-number .ensures) ∙ c .if1 .taken))
 
 returns : tie.Need-returns
 unfolding part lampPlace
 returns c =
     let at-if1 = c .before in
-    let at-good = at-if1 .before in
-    let at-form = at-good .before in
-    let at-read = at-form .before in (
-      rw (lamp-test _ (at-read .read .ensures .0) (at-form .lamp-form .ensures) (at-good .is-good .ensures) ∙ at-if1 .if1 .taken)
-          (record { place = refl; bytes = refl }),
-      lamp-number _ (at-read .read .ensures .0) (at-form .lamp-form .ensures) (at-good .is-good .ensures) (at-if1 .if1 .taken),
-    )
+    rw (lamp-carried _ (sym (at-if1 .before .lamp-number .ensures) ∙ at-if1 .if1 .taken)) (record { place = refl; bytes = refl })
 
 sub-result-2 : tie.Need-sub-result-2
 sub-result-2 c = search needs
@@ -53,21 +38,13 @@ returns-2 : tie.Need-returns-2
 unfolding part
 returns-2 c =
     let at-if1 = c .before in
-    let at-good = at-if1 .before in
-    let at-form = at-good .before in
-    let at-read = at-form .before in (
-      rw (lamp-test _ (at-read .read .ensures .0) (at-form .lamp-form .ensures) (at-good .is-good .ensures) ∙ at-if1 .if1 .left)
-          (record { place = refl; bytes = refl }),
-      none-number _ (at-read .read .ensures .0) (at-form .lamp-form .ensures) (at-good .is-good .ensures) (at-if1 .if1 .left),
-    )
+    rw (lamp-not-carried _ (λ z. at-if1 .if1 .left (at-if1 .before .lamp-number .ensures ∙ z))) (record { place = refl; bytes = refl })
 
 pub lamp-spec : {M : Type 1} → statement M
 lamp-spec =
     tie.close
     (tie.spec
-    read-requires
-    lamp-form-requires
-    is-good-requires
+    lamp-number-requires
     sub-result
     part-result-start
     part-result-end

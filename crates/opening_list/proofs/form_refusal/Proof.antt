@@ -7,15 +7,12 @@ use Rattle.opening_list.proofs.form_refusal.Tie as tie
 may-open-requires : tie.Need-may-open-requires
 may-open-requires c κs = search needs
 
-form-where-requires : tie.Need-form-where-requires
-form-where-requires c κs = search needs
-
-form-number-requires : tie.Need-form-number-requires
-form-number-requires c κs = search needs
+number-where-requires : tie.Need-number-where-requires
+number-where-requires c κs = search needs
 
 returns : tie.Need-returns
-returns c = c .form-number .ensures ∙ rw (c .before .form-where .ensures, c .before .before .may-open .ensures)
+returns c = c .number-where .ensures ∙ rw (c .before .may-open .ensures)
 
 pub form-refusal-spec : {M : Type 1} → statement M
 form-refusal-spec =
-    tie.close (tie.spec may-open-requires form-where-requires form-number-requires returns)
+    tie.close (tie.spec may-open-requires number-where-requires returns)

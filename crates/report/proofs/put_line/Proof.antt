@@ -1,7 +1,7 @@
 -- `report::put_line` meets its contract.
 use borrow.Author.Needs.{needs}
 use native.Mathlib.Omega.{arith}
-use Rattle.report.proofs.Fields.{few-digits, good-put, refused-put}
+use Rattle.report.proofs.Fields.{good-put, refused-put}
 use Rattle.report.proofs.put_line.Statement.{statement}
 use Rattle.report.proofs.put_line.Tie as tie
 
@@ -20,20 +20,14 @@ same-length c = search needs
 returns : tie.Need-returns
 returns c = (search good-put, omega arith)
 
-form-number-requires : tie.Need-form-number-requires
-form-number-requires c κs = search needs
-
-cast-put-decimal : tie.Need-cast-put-decimal
-cast-put-decimal c = search needs
-
-put-decimal-requires : tie.Need-put-decimal-requires
-put-decimal-requires c κs = omega (arith, few-digits (c .form-number .result) (omega arith))
+put-refused-requires : tie.Need-put-refused-requires
+put-refused-requires c κs = search needs
 
 same-length-2 : tie.Need-same-length-2
 same-length-2 c = search needs
 
 returns-2 : tie.Need-returns-2
-returns-2 c = (search refused-put, omega (arith, few-digits (c .before .before .before .form-number .result) (omega arith)))
+returns-2 c = (search refused-put, omega arith)
 
 pub put-line-spec : {M : Type 1} → statement M
 put-line-spec =
@@ -44,8 +38,6 @@ put-line-spec =
     put-frame-requires
     same-length
     returns
-    form-number-requires
-    cast-put-decimal
-    put-decimal-requires
+    put-refused-requires
     same-length-2
     returns-2)

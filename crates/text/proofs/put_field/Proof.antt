@@ -1,11 +1,11 @@
--- `report::put_field` meets its contract.
+-- `text::put_field` meets its contract.
 use native.Mathlib.Omega.{arith}
 use Prim.Native.Nat.{_≤_}
 use lib.ListN.{length, length-set}
 use Rattle.text.specs.Decimal.{decimal}
-use Rattle.report.proofs.Fields.{few-digits, field-put}
-use Rattle.report.proofs.put_field.Statement.{statement}
-use Rattle.report.proofs.put_field.Tie as tie
+use Rattle.text.proofs.Putting.{few-digits, field-put}
+use Rattle.text.proofs.put_field.Statement.{statement}
+use Rattle.text.proofs.put_field.Tie as tie
 
 -- a u32 has at most ten digits
 few-at : (c : tie.Start) → length (decimal (c .args .number)) ≤ 10

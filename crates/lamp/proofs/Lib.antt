@@ -1,2 +1,0 @@
--- Laws of reading the lamp.
-pub mod LampAnswers

@@ -1,0 +1,2 @@
+-- Laws of reasons in words.
+pub mod Putting

@@ -1,0 +1,2 @@
+-- The definitions of reasons in words.
+pub mod Words
