@@ -1,27 +1,27 @@
 -- The event order of two messages from the comparisons that the code makes.
 use mathlib.Core.Path.{_≡_, refl, sym, _∙_, ap}
-use Prim.Native.Nat.{ℕ, _+_}
+use Prim.Native.Nat.{ℕ}
 use mathlib.Core.Bool.{Bool, true, false}
 use mathlib.Core.List.{List, [], _∷_, _++_}
 use lib.ListN.{length}
-use Rattle.model.specs.Messages.{kindNumber, originOf, quantityOf}
-use Rattle.model.specs.EventOrder.{key, compared, numbers, orElse, different}
+use Rattle.model.specs.Messages.{originOf, quantityOf}
+use Rattle.model.specs.EventOrder.{rank, key, compared, numbers, orElse, different}
 use Rattle.model.specs.declared.Message.{Message}
 use Rattle.model.specs.declared.order.Comparison.{Comparison}
 use Rattle.model.proofs.Comparing.{three, compared-append, or-different, or-equal}
 
 -- what stands before the lamp in the key, and what stands behind it
 abbrev pub front : Message → List ℕ
-front m = m .hour ∷ kindNumber (m .kind) ∷ originOf (m .kind) ∷ []
+front m = m .hour ∷ rank (m .kind) ∷ originOf (m .kind) ∷ []
 
 abbrev pub back : Message → List ℕ
 back m = quantityOf (m .kind) ∷ m .from ∷ m .to ∷ []
 
 module _ (a b : Message) {x y z inner r : Comparison} where
   pub front-compared : {o o′ k k′ : ℕ} → o ≡ originOf (a .kind) → o′ ≡ originOf (b .kind) → z ≡ numbers o o′
-      → k ≡ kindNumber (a .kind) → k′ ≡ kindNumber (b .kind) → y ≡ numbers k k′
+      → k ≡ rank (a .kind) → k′ ≡ rank (b .kind) → y ≡ numbers k k′
       → x ≡ numbers (a .hour) (b .hour) → inner ≡ orElse y z → r ≡ orElse x inner → r ≡ compared (front a) (front b)
-  front-compared o o′ z k k′ y x inner r = cc (three (a .hour) (kindNumber (a .kind)) (originOf (a .kind)) (b .hour) (kindNumber (b .kind))
+  front-compared o o′ z k k′ y x inner r = cc (three (a .hour) (rank (a .kind)) (originOf (a .kind)) (b .hour) (rank (b .kind))
       (originOf (b .kind)))
 
   pub back-compared : {q q′ : ℕ} → q ≡ quantityOf (a .kind) → q′ ≡ quantityOf (b .kind) → x ≡ numbers q q′

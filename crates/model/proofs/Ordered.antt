@@ -1,13 +1,15 @@
 -- The laws of the event order: total, antisymmetric, transitive, and equal only for equal messages.
 use mathlib.Core.Path.{_≡_, refl, sym, _∙_, ap, ap₂}
-use Prim.Native.Nat.{ℕ, _+_, _<_}
+use Prim.Native.Nat.{ℕ, zero, suc, _<_}
 use native.Mathlib.Omega.{arith}
 use native.Mathlib.Decide.{decLt}
+use mathlib.Core.Bool.{cond}
 use mathlib.Core.List.{List, [], _∷_, _++_}
+use lib.Dec.{eqb}
 use lib.ListN.{length, length-append, take, drop}
 use lib.Seq.{take-at, drop-at}
 use Rattle.model.specs.Messages.{kindNumber, originOf, quantityOf, kindOf}
-use Rattle.model.specs.EventOrder.{key, compared, numbers, orElse}
+use Rattle.model.specs.EventOrder.{rank, key, compared, numbers, orElse}
 use Rattle.model.specs.Claims.{opposite, EventOrderLaws}
 use Rattle.model.specs.declared.Kind.{Kind}
 use Rattle.model.specs.declared.Kind.the-variants.{Failure, Request, Delivery, Restock, Start, Lvt, Update}
@@ -97,6 +99,25 @@ kind-again Start = refl
 kind-again Lvt = refl
 kind-again Update = refl
 
+-- the number of the kind with rank r, of those with numbers below n
+numberBelow : ℕ → ℕ → ℕ
+numberBelow zero r = 0
+numberBelow (suc n) r = cond (eqb r (rank (kindOf n 0 0))) n (numberBelow n r)
+
+number-again : (k : Kind) → numberBelow 7 (rank k) ≡ kindNumber k
+unfolding numberBelow
+number-again (Failure origin) = refl
+number-again (Request origin) = refl
+number-again (Delivery origin) = refl
+number-again (Restock quantity) = refl
+number-again Start = refl
+number-again Lvt = refl
+number-again Update = refl
+
+-- no two kinds have one rank
+pub rank-injective : (j k : Kind) → rank j ≡ rank k → kindNumber j ≡ kindNumber k
+rank-injective j k e = sym (number-again j) ∙ ap (numberBelow 7) e ∙ number-again k
+
 -- lists joined alike, with ends of one length
 module _ (xs ys us vs : List ℕ) (e : xs ++ us ≡ ys ++ vs) (ends : length us ≡ length vs) where
   same-length : length ys ≡ length xs
@@ -135,8 +156,11 @@ key-injective a b e =
     to : a .to ≡ b .to
     to = cc ends
 
+    rankings : rank (a .kind) ≡ rank (b .kind)
+    rankings = cc
+
     kind : a .kind ≡ b .kind
-    kind = cc (ends, kind-again (a .kind), kind-again (b .kind))
+    kind = cc (ends, rank-injective (a .kind) (b .kind) rankings, kind-again (a .kind), kind-again (b .kind))
 
 pub event-order : EventOrderLaws
 event-order =

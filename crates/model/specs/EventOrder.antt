@@ -1,16 +1,28 @@
--- The event order: hour, kind, origin, lamp, quantity, from, to.
+-- The event order: hour, rank of the kind, origin, lamp, quantity, from, to.
 use Prim.Native.Nat.{ℕ}
 use mathlib.Core.Bool.{Bool, true, false, cond}
 use mathlib.Core.List.{List, [], _∷_, _++_}
 use lib.Dec.{ltb}
-use Rattle.model.specs.Messages.{kindNumber, originOf, quantityOf}
+use Rattle.model.specs.Messages.{originOf, quantityOf}
+use Rattle.model.specs.declared.Kind.{Kind}
+use Rattle.model.specs.declared.Kind.the-variants.{Failure, Request, Delivery, Restock, Start, Lvt, Update}
 use Rattle.model.specs.declared.Message.{Message}
 use Rattle.model.specs.declared.order.Comparison.{Comparison}
 use Rattle.model.specs.declared.order.Comparison.the-variants.{Before, Same, After}
 
+-- the kinds' order within an hour
+abbrev pub rank : Kind → ℕ
+rank (Failure origin) = 0
+rank (Request origin) = 1
+rank (Delivery origin) = 2
+rank (Restock quantity) = 3
+rank Start = 4
+rank Lvt = 5
+rank Update = 6
+
 -- the numbers by which messages are ordered, the weightiest first; all eighteen bytes of the lamp are among them
 unfoldable pub key : Message → List ℕ
-key m = m .hour ∷ kindNumber (m .kind) ∷ originOf (m .kind) ∷ (m .lamp ++ (quantityOf (m .kind) ∷ m .from ∷ m .to ∷ []))
+key m = m .hour ∷ rank (m .kind) ∷ originOf (m .kind) ∷ (m .lamp ++ (quantityOf (m .kind) ∷ m .from ∷ m .to ∷ []))
 
 -- whether a comparison found a difference
 abbrev pub different : Comparison → Bool

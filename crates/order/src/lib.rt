@@ -1,13 +1,13 @@
-// The event order: two messages compared by hour, kind, origin, lamp, quantity, from and to.
+// The event order: two messages compared by hour, rank of the kind, origin, lamp, quantity, from and to.
+use model::Kind;
 use model::Message;
-use model::kind_number;
 use model::order::Comparison;
 use model::origin_of;
 use model::quantity_of;
 ghost use mathlib.Core.Path.{_≡_};
 ghost use mathlib.Core.List.{[], _∷_};
-ghost use Rattle.model.specs.Messages.{kindNumber, originOf, quantityOf};
-ghost use Rattle.model.specs.EventOrder.{key, compared, orElse, numbers, different};
+ghost use Rattle.model.specs.Messages.{originOf, quantityOf};
+ghost use Rattle.model.specs.EventOrder.{rank, key, compared, orElse, numbers, different};
 
 // The event order of two messages. The lamps are looked at only where what comes before them is equal.
 pub fn compare(a: Message, b: Message) -> Comparison
@@ -26,17 +26,32 @@ pub fn compare(a: Message, b: Message) -> Comparison
     after_lamp(a, b)
 }
 
-// By hour, kind and origin.
+// By hour, rank and origin.
 fn before_lamp(a: Message, b: Message) -> Comparison
     ensures { λ r. ⌜ r ≡ compared
-        (a .hour ∷ kindNumber (a .kind) ∷ originOf (a .kind) ∷ [])
-        (b .hour ∷ kindNumber (b .kind) ∷ originOf (b .kind) ∷ []) ⌝ }
+        (a .hour ∷ rank (a .kind) ∷ originOf (a .kind) ∷ [])
+        (b .hour ∷ rank (b .kind) ∷ originOf (b .kind) ∷ []) ⌝ }
 {
     let left = a.kind;
     let right = b.kind;
     let origins = bytes(origin_of(left), origin_of(right));
-    let kinds = bytes(kind_number(left), kind_number(right));
-    or_else(numbers(a.hour, b.hour), or_else(kinds, origins))
+    let ranks = bytes(rank(left), rank(right));
+    or_else(numbers(a.hour, b.hour), or_else(ranks, origins))
+}
+
+// The kind's rank within an hour.
+fn rank(kind: Kind) -> u8
+    ensures { λ r. ⌜ r ≡ rank kind ⌝ }
+{
+    match kind {
+        Kind::Failure { origin: _ } => 0,
+        Kind::Request { origin: _ } => 1,
+        Kind::Delivery { origin: _ } => 2,
+        Kind::Restock { quantity: _ } => 3,
+        Kind::Start => 4,
+        Kind::Lvt => 5,
+        Kind::Update => 6,
+    }
 }
 
 // By quantity, from and to.

@@ -13,11 +13,11 @@ origin-of-requires-2 c κs = search needs
 bytes-requires : tie.Need-bytes-requires
 bytes-requires c κs = search needs
 
-kind-number-requires : tie.Need-kind-number-requires
-kind-number-requires c κs = search needs
+rank-requires : tie.Need-rank-requires
+rank-requires c κs = search needs
 
-kind-number-requires-2 : tie.Need-kind-number-requires-2
-kind-number-requires-2 c κs = search needs
+rank-requires-2 : tie.Need-rank-requires-2
+rank-requires-2 c κs = search needs
 
 bytes-requires-2 : tie.Need-bytes-requires-2
 bytes-requires-2 c κs = search needs
@@ -41,8 +41,8 @@ before-lamp-spec =
     origin-of-requires
     origin-of-requires-2
     bytes-requires
-    kind-number-requires
-    kind-number-requires-2
+    rank-requires
+    rank-requires-2
     bytes-requires-2
     numbers-requires
     or-else-requires
