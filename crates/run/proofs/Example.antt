@@ -29,19 +29,20 @@ use Rattle.gateway.specs.Rounds.{leastOutstanding, leastQueued, start, bitOf, a
 use Rattle.gateway.specs.Committing.{recordFor, commit}
 use Rattle.gateway.specs.SettingUp.{opened, setUpRefusal}
 use Rattle.gateway.specs.Calls.{taken, started, committed, workedOff, setUp, agreedTime}
+use Rattle.run.specs.Forecast.{SetUpInput, Forecast}
 use Rattle.run.specs.World.{roundFrames, acceptsLvt, tagOf, afterTaking, afterStarting, afterWorking, afterCommitting, afterCall, afterCalls, openingWorld}
 use Rattle.run.specs.ExampleRun.{exampleMemory, oneSetUp, worldAtEnd, ExampleRuns}
 use Rattle.run.specs.ExampleRun.{twoSetUps, request, requestAcknowledged, startFrame, lvtFrame, updateFrame, twoCalls}
 
 -- bytes of a list, by a test
-bytes-by : (l : List ℕ) → allBetween 0 255 l ≡ true → Bytes l
+pub bytes-by : (l : List ℕ) → allBetween 0 255 l ≡ true → Bytes l
 unfolding allBetween
 bytes-by [] h i = omega arith
 bytes-by (b ∷ l) h zero = omega (arith, leb-true b 255 (search (and-left, and-right)))
 bytes-by (b ∷ l) h (suc i) = bytes-by l (search (and-left, and-right)) i
 
 -- what holds at each of one gateway, and of two
-at-one : (p : ℕ → Type 0) → p 0 → (i : ℕ) → i < 1 → p i
+pub at-one : (p : ℕ → Type 0) → p 0 → (i : ℕ) → i < 1 → p i
 at-one p h zero l = h
 at-one p h (suc i) l = absurd (omega arith)
 
@@ -49,6 +50,21 @@ at-two : (p : ℕ → Type 0) → p 0 → p 1 → (i : ℕ) → i < 2 → p i
 at-two p h k zero l = h
 at-two p h k (suc zero) l = k
 at-two p h k (suc (suc i)) l = absurd (omega arith)
+
+-- a forecast of one gateway
+pub forecast-of-one : (last : ℕ) (s : SetUpInput) (memory : List ℕ) → s .opening .n ≡ 1 → s .opening .own ≡ 0 → s .opening .last ≡ last
+    → allBetween 0 255 memory ≡ true → allBetween 0 255 (s .list) ≡ true → setUp (s .opening) (s .list) memory .answer .number ≡ 0
+    → Forecast 1 last (λ i. s) (λ i. memory)
+forecast-of-one last s memory n own hour memory-bytes list-bytes accepted =
+    record {
+      some = omega arith;
+      most = omega arith;
+      gateways = λ i h. n;
+      numbers = λ i h. omega (arith, own);
+      oneLast = λ i h. hour;
+      bytes = λ i h. (bytes-by memory memory-bytes, bytes-by (s .list) list-bytes);
+      accepted = λ i h. accepted;
+    }
 
 pub examples : ExampleRuns
 unfolding
@@ -62,16 +78,7 @@ examples =
     record {
       one =
           record {
-            forecast =
-                record {
-                  some = omega arith;
-                  most = omega arith;
-                  gateways = λ i h. refl;
-                  numbers = λ i h. omega arith;
-                  oneLast = λ i h. refl;
-                  bytes = λ i h. (bytes-by (exampleMemory i) refl, bytes-by (oneSetUp i .list) refl);
-                  accepted = λ i h. refl;
-                };
+            forecast = forecast-of-one 10 (oneSetUp 0) (exampleMemory 0) refl refl refl refl refl refl;
             allowed = (omega arith, (omega arith, (omega arith, tt)));
             nothingUnderWay = refl;
             nothingIsDue = at-one _ refl;

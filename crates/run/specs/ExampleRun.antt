@@ -29,7 +29,7 @@ module _ (n last : ℕ) (setups : ℕ → SetUpInput) (lent : ℕ → List ℕ) 
 abbrev pub exampleMemory : ℕ → List ℕ
 exampleMemory i = replicate 352 0
 
-abbrev exampleOutput : List ℕ
+abbrev pub exampleOutput : List ℕ
 exampleOutput = replicate 41 0
 
 -- One gateway, with a stock of 2, the last hour 10, and a Restock of 3 at hour 5 as the opening list.
