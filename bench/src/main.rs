@@ -13,7 +13,7 @@ use interface::{Calls, LampPlace, MOST_PLACES};
 use library::Library;
 use measure::{in_turn, timed, with_unit, Times};
 use plain::Plain;
-use situations::{processed, queued, request, to_commit, with_sense, AMPLE};
+use situations::{processed, queued, queued_in_one_hour, request, to_commit, with_sense, AMPLE};
 use std::ffi::OsStr;
 use std::io::{self, Write};
 use std::path::{Path, PathBuf};
@@ -106,6 +106,11 @@ fn calls(tables: &mut Tables<impl Write>) -> Result<(), Ending> {
         })?;
         tables.row(&format!("take a plain message, {count} queued"), times)?;
     }
+    let frame = request(10, 999_999);
+    let times = on_copies(&queued_in_one_hour(511), |calls, memory, output| {
+        calls.take(memory, &frame, output);
+    })?;
+    tables.row("take a plain message, 511 queued in its hour", times)?;
     for count in [1, 64, 511] {
         let cancel = with_sense(&request(10, 1), 1);
         let times = on_copies(&processed(count), |calls, memory, output| {

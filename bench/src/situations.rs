@@ -36,6 +36,15 @@ pub fn queued(count: u32) -> Vec<u8> {
     memory
 }
 
+/// So many Requests in the queue, unprocessed, all at hour 10: neighbours differ first at the end of their lamps.
+pub fn queued_in_one_hour(count: u32) -> Vec<u8> {
+    let mut memory = set_up();
+    for number in 1..=count {
+        take(&mut memory, &request(10, number));
+    }
+    memory
+}
+
 /// So many Requests in the queue, processed, and all that they sent acknowledged.
 pub fn processed(count: u32) -> Vec<u8> {
     let mut memory = queued(count);

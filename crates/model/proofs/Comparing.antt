@@ -2,8 +2,9 @@
 use mathlib.Core.Path.{_≡_, refl, sym, _∙_, ap}
 use Prim.Native.Nat.{ℕ, _+_, _≤_, _<_}
 use native.Mathlib.Omega.{arith}
+use native.Mathlib.Decide.{decLt}
 use native.Mathlib.Numerals.{add-one}
-use mathlib.Core.Bool.{Bool, true, false, true≢false, false≢true}
+use mathlib.Core.Bool.{true, false, true≢false, false≢true}
 use mathlib.Core.List.{List, [], _∷_, _++_}
 use lib.ListN.{length, drop, getD, drop-of-length-le}
 use lib.Seq.{drop-cons}
@@ -21,6 +22,14 @@ module _ (x y : ℕ) where
 
   pub neither : y ≤ x → x ≤ y → Same ≡ numbers x y
   neither h k = rw (le-ltb x y h, le-ltb y x k)
+
+-- of two numbers that differ the comparison is different
+unequal : (x y : ℕ) → (x ≡ y → ⊥) → different (numbers x y) ≡ true
+unequal x y d = by-order (decLt x y)
+  where
+    by-order : Dec (x < y) → different (numbers x y) ≡ true
+    by-order (yes h) = rw (← less x y h)
+    by-order (no h) = rw (← more x y (omega (arith, d)))
 
 pub or-different : (c rest : Comparison) → different c ≡ true → orElse c rest ≡ c
 or-different Before rest h = refl
@@ -62,14 +71,17 @@ module _ (n : ℕ) (xs ys : List ℕ) (lx : length xs ≡ n) (ly : length ys ≡
   unfolding compared
   from-place h = rw (drop-cons xs i 0 (omega arith), drop-cons ys i 0 (omega arith), add-one)
 
-  pub place-differs : {whole here : Comparison} {found : Bool} → i < n → whole ≡ compared (drop i xs) (drop i ys) → here ≡ numbers (getD xs
-      i 0) (getD ys i 0) → found ≡ different here → found ≡ true → here ≡ whole
-  place-differs {whole} {here} h w e f d = cc (from-place h, or-different here (compared (drop (i + 1) xs) (drop (i + 1) ys)) (sym f ∙ d))
+  pub place-differs : {whole here : Comparison} → i < n → whole ≡ compared (drop i xs) (drop i ys) → here ≡ numbers (getD xs i 0) (getD ys i 0)
+      → (getD xs i 0 ≡ getD ys i 0 → ⊥) → here ≡ whole
+  place-differs {whole} {here} h w e d = cc (
+    from-place h,
+    or-different here (compared (drop (i + 1) xs) (drop (i + 1) ys)) (ap different e
+        ∙ unequal (getD xs i 0) (getD ys i 0) d),
+  )
 
-  pub place-equal : {whole here : Comparison} {found : Bool} → i < n → whole ≡ compared (drop i xs) (drop i ys) → here ≡ numbers (getD xs i
-      0) (getD ys i 0) → found ≡ different here → found ≡ false
+  pub place-equal : {whole : Comparison} → i < n → whole ≡ compared (drop i xs) (drop i ys) → getD xs i 0 ≡ getD ys i 0
       → whole ≡ compared (drop (i + 1) xs) (drop (i + 1) ys)
-  place-equal {whole} {here} h w e f d = cc (from-place h, or-equal here (compared (drop (i + 1) xs) (drop (i + 1) ys)) (sym f ∙ d))
+  place-equal {whole} h w e = w ∙ from-place h ∙ rw (← neither (getD xs i 0) (getD ys i 0) (omega (arith, e)) (omega (arith, e)))
 
   pub place-last : {whole : Comparison} → n ≤ i → whole ≡ compared (drop i xs) (drop i ys) → Same ≡ whole
   unfolding compared

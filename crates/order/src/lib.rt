@@ -73,9 +73,8 @@ fn lamps(a: [u8; 18], b: [u8; 18]) -> Comparison
 {
     let mut i = 0;
     while i < 18 {
-        let here = bytes(a[i], b[i]);
-        if differs(here) {
-            return here;
+        if a[i] != b[i] {
+            return bytes(a[i], b[i]);
         }
         i += 1;
     }

@@ -18,6 +18,12 @@ abbrev μ-loop : tie.MeasureT-loop
 loop-holds : tie.Need-loop-holds Inv-loop μ-loop
 loop-holds c = (omega arith, refl)
 
+array-read-if1 : tie.Need-array-read-if1 Inv-loop μ-loop
+array-read-if1 c = search needs
+
+array-read-if1-2 : tie.Need-array-read-if1-2 Inv-loop μ-loop
+array-read-if1-2 c = search needs
+
 array-read-bytes : tie.Need-array-read-bytes Inv-loop μ-loop
 array-read-bytes c = search needs
 
@@ -26,9 +32,6 @@ array-read-bytes-2 c = search needs
 
 bytes-requires : tie.Need-bytes-requires Inv-loop μ-loop
 bytes-requires c κs = search needs
-
-differs-requires : tie.Need-differs-requires Inv-loop μ-loop
-differs-requires c κs = search needs
 
 returns : tie.Need-returns Inv-loop μ-loop
 returns c = search place-differs
@@ -52,10 +55,11 @@ lamps-spec =
     Inv-loop
     μ-loop
     loop-holds
+    array-read-if1
+    array-read-if1-2
     array-read-bytes
     array-read-bytes-2
     bytes-requires
-    differs-requires
     returns
     add-i
     loop-less
