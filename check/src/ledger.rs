@@ -1,6 +1,6 @@
 //! What waits at a gateway, followed through the calls and their answers and never read from a memory.
 
-use peer::model::{Hour, Message, NOTHING_DUE};
+use peer::model::{Hour, Kind, Message, NOTHING_DUE};
 
 #[derive(Clone, Debug, Default)]
 pub struct Ledger {
@@ -57,6 +57,17 @@ impl Ledger {
         let not_done = self.items.iter().filter(|(_, done)| !done).map(|(message, _)| message);
         let waiting = not_done.chain(&self.cancels);
         waiting.map(|message| message.hour).min().unwrap_or(NOTHING_DUE)
+    }
+
+    /// Whether a cancel of the message waits, with which it would vanish.
+    pub fn has_cancel(&self, message: &Message) -> bool {
+        self.cancels.contains(message)
+    }
+
+    /// Whether some message of that kind and hour is done.
+    pub fn has_done(&self, kind: Kind, hour: Hour) -> bool {
+        let is = |message: &Message| message.kind == kind && message.hour == hour;
+        self.items.iter().any(|(message, done)| *done && is(message))
     }
 
     pub fn cancels(&self) -> usize {

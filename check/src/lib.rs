@@ -5,6 +5,7 @@ pub mod compare;
 pub mod draw;
 pub mod events;
 pub mod hostile;
+pub mod hours;
 pub mod ledger;
 pub mod peer_calls;
 pub mod runs;

@@ -80,14 +80,34 @@ const LACKING: [Lacking; 3] =
 pub enum Situation {
     /// Calls after which some cancel waits.
     CallsWithCancelWaiting,
+    /// Requests accepted where a Restock of their hour was done, which stays so.
+    RequestsTakenBesideADoneRestockOfTheirHour,
+    /// Requests accepted where a Delivery of their hour was done, which is undone.
+    RequestsTakenBesideADoneDeliveryOfTheirHour,
+    /// Committed events behind a Restock of their hour.
+    RequestsBehindARestockOfTheirHour,
+    DeliveriesBehindARestockOfTheirHour,
+    /// Committed Requests that found stock when all was handed out that lay on the shelf as the hour began.
+    RequestsServedByARestockOfTheirHour,
+    /// Committed Requests where a Restock of their hour did not wholly fit on the shelf.
+    RequestsAtAShelfThatStoppedInTheirHour,
     /// Forecasts whose records became whole.
     ForecastsWhole,
     /// Forecasts that too few places stopped.
     ForecastsStuck,
 }
 
-const SITUATIONS: [Situation; 3] =
-    [Situation::CallsWithCancelWaiting, Situation::ForecastsWhole, Situation::ForecastsStuck];
+const SITUATIONS: [Situation; 9] = [
+    Situation::CallsWithCancelWaiting,
+    Situation::RequestsTakenBesideADoneRestockOfTheirHour,
+    Situation::RequestsTakenBesideADoneDeliveryOfTheirHour,
+    Situation::RequestsBehindARestockOfTheirHour,
+    Situation::DeliveriesBehindARestockOfTheirHour,
+    Situation::RequestsServedByARestockOfTheirHour,
+    Situation::RequestsAtAShelfThatStoppedInTheirHour,
+    Situation::ForecastsWhole,
+    Situation::ForecastsStuck,
+];
 
 #[derive(Clone, Debug, Default)]
 pub struct Tally {

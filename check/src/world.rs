@@ -1,15 +1,20 @@
 //! A run of demand 3 over lent memories: what is under way, the records, and the claim after each call.
 
 use crate::compare::{check_number, Call, Comparison};
+use crate::hours::HourSoFar;
 use crate::ledger::Ledger;
+use crate::tally::Situation;
 use crate::Wrong;
 use interface::{AgreedTime, Answer, Opening};
 use peer::frame::{self, Frame, Sense};
 use peer::gateway::Setup;
-use peer::model::{Hour, NOTHING_DUE};
+use peer::model::{Hour, Kind, NOTHING_DUE};
 use peer::round::least;
 use peer::under_way::{check_agreed, Carried, UnderWay};
 use peer::{queue, record};
+
+/// The bytes of a state behind the frame of a committed event: the stock, then the counters.
+const STATE_LENGTH: usize = 14;
 
 pub struct World {
     pub memories: Vec<Vec<u8>>,
@@ -19,6 +24,7 @@ pub struct World {
     records: Vec<Vec<u8>>,
     /// The records of the single queue.
     whole: Vec<Vec<u8>>,
+    hours: Vec<HourSoFar>,
     agreed: Vec<Hour>,
 }
 
@@ -38,6 +44,7 @@ impl World {
             under_way: UnderWay::new(memories.len()),
             records: vec![Vec::new(); memories.len()],
             whole: queue::records(setups).iter().map(bytes).collect(),
+            hours: setups.iter().map(|setup| HourSoFar::new(setup.stock as u16)).collect(),
             agreed: vec![0; memories.len()],
             memories,
             ledgers,
@@ -108,7 +115,10 @@ impl World {
         let bytes = frame::write(&brought.frame);
         let (answer, output) = comparison.call(Call::Take { frame: &bytes }, memory, room)?;
         match answer.number {
-            0 => self.accept(own, brought, &output)?,
+            0 => {
+                self.count_late_request(own, &brought.frame, comparison);
+                self.accept(own, brought, &output)?;
+            }
             5 => self.under_way.put_back(brought),
             number => return Err(format!("{:?} under way refused with {number}", brought.frame)),
         }
@@ -143,7 +153,7 @@ impl World {
         let at = usize::from(own);
         let (answer, output) = comparison.call(Call::Commit, &mut self.memories[at], room)?;
         match answer.number {
-            0 => self.record(own, &output)?,
+            0 => self.record(own, &output, comparison)?,
             5 | 6 => {}
             number => return Err(format!("commit of {own} answered {number}")),
         }
@@ -185,16 +195,45 @@ impl World {
     }
 
     /// A commit of gateway `own` wrote these bytes.
-    fn record(&mut self, own: u8, output: &[u8]) -> Result<(), Wrong> {
+    fn record(&mut self, own: u8, output: &[u8], comparison: &mut Comparison) -> Result<(), Wrong> {
         let at = usize::from(own);
-        if self.ledgers[at].commit().is_none() {
+        let Some((frame, state)) = output.split_last_chunk::<STATE_LENGTH>() else {
+            return Err(format!("{own} commits {} bytes", output.len()));
+        };
+        let Ok(Frame::Event { message, .. }) = frame::read(frame) else {
+            return Err(format!("{own} commits what is no event"));
+        };
+        if self.ledgers[at].commit() != Some(message) {
             return Err(format!("{own} commits what was not done"));
         }
         self.records[at].extend(output);
         if !self.whole[at].starts_with(&self.records[at]) {
             return Err(format!("the record of {own} is no beginning of the single queue's"));
         }
+        let stock = u16::from_be_bytes([state[0], state[1]]);
+        for situation in self.hours[at].add(&message, stock)? {
+            comparison.tally.count_situation(situation);
+        }
         Ok(())
+    }
+
+    /// Counts a Request that enters the queue of gateway `own` when a Restock or a Delivery of its hour is done there.
+    fn count_late_request(&self, own: u8, frame: &Frame, comparison: &mut Comparison) {
+        let &Frame::Event { sense: Sense::Plain, message } = frame else {
+            return;
+        };
+        let ledger = &self.ledgers[usize::from(own)];
+        if message.kind != Kind::Request || ledger.has_cancel(&message) {
+            return;
+        }
+        if ledger.has_done(Kind::Restock, message.hour) {
+            let situation = Situation::RequestsTakenBesideADoneRestockOfTheirHour;
+            comparison.tally.count_situation(situation);
+        }
+        if ledger.has_done(Kind::Delivery, message.hour) {
+            let situation = Situation::RequestsTakenBesideADoneDeliveryOfTheirHour;
+            comparison.tally.count_situation(situation);
+        }
     }
 
     fn accept(&mut self, own: u8, brought: Carried, output: &[u8]) -> Result<(), Wrong> {

@@ -5,7 +5,7 @@ use std::cmp::Reverse;
 use std::collections::BinaryHeap;
 use std::io::Read;
 
-/// Reads several records side by side, always on in the one whose next event is earliest by hour and kind.
+/// Reads several records side by side, always on in the one whose next event is earliest by the hour and the kinds' order within it.
 pub struct History<R> {
     records: Vec<Records<R>>,
     /// The next event of each record that is not at its end.

@@ -18,15 +18,16 @@ const NO_GATEWAY: u8 = 255;
 /// A lamp's number.
 pub type Lamp = [u8; LAMP_LENGTH];
 
+/// The kinds of events in their order within an hour: what comes in is booked before anything is handed out.
 #[derive(Clone, Copy, Debug, PartialEq, Eq, PartialOrd, Ord)]
 pub enum Kind {
     Failure,
+    Restock,
     Request,
     Delivery,
-    Restock,
 }
 
-pub const KINDS: [Kind; 4] = [Kind::Failure, Kind::Request, Kind::Delivery, Kind::Restock];
+pub const KINDS: [Kind; 4] = [Kind::Failure, Kind::Restock, Kind::Request, Kind::Delivery];
 
 impl fmt::Display for Kind {
     fn fmt(&self, formatter: &mut fmt::Formatter) -> fmt::Result {
@@ -505,6 +506,29 @@ mod tests {
         assert_eq!(number(hour_and_cut_state), 3);
         let cut_state_and_event_order = &with(&[(6, 0)])[..40];
         assert_eq!(number(cut_state_and_event_order), 11);
+    }
+
+    /// Within an hour: Failure, Restock, Request, Delivery.
+    #[test]
+    fn what_comes_in_stands_before_what_is_handed_out() {
+        let of_lamp = |kind: u8| {
+            let mut bytes = recorded(failure(3, 258, LAMP));
+            bytes[1] = kind;
+            bytes
+        };
+        let restock = recorded(restock(3, 258, 772));
+        let hour = [of_lamp(FAILURE), restock, of_lamp(REQUEST), of_lamp(DELIVERY)];
+        for (first_place, first) in hour.iter().enumerate() {
+            for (second_place, second) in hour.iter().enumerate() {
+                let (records, why) = read(&[&first[..], second].concat());
+                if first_place <= second_place {
+                    assert_eq!((records.len(), why), (2, None));
+                } else {
+                    assert_eq!(records.len(), 1);
+                    assert!(why.unwrap().ends_with(": 1 (form), not in event order"));
+                }
+            }
+        }
     }
 
     #[test]

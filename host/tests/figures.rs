@@ -164,6 +164,29 @@ fn a_lamp_that_fails_at_a_years_end() {
     assert_eq!(rows, [(1, [2, 1, 0, 0, 1, 4, 2, 0], 1), (2, [0, 1, 2, 0, 1, 3, 0, 0], 1)]);
 }
 
+/// A driver that comes in the hour of a Request is handed out in it; and where a shelf is full when more comes, that has not come, though
+/// the Request of the hour then makes room.
+#[test]
+fn a_restock_in_the_hour_of_a_request() {
+    let restocked = |stock: u16| {
+        let whole = Whole::run(&format!(
+            "last-hour 100\ngateway 0 supplier 0 stock {stock}\n\
+             failure 0 4 L00000000000000001\nrestock 0 5 10\n",
+        ));
+        check(&whole);
+        let lamps = text(|out| write_lamps(out, &whole.accounts.lamps));
+        assert!(lamps.ends_with("\nL00000000000000001,0,4,5,0,29,fitted\n"), "{lamps}");
+        let kinds: Vec<Kind> = whole.events(0).iter().map(|record| record.event.kind).collect();
+        assert_eq!(kinds, [Kind::Failure, Kind::Restock, Kind::Request, Kind::Delivery]);
+        let stocks: Vec<u16> = whole.events(0).iter().map(|record| record.after.stock).collect();
+        let [year] = whole.accounts.years().collect::<Vec<_>>().try_into().unwrap();
+        (stocks, shown(&year.all))
+    };
+    assert_eq!(restocked(0), (vec![0, 10, 9, 9], [1, 1, 1, 10, 1, 9, 0, 0]));
+    let full = (vec![65_535, 65_535, 65_534, 65_534], [1, 1, 1, 0, 1, 65_534, 0, 0]);
+    assert_eq!(restocked(65_535), full);
+}
+
 /// A lamp that is short over a year's end is to be ordered in the first year alone.
 #[test]
 fn a_lamp_that_is_short_over_a_years_end() {

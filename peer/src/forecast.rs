@@ -17,7 +17,10 @@ const SPANS: [Hour; 6] = [0, 5, 30, 60, LONG_SPAN, LONG_SPAN];
 /// A span in which a fitted lamp fails again.
 const LONG_SPAN: Hour = 44_000;
 
-const STOCKS: [u32; 6] = [0, 0, 0, 1, 2, 3];
+/// Hours from a Failure to its Request, to that Request passed on once, and to the Deliveries of both.
+const FOLLOWING: [Hour; 4] = [1, 2, 25, 26];
+
+const STOCKS: [u32; 7] = [0, 0, 0, 1, 2, 3, 65_535];
 const QUANTITIES: [u16; 4] = [0, 1, 2, 65_535];
 const SMALL_PLACES: [u32; 8] = [1, 2, 3, 4, 6, 8, 12, 20];
 
@@ -36,14 +39,17 @@ pub fn draw(generator: &mut Generator) -> Vec<Setup> {
     let first = generator.pick(&[0, 0, MAX_LAST_HOUR - span]);
     let many_places = generator.below(2) == 0;
     let mut openings = vec![Vec::new(); nodes.into()];
+    let mut hours_to_failures = Vec::new();
     for _ in 0..generator.below(6) {
         let own = generator.below(nodes);
-        let hour = first + span.min(generator.below(12).into());
+        let hours: Hour = generator.below(12).into();
+        let hour = first + span.min(hours);
         openings[usize::from(own)].push(failure(own, hour, *generator.pick(&LAMPS)));
+        hours_to_failures.push(hours);
     }
     for _ in 0..generator.below(4) {
         let own = generator.below(nodes);
-        let hour = first + span.min(generator.below(40).into());
+        let hour = first + span.min(hours_to_restock(generator, &hours_to_failures));
         openings[usize::from(own)].push(restock(own, hour, generator.pick(&QUANTITIES)));
     }
     let mut setups = Vec::new();
@@ -59,6 +65,14 @@ pub fn draw(generator: &mut Generator) -> Vec<Setup> {
         setups.push(setup);
     }
     setups
+}
+
+/// Hours from the first to a Restock: often to one in which, after one of the Failures, a Request or a Delivery is due at some gateway.
+fn hours_to_restock(generator: &mut Generator, hours_to_failures: &[Hour]) -> Hour {
+    if hours_to_failures.is_empty() || generator.below(3) == 0 {
+        return generator.below(40).into();
+    }
+    generator.pick(hours_to_failures) + generator.pick(&FOLLOWING)
 }
 
 /// Supplier and stock for a long span: every Request soon comes to a gateway with stock, as one that

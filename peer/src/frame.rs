@@ -167,7 +167,7 @@ impl Fields {
         match *frame {
             Frame::Event { sense, message } => {
                 let Message { hour, kind, origin, lamp, quantity, from, to } = message;
-                let (kind, sense) = (kind as u8, sense as u8);
+                let (kind, sense) = (kind.number(), sense as u8);
                 Fields { kind, from, to, hour, origin, lamp, quantity, sense }
             }
             Frame::Start { from, to } => Fields { kind: 4, from, to, ..Fields::default() },

@@ -303,7 +303,7 @@ fn check_queue(entries: &[Entry]) -> Result<(), Unsound> {
 
 fn message_bytes(mark: u8, message: &Message) -> Vec<u8> {
     let Message { hour, kind, origin, lamp, quantity, from, to } = *message;
-    let head = [mark, kind as u8, from, to];
+    let head = [mark, kind.number(), from, to];
     [&head[..], &hour.to_be_bytes(), &[origin, 0], &quantity.to_be_bytes(), &lamp].concat()
 }
 

@@ -1,4 +1,4 @@
-//! The lamp model of document 01: messages, the event order, and doing a message.
+//! The lamp model of document 01: messages, the event order with the kinds as request (b) of document 02 orders them, and doing a message.
 
 /// An hour, 32 bits unsigned.
 pub type Hour = u32;
@@ -12,13 +12,25 @@ pub const NOTHING_DUE: Hour = Hour::MAX;
 /// The largest last hour that a forecast may have.
 pub const MAX_LAST_HOUR: Hour = NOTHING_DUE - 1;
 
-/// The kinds of messages that are events, in the order of their numbers.
+/// The kinds of messages that are events, in their order within an hour: goods are booked in before any are handed out.
 #[derive(Clone, Copy, Debug, PartialEq, Eq, PartialOrd, Ord)]
 pub enum Kind {
     Failure,
+    Restock,
     Request,
     Delivery,
-    Restock,
+}
+
+impl Kind {
+    /// The kind's number in frames and memory.
+    pub fn number(self) -> u8 {
+        match self {
+            Kind::Failure => 0,
+            Kind::Request => 1,
+            Kind::Delivery => 2,
+            Kind::Restock => 3,
+        }
+    }
 }
 
 /// A message. The fields stand in the event order, so the derived order is the event order.
@@ -200,14 +212,15 @@ mod tests {
         let ascending = [
             Message { from: 250, to: 250, ..restock(9, 7) },
             Message { lamp: [126; 18], ..failure(255, 10, LAMP_2) },
+            restock(10, 6),
+            restock(10, 600),
             base,
             Message { to: 5, ..base },
             Message { from: 4, to: 0, ..base },
             Message { lamp: LAMP_2, from: 0, ..base },
             Message { origin: 8, lamp: [33; 18], ..base },
             delivery(10),
-            restock(10, 6),
-            restock(10, 600),
+            restock(11, 6),
             Message { hour: 256, ..base },
         ];
         for (i, earlier) in ascending.iter().enumerate() {

@@ -52,4 +52,20 @@ mod tests {
         assert_eq!(&message.lamp, b"L00000000000000001");
         assert_eq!(after, State { failed: 2, fitted: 1, ..State::default() });
     }
+
+    /// What comes in the hour of a Request serves it, and a full shelf stops before the Request draws.
+    #[test]
+    fn a_restock_comes_before_the_requests_of_its_hour() {
+        let stocks = |opening_stock| {
+            let opening =
+                [forecast::restock(0, 5, 10), forecast::failure(0, 4, *b"L00000000000000001")];
+            let records = records(&[forecast::setup(1, 0, 0, opening_stock, 10, &opening)]);
+            let kinds: Vec<Kind> = records[0].iter().map(|done| done.message.kind).collect();
+            assert_eq!(kinds, [Kind::Failure, Kind::Restock, Kind::Request]);
+            assert_eq!(records[0][2].after.short, 0);
+            records[0].iter().map(|done| done.after.stock).collect::<Vec<u16>>()
+        };
+        assert_eq!(stocks(0), [0, 10, 9]);
+        assert_eq!(stocks(65_535), [65_535, 65_535, 65_534]);
+    }
 }

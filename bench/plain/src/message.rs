@@ -1,7 +1,9 @@
 //! Messages, their order, and doing one.
 
+use core::cmp::Ordering;
+
 /// The kinds, in the order of their numbers.
-#[derive(Clone, Copy, Debug, PartialEq, Eq, PartialOrd, Ord)]
+#[derive(Clone, Copy, Debug, PartialEq, Eq)]
 pub enum Kind {
     Failure,
     Request,
@@ -27,12 +29,25 @@ impl Kind {
     }
 
     pub fn has_lamp(self) -> bool {
-        self <= Kind::Delivery
+        matches!(self, Kind::Failure | Kind::Request | Kind::Delivery)
+    }
+
+    /// The place among the events of an hour: Failure, Restock, Request, Delivery.
+    fn rank(self) -> u8 {
+        match self {
+            Kind::Failure => 0,
+            Kind::Restock => 1,
+            Kind::Request => 2,
+            Kind::Delivery => 3,
+            Kind::Start => 4,
+            Kind::Lvt => 5,
+            Kind::Update => 6,
+        }
     }
 }
 
-/// A message; the fields stand in event order, and one that the kind lacks is zero.
-#[derive(Clone, Copy, Debug, PartialEq, Eq, PartialOrd, Ord)]
+/// A message; a field that the kind lacks is zero.
+#[derive(Clone, Copy, Debug, PartialEq, Eq)]
 pub struct Message {
     pub hour: u32,
     pub kind: Kind,
@@ -41,6 +56,24 @@ pub struct Message {
     pub quantity: u16,
     pub from: u8,
     pub to: u8,
+}
+
+/// The event order.
+impl Ord for Message {
+    fn cmp(&self, other: &Message) -> Ordering {
+        let front = |message: &Message| (message.hour, message.kind.rank(), message.origin);
+        let back = |message: &Message| (message.quantity, message.from, message.to);
+        front(self)
+            .cmp(&front(other))
+            .then_with(|| self.lamp.cmp(&other.lamp))
+            .then_with(|| back(self).cmp(&back(other)))
+    }
+}
+
+impl PartialOrd for Message {
+    fn partial_cmp(&self, other: &Message) -> Option<Ordering> {
+        Some(self.cmp(other))
+    }
 }
 
 impl Message {

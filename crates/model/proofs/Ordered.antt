@@ -1,4 +1,4 @@
--- The laws of the event order: total, antisymmetric, transitive, and equal only for equal messages.
+-- The laws of the event order: total, antisymmetric, transitive, and equal only for equal messages; the order of hours and kinds.
 use mathlib.Core.Path.{_≡_, refl, sym, _∙_, ap, ap₂}
 use Prim.Native.Nat.{ℕ, zero, suc, _<_}
 use native.Mathlib.Omega.{arith}
@@ -10,7 +10,7 @@ use lib.ListN.{length, length-append, take, drop}
 use lib.Seq.{take-at, drop-at}
 use Rattle.model.specs.Messages.{kindNumber, originOf, quantityOf, kindOf}
 use Rattle.model.specs.EventOrder.{rank, key, compared, numbers, orElse}
-use Rattle.model.specs.Claims.{opposite, EventOrderLaws}
+use Rattle.model.specs.Claims.{opposite, EventOrderLaws, HoursAndKinds}
 use Rattle.model.specs.declared.Kind.{Kind}
 use Rattle.model.specs.declared.Kind.the-variants.{Failure, Request, Delivery, Restock, Start, Lvt, Update}
 use Rattle.model.specs.declared.Message.{Message}
@@ -171,3 +171,29 @@ event-order =
       transitive = λ a b c. list-transitive (key a) (key b) (key c);
       injective = key-injective;
     }
+
+-- the hour decides, and in one hour the rank
+module _ (a b : Message) where
+  hour-decides : a .hour < b .hour → compared (key a) (key b) ≡ Before
+  unfolding key compared
+  hour-decides h = rw (← less (a .hour) (b .hour) h)
+
+  rank-decides : a .hour ≡ b .hour → rank (a .kind) < rank (b .kind) → compared (key a) (key b) ≡ Before
+  unfolding key compared
+  rank-decides e h = rw (← neither (a .hour) (b .hour) (omega arith) (omega arith), ← less (rank (a .kind)) (rank (b .kind)) h)
+
+  -- two kinds, by their ranks
+  kinds-decide : {j k : Kind} → rank j < rank k → a .hour ≡ b .hour → a .kind ≡ j → b .kind ≡ k → compared (key a) (key b) ≡ Before
+  kinds-decide h e p q = rank-decides e (omega (arith, h, ap rank p, ap rank q))
+
+  pub hours-and-kinds : HoursAndKinds a b
+  hours-and-kinds =
+      record {
+        hour = hour-decides;
+        failureRestock = kinds-decide (omega arith);
+        failureRequest = kinds-decide (omega arith);
+        failureDelivery = kinds-decide (omega arith);
+        restockRequest = kinds-decide (omega arith);
+        restockDelivery = kinds-decide (omega arith);
+        requestDelivery = kinds-decide (omega arith);
+      }

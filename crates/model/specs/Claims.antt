@@ -1,10 +1,11 @@
 -- What is proved of these definitions beside the contracts.
 use mathlib.Core.Path.{_≡_}
-use Prim.Native.Nat.{_<_, _≤_}
+use Prim.Native.Nat.{ℕ, _<_, _≤_}
 use mathlib.Core.List.{[], _∷_}
 use lib.ListN.{length}
 use Rattle.model.specs.Doing.{sent}
 use Rattle.model.specs.EventOrder.{key, compared}
+use Rattle.model.specs.declared.Kind.the-variants.{Failure, Request, Delivery, Restock}
 use Rattle.model.specs.declared.Message.{Message}
 use Rattle.model.specs.declared.State.{State}
 use Rattle.model.specs.declared.Site.{Site}
@@ -24,6 +25,16 @@ pub record EventOrderLaws : Type 0 where
   pub flips : (a b : Message) → compared (key b) (key a) ≡ opposite (compared (key a) (key b))
   pub transitive : (a b c : Message) → compared (key a) (key b) ≡ Before → compared (key b) (key c) ≡ Before → compared (key a) (key c) ≡ Before
   pub injective : (a b : Message) → key a ≡ key b → a ≡ b
+
+-- the hour weighs most; in one hour Failures come first, then Restocks, then Requests, then Deliveries, whatever their other fields
+pub record HoursAndKinds (a b : Message) : Type 0 where
+  pub hour : a .hour < b .hour → compared (key a) (key b) ≡ Before
+  pub failureRestock : {i q : ℕ} → a .hour ≡ b .hour → a .kind ≡ Failure i → b .kind ≡ Restock q → compared (key a) (key b) ≡ Before
+  pub failureRequest : {i j : ℕ} → a .hour ≡ b .hour → a .kind ≡ Failure i → b .kind ≡ Request j → compared (key a) (key b) ≡ Before
+  pub failureDelivery : {i j : ℕ} → a .hour ≡ b .hour → a .kind ≡ Failure i → b .kind ≡ Delivery j → compared (key a) (key b) ≡ Before
+  pub restockRequest : {q i : ℕ} → a .hour ≡ b .hour → a .kind ≡ Restock q → b .kind ≡ Request i → compared (key a) (key b) ≡ Before
+  pub restockDelivery : {q i : ℕ} → a .hour ≡ b .hour → a .kind ≡ Restock q → b .kind ≡ Delivery i → compared (key a) (key b) ≡ Before
+  pub requestDelivery : {i j : ℕ} → a .hour ≡ b .hour → a .kind ≡ Request i → b .kind ≡ Delivery j → compared (key a) (key b) ≡ Before
 
 -- at most one message is sent, from this gateway, later than its cause and not past the last hour
 pub record SendingLaws (site : Site) (s : State) (m : Message) : Type 0 where

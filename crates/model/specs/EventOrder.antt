@@ -10,12 +10,12 @@ use Rattle.model.specs.declared.Message.{Message}
 use Rattle.model.specs.declared.order.Comparison.{Comparison}
 use Rattle.model.specs.declared.order.Comparison.the-variants.{Before, Same, After}
 
--- the kinds' order within an hour
+-- the kinds' order within an hour: goods are booked in before any are handed out. Start, Lvt and Update are no events and come last
 abbrev pub rank : Kind → ℕ
 rank (Failure origin) = 0
-rank (Request origin) = 1
-rank (Delivery origin) = 2
-rank (Restock quantity) = 3
+rank (Restock quantity) = 1
+rank (Request origin) = 2
+rank (Delivery origin) = 3
 rank Start = 4
 rank Lvt = 5
 rank Update = 6

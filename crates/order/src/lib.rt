@@ -45,9 +45,9 @@ fn rank(kind: Kind) -> u8
 {
     match kind {
         Kind::Failure { origin: _ } => 0,
-        Kind::Request { origin: _ } => 1,
-        Kind::Delivery { origin: _ } => 2,
-        Kind::Restock { quantity: _ } => 3,
+        Kind::Restock { quantity: _ } => 1,
+        Kind::Request { origin: _ } => 2,
+        Kind::Delivery { origin: _ } => 3,
         Kind::Start => 4,
         Kind::Lvt => 5,
         Kind::Update => 6,

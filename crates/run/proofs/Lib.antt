@@ -58,4 +58,5 @@ pub mod FramesInTurn
 pub mod KeptRelation
 pub mod Further
 pub mod Example
+pub mod OrderTable
 pub mod Theorem

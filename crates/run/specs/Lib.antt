@@ -6,3 +6,4 @@ pub mod World
 pub mod Demand3
 pub mod Further
 pub mod ExampleRun
+pub mod OrderExamples
