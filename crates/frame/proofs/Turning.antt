@@ -9,7 +9,7 @@ use Rattle.model.specs.declared.Message.{Message}
 use Rattle.frame.specs.Layout.{odd}
 use Rattle.frame.specs.Kinds.{mapOfKind, hasHour, hasLamp, senseNumber}
 use Rattle.frame.specs.Writing.{allBetween, senseAllowed, hourFits, lampFits, gatewaysAgree, wellFormed}
-use Rattle.frame.specs.Limits.{numbersBelow, addressee, hourAllowed, refusal}
+use Rattle.frame.specs.Limits.{numbersBelow, addressee, hourAllowed, refusal, refusalWhere}
 use Rattle.frame.specs.declared.Frame.{Frame}
 
 module _ (n : ℕ) (m : Message) where
@@ -34,24 +34,30 @@ module _ (last : ℕ) (m : Message) where
     pub hour-due : 5 ≤ number → eqb (m .hour) 4294967295 ≡ hourAllowed last m
     hour-due l = rw (lt-leb (m .hour) last h, le-leb 5 (kindNumber (m .kind)) (rw (← k) l))
 
-module _ (f : Frame) (n own last : ℕ) {ok : Bool} (e : ok ≡ numbersBelow n (f .message)) where
-  pub number-past : not ok ≡ true → 2 ≡ refusal f n own last
-  unfolding refusal
+module _ (here : Bool) (f : Frame) (n last : ℕ) {ok : Bool} (e : ok ≡ numbersBelow n (f .message)) where
+  pub number-past : not ok ≡ true → 2 ≡ refusalWhere here f n last
+  unfolding refusalWhere
   number-past h = rw (sym e ∙ not-true ok h)
 
-  module _ (h : not ok ≡ false) {to : ℕ} (a : to ≡ addressee (f .sense) (f .message)) where
-    pub elsewhere : (to ≡ own → ⊥) → 2 ≡ refusal f n own last
-    unfolding refusal
-    elsewhere d = rw (sym e ∙ not-false ok h, ne-eqb (addressee (f .sense) (f .message)) own (λ p. d (a ∙ p)))
+  module _ (h : not ok ≡ false) where
+    pub elsewhere : not here ≡ true → 2 ≡ refusalWhere here f n last
+    unfolding refusalWhere
+    elsewhere d = rw (sym e ∙ not-false ok h, not-true here d)
 
-    module _ (d : to ≡ own) {hour : Bool} (k : hour ≡ hourAllowed last (f .message)) where
-      pub too-late : not hour ≡ true → 3 ≡ refusal f n own last
-      unfolding refusal
-      too-late l = rw (sym e ∙ not-false ok h, eq-eqb (addressee (f .sense) (f .message)) own (sym a ∙ d), sym k ∙ not-true hour l)
+    module _ (d : not here ≡ false) {hour : Bool} (k : hour ≡ hourAllowed last (f .message)) where
+      pub too-late : not hour ≡ true → 3 ≡ refusalWhere here f n last
+      unfolding refusalWhere
+      too-late l = rw (sym e ∙ not-false ok h, not-false here d, sym k ∙ not-true hour l)
 
-      pub allowed : not hour ≡ false → 0 ≡ refusal f n own last
-      unfolding refusal
-      allowed l = rw (sym e ∙ not-false ok h, eq-eqb (addressee (f .sense) (f .message)) own (sym a ∙ d), sym k ∙ not-false hour l)
+      pub allowed : not hour ≡ false → 0 ≡ refusalWhere here f n last
+      unfolding refusalWhere
+      allowed l = rw (sym e ∙ not-false ok h, not-false here d, sym k ∙ not-false hour l)
+
+-- by the gateway that looks at it
+pub checked-here : (f : Frame) (n own last : ℕ) {to number : ℕ} → to ≡ addressee (f .sense) (f .message) → number ≡ refusalWhere (eqb to own) f n last
+    → number ≡ refusal f n own last
+unfolding refusal
+checked-here f n own last a e = e ∙ rw a
 
 -- whether a value is one of the forms, by its kind's map
 module _ (f : Frame) {kind map sense : ℕ} {header : Bool} (k : kind ≡ kindNumber (f .message .kind)) (m : map ≡ mapOfKind kind)

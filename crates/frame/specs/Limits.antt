@@ -1,4 +1,4 @@
--- Which frames a gateway turns down for their numbers (2) and their hour (3).
+-- Which frames are turned down for their numbers or their addressee (2) and for their hour (3).
 use Prim.Native.Nat.{ℕ}
 use mathlib.Core.Bool.{Bool, cond, _&&_, _||_}
 use lib.Dec.{leb, ltb, eqb}
@@ -27,9 +27,15 @@ numbersBelow n m = ltb (m .from) n && ltb (m .to) n && ltb (originOf (m .kind)) 
 abbrev pub hourAllowed : ℕ → Message → Bool
 hourAllowed last m = leb (m .hour) last || (leb 5 (kindNumber (m .kind)) && eqb (m .hour) nothingDue)
 
--- 0, or the number with which gateway own of n turns the frame down
-unfoldable pub refusal : Frame → ℕ → ℕ → ℕ → ℕ
-refusal f n own last =
-    cond (numbersBelow n (f .message) && eqb (addressee (f .sense) (f .message)) own)
+-- 0, or the number with which a frame is turned down among n gateways, told whether it is addressed here: 2 where it is not or a number is
+-- n or more, then 3 for the hour
+unfoldable pub refusalWhere : Bool → Frame → ℕ → ℕ → ℕ
+refusalWhere here f n last =
+    cond (numbersBelow n (f .message) && here)
     (cond (hourAllowed last (f .message)) 0 3)
     2
+
+-- 0, or the number with which gateway own of n turns the frame down
+unfoldable pub refusal : Frame → ℕ → ℕ → ℕ → ℕ
+unfolding refusalWhere
+refusal f n own last = refusalWhere (eqb (addressee (f .sense) (f .message)) own) f n last

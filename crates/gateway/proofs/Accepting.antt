@@ -9,7 +9,7 @@ use Rattle.model.specs.Messages.{kindNumber, originOf}
 use Rattle.model.specs.declared.Message.{Message}
 use Rattle.frame.specs.Claims.{RangedFrame}
 use Rattle.frame.specs.Kinds.{hasLamp}
-use Rattle.frame.specs.Limits.{addressee, numbersBelow, hourAllowed, nothingDue, refusal}
+use Rattle.frame.specs.Limits.{addressee, numbersBelow, hourAllowed, nothingDue, refusal, refusalWhere}
 use Rattle.frame.specs.Reasons.{formIn, formNumber}
 use Rattle.frame.specs.Writing.{wellFormed}
 use Rattle.frame.specs.declared.Frame.{Frame}
@@ -40,7 +40,7 @@ pub record Passes (s : Settings) (f : Frame) : Type 0 where
   pub hour : hourAllowed (s .last) (f .message) ≡ true
 
 pub not-refused : (s : Settings) (f : Frame) → refusal f (s .n) (s .own) (s .last) ≡ 0 → Passes s f
-unfolding refusal
+unfolding refusal refusalWhere
 not-refused s f = by-case (numbersBelow (s .n) (f .message) && eqb (addressee (f .sense) (f .message)) (s .own)) refl (hourAllowed (s .last) (f .message)) refl
   where
     by-case : (a : Bool) → (numbersBelow (s .n) (f .message) && eqb (addressee (f .sense) (f .message)) (s .own)) ≡ a
@@ -56,7 +56,7 @@ not-refused s f = by-case (numbersBelow (s .n) (f .message) && eqb (addressee (f
     by-case false e b h z = absurd (omega arith)
 
 pub refusal-few : (f : Frame) (n own last : ℕ) → refusal f n own last < 10
-unfolding refusal
+unfolding refusal refusalWhere
 refusal-few f n own last = by-case (numbersBelow n (f .message) && eqb (addressee (f .sense) (f .message)) own) (hourAllowed last (f .message))
   where
     by-case : (a b : Bool) → cond a (cond b 0 3) 2 < 10

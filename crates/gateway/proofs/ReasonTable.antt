@@ -8,7 +8,7 @@ use Rattle.frame.specs.Layout.{standing, wholeLength, cut}
 use Rattle.frame.specs.Kinds.{mapOfKind, hasHour, hasLamp, mapOf}
 use Rattle.frame.specs.Writing.{contents, written, allBetween, lampFits}
 use Rattle.frame.specs.Reasons.{valuesOf, fieldsOf, mapFits, fieldsForm, formOf, reading}
-use Rattle.frame.specs.Limits.{refusal}
+use Rattle.frame.specs.Limits.{refusal, refusalWhere}
 use Rattle.memory.specs.Validity.{settingsValid, equal}
 use Rattle.memory.specs.Soundness.{sound}
 use Rattle.gateway.specs.Effects.{fits, settled, sentAll}
@@ -21,7 +21,7 @@ use Rattle.gateway.specs.ReasonExamples.{FirstReasons}
 pub first-reasons : FirstReasons
 unfolding
     tally joined every any beforeFirst fromFirst part write bytesOf numberFrom numberOf key compared standing wholeLength cut mapOfKind hasHour hasLamp mapOf contents written
-    allBetween lampFits valuesOf fieldsOf mapFits fieldsForm formOf reading refusal settingsValid equal sound fits settled processedOf
+    allBetween lampFits valuesOf fieldsOf mapFits fieldsForm formOf reading refusal refusalWhere settingsValid equal sound fits settled processedOf
     undone restored sentBack rolledBack sentAll takePlain openingValid cutFrames openingRefusal firstRefusal setUpRefusal onSound takeFrame takeBytes taken
 first-reasons =
     record {

@@ -5,7 +5,7 @@ use model::Message;
 use model::kind_number;
 use model::origin_of;
 ghost use mathlib.Core.Path.{_≡_};
-ghost use Rattle.frame.specs.Limits.{refusal, numbersBelow, addressee, hourAllowed};
+ghost use Rattle.frame.specs.Limits.{refusal, refusalWhere, numbersBelow, addressee, hourAllowed};
 
 // 0, or the number with which the gateway own of n turns the frame down.
 pub fn check(frame: Frame, n: u16, own: u8, last: u32) -> u8
@@ -13,10 +13,19 @@ pub fn check(frame: Frame, n: u16, own: u8, last: u32) -> u8
 {
     let message = frame.message;
     let sense = frame.sense;
+    let here = addressed_to(sense, message) == own;
+    check_where(here, frame, n, last)
+}
+
+// The same, told whether the frame is addressed here.
+pub fn check_where(here: bool, frame: Frame, n: u16, last: u32) -> u8
+    ensures { λ r. ⌜ r ≡ refusalWhere here frame n last ⌝ }
+{
+    let message = frame.message;
     if !numbers_below(n, message) {
         return 2;
     }
-    if addressed_to(sense, message) != own {
+    if !here {
         return 2;
     }
     if !hour_allowed(last, message) {

@@ -17,7 +17,7 @@ use Rattle.model.specs.declared.Message.{Message}
 use Rattle.model.specs.declared.Kind.{Kind}
 use Rattle.model.specs.declared.Kind.the-variants.{Failure, Request, Delivery, Restock, Start, Lvt, Update}
 use Rattle.frame.specs.Reasons.{reading}
-use Rattle.frame.specs.Limits.{addressee, numbersBelow, hourAllowed, refusal}
+use Rattle.frame.specs.Limits.{addressee, numbersBelow, hourAllowed, refusal, refusalWhere}
 use Rattle.frame.specs.declared.Frame.{Frame}
 use Rattle.frame.specs.declared.Sense.{Sense}
 use Rattle.frame.specs.declared.Sense.the-variants.{Plain, Cancel, Acknowledgment, CancelAcknowledgment}
@@ -255,7 +255,7 @@ module _ (n : ℕ) (some : 1 ≤ n) (last : ℕ) (setups : ℕ → SetUpInput) {
 
     -- taking its bytes
     bytes-room : OnlyRoom (takeBytes (c .frame) room g .number)
-    unfolding takeBytes takeFrame refusal
+    unfolding takeBytes takeFrame refusal refusalWhere
     bytes-room =
         let p = passes in
         let st = b .stands i inside in

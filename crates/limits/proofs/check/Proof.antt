@@ -1,38 +1,17 @@
 -- `limits::check` meets its contract.
 use borrow.Author.Needs.{needs}
-use Rattle.frame.proofs.Turning.{number-past, elsewhere, too-late, allowed}
+use Rattle.frame.proofs.Turning.{checked-here}
 use Rattle.limits.proofs.check.Statement.{statement}
 use Rattle.limits.proofs.check.Tie as tie
-
-numbers-below-requires : tie.Need-numbers-below-requires
-numbers-below-requires c κs = search needs
-
-returns : tie.Need-returns
-returns c = search number-past
 
 addressed-to-requires : tie.Need-addressed-to-requires
 addressed-to-requires c κs = search needs
 
-returns-2 : tie.Need-returns-2
-returns-2 c = search elsewhere
+check-where-requires : tie.Need-check-where-requires
+check-where-requires c κs = search needs
 
-hour-allowed-requires : tie.Need-hour-allowed-requires
-hour-allowed-requires c κs = search needs
-
-returns-3 : tie.Need-returns-3
-returns-3 c = search too-late
-
-returns-4 : tie.Need-returns-4
-returns-4 c = search allowed
+returns : tie.Need-returns
+returns c = search checked-here
 
 pub check-spec : {M : Type 1} → statement M
-check-spec =
-    tie.close
-    (tie.spec
-    numbers-below-requires
-    returns
-    addressed-to-requires
-    returns-2
-    hour-allowed-requires
-    returns-3
-    returns-4)
+check-spec = tie.close (tie.spec addressed-to-requires check-where-requires returns)
