@@ -12,3 +12,4 @@ pub mod WriteFirst
 pub mod Laws
 pub mod Branches
 pub mod Sizes
+pub mod PieceBytes

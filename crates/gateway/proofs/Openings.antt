@@ -4,12 +4,11 @@ use mathlib.Core.Logic.{⊎-elim}
 use mathlib.Core.Bool.{Bool, true, false, cond, _||_, false≢true}
 use mathlib.Core.List.{List, [], _∷_, _++_, List·Memᴰ·head as here, List·Memᴰ·tail as there, List·Memᴰ·not-nil, List·Memᴰ·cases-cons}
 use mathlib.Core.List.{List·Memᴰ·append-cases, Memᴰ·append-left, Memᴰ·append-right}
-use Prim.Native.Nat.{ℕ, zero, suc, _+_, _≤_}
+use Prim.Native.Nat.{ℕ, suc, _+_, _≤_}
 use native.Mathlib.Omega.{arith}
 use lib.Dec.{leb, eqb}
-use lib.ListN.{length, length-append, take, drop}
+use lib.ListN.{length, length-append}
 use borrow.Author.Tests.{leb-true, eqb-true, eqb-false}
-use Rattle.buffer.proofs.Lent.{bytes-take, bytes-drop}
 use Rattle.lists.specs.Lists.{_∈_, none}
 use Rattle.lists.proofs.SearchLaws.{cut-first}
 use Rattle.buffer.specs.Slice.{Bytes}
@@ -34,30 +33,11 @@ use Rattle.gateway.specs.Taking.{isLater}
 use Rattle.gateway.specs.Undoing.{pendingEntry}
 use Rattle.gateway.specs.SettingUp.{settingsOf, openingValid, cutFrames, mayOpen, openingRefusal, firstRefusal, queued, opened, setUpRefusal}
 use Rattle.gateway.specs.declared.Opening.{Opening}
+use Rattle.lists.proofs.PieceLaws.{first-none}
+use Rattle.frame.proofs.PieceBytes.{cut-bytes}
 use Rattle.gateway.proofs.Maintaining.{Kept, enough}
 use Rattle.gateway.proofs.Queues.{GoodQueue, pending-good, opening-enters}
 use Rattle.gateway.proofs.Accepting.{Accepted, Taken, form-passed, not-refused, accepted-good}
-
-cut-bytes : (turns : ℕ) (s : List ℕ) → Bytes s → (f : List ℕ) → f ∈ cutFrames turns s → Bytes f
-unfolding cutFrames
-cut-bytes zero s h f m = absurd (List·Memᴰ·not-nil m)
-cut-bytes (suc turns) [] h f m = absurd (List·Memᴰ·not-nil m)
-cut-bytes (suc turns) (b ∷ s) h f m =
-    ⊎-elim
-    (λ (e : f ≡ take (wholeLength b) (b ∷ s)). subst Bytes (sym e) (bytes-take (wholeLength b) (b ∷ s) h))
-    (cut-bytes turns (drop (wholeLength b) (b ∷ s)) (bytes-drop (wholeLength b) (b ∷ s) h) f)
-    (List·Memᴰ·cases-cons m)
-
--- no frame is refused
-none-refused : (s : Settings) (fs : List (List ℕ)) → firstRefusal s fs ≡ 0 → (f : List ℕ) → f ∈ fs → openingRefusal s f ≡ 0
-unfolding firstRefusal
-none-refused s [] h f m = absurd (List·Memᴰ·not-nil m)
-none-refused s (x ∷ xs) h f m = by-case (eqb (openingRefusal s x) 0) refl h (λ k. none-refused s xs k f)
-  where
-    by-case : (b : Bool) → eqb (openingRefusal s x) 0 ≡ b → cond b (firstRefusal s xs) (openingRefusal s x) ≡ 0
-        → (firstRefusal s xs ≡ 0 → f ∈ xs → openingRefusal s f ≡ 0) → openingRefusal s f ≡ 0
-    by-case true e k rest = ⊎-elim (λ (d : f ≡ x). ap (openingRefusal s) d ∙ eqb-true (openingRefusal s x) 0 e) (rest k) (List·Memᴰ·cases-cons m)
-    by-case false e k rest = absurd (eqb-false (openingRefusal s x) 0 e k)
 
 -- only a plain message has sense 0
 plain-sense : (sense : Sense) → eqb (senseNumber sense) 0 ≡ true → sense ≡ Plain
@@ -164,7 +144,7 @@ opened-keeps o size list bytes h =
     let fs = cutFrames (length list) list in
     let passes = opening-passes o size list h in
     let q = queued-good {s = settingsOf o} [] (record { entries = λ e m. absurd (List·Memᴰ·not-nil m); order = none }) (λ e m. absurd (List·Memᴰ·not-nil m)) fs
-    (λ f m. opening-taken (settingsOf o) f (cut-bytes (length list) list bytes f m) (none-refused (settingsOf o) fs (passes .frames) f m)) in
+    (λ f m. opening-taken (settingsOf o) f (cut-bytes wholeLength (length list) list bytes f m) (first-none (openingRefusal (settingsOf o)) fs (passes .frames) f m)) in
     let valid : openingValid o size ≡ true = passes .valid in
     enough
     (record {

@@ -1,6 +1,6 @@
 -- The examples of the first refusal of a frame hold, by computation.
 use mathlib.Core.Path.{refl}
-use Rattle.lists.specs.Lists.{tally, joined, every, any, beforeFirst, fromFirst}
+use Rattle.lists.specs.Lists.{tally, joined, every, any, beforeFirst, fromFirst, firstNumber, cutBy}
 use Rattle.buffer.specs.Slice.{part, write}
 use Rattle.buffer.specs.Number.{bytesOf, numberFrom, numberOf}
 use Rattle.model.specs.EventOrder.{key, compared}
@@ -14,7 +14,7 @@ use Rattle.memory.specs.Soundness.{sound}
 use Rattle.gateway.specs.Effects.{fits, settled, sentAll}
 use Rattle.gateway.specs.Undoing.{processedOf, undone, restored, sentBack, rolledBack}
 use Rattle.gateway.specs.Taking.{takePlain}
-use Rattle.gateway.specs.SettingUp.{openingValid, cutFrames, openingRefusal, firstRefusal, setUpRefusal}
+use Rattle.gateway.specs.SettingUp.{openingValid, openingRefusal, setUpRefusal}
 use Rattle.gateway.specs.Calls.{onSound, takeFrame, takeBytes, taken}
 use Rattle.gateway.specs.ReasonExamples.{FirstReasons}
 
@@ -22,7 +22,7 @@ pub first-reasons : FirstReasons
 unfolding
     tally joined every any beforeFirst fromFirst part write bytesOf numberFrom numberOf key compared standing wholeLength cut mapOfKind hasHour hasLamp mapOf contents written
     allBetween lampFits valuesOf fieldsOf mapFits fieldsForm formOf reading refusal refusalWhere settingsValid equal sound fits settled processedOf
-    undone restored sentBack rolledBack sentAll takePlain openingValid cutFrames openingRefusal firstRefusal setUpRefusal onSound takeFrame takeBytes taken
+    undone restored sentBack rolledBack sentAll takePlain openingValid cutBy openingRefusal firstNumber setUpRefusal onSound takeFrame takeBytes taken
 first-reasons =
     record {
       noByte = (refl, refl, refl);

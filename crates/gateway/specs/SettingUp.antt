@@ -1,9 +1,9 @@
 -- Set up: the settings, then each frame of the opening list in turn, then the queue places.
-use Prim.Native.Nat.{ℕ, zero, suc, _+_}
+use Prim.Native.Nat.{ℕ, _+_}
 use mathlib.Core.Bool.{Bool, cond, _&&_, _||_}
 use mathlib.Core.List.{List, [], _∷_, _++_}
 use lib.Dec.{leb, eqb}
-use lib.ListN.{length, take, drop}
+use lib.ListN.{length}
 use Rattle.model.specs.Messages.{kindNumber}
 use Rattle.frame.specs.Layout.{wholeLength}
 use Rattle.frame.specs.Kinds.{senseNumber}
@@ -16,7 +16,7 @@ use Rattle.memory.specs.Validity.{settingsValid}
 use Rattle.memory.specs.declared.Settings.{Settings}
 use Rattle.memory.specs.declared.Entry.{Entry}
 use Rattle.gateway.specs.Undoing.{pendingEntry}
-use Rattle.lists.specs.Lists.{beforeFirst, fromFirst}
+use Rattle.lists.specs.Lists.{beforeFirst, fromFirst, firstNumber, cutBy}
 use Rattle.gateway.specs.Taking.{isLater}
 use Rattle.gateway.specs.Rounds.{idle}
 use Rattle.gateway.specs.declared.Opening.{Opening}
@@ -30,10 +30,8 @@ unfoldable pub openingValid : Opening → ℕ → Bool
 openingValid o size = settingsValid (settingsOf o) && leb (o .stock) 65535 && leb (sizeFor (o .q) (o .u)) size
 
 -- the list cut into frames by the lengths of their maps; what is left too short is a cut frame. `turns` bounds their number
-unfoldable pub cutFrames : ℕ → List ℕ → List (List ℕ)
-cutFrames zero s = []
-cutFrames (suc turns) [] = []
-cutFrames (suc turns) (b ∷ s) = take (wholeLength b) (b ∷ s) ∷ cutFrames turns (drop (wholeLength b) (b ∷ s))
+abbrev pub cutFrames : ℕ → List ℕ → List (List ℕ)
+cutFrames turns s = cutBy wholeLength turns s
 
 -- a plain message of kind 0 or 3
 abbrev pub mayOpen : Frame → Bool
@@ -48,10 +46,8 @@ openingRefusal s bytes =
     cond (eqb number 0) (refusal (r .frame) (s .n) (s .own) (s .last)) number
 
 -- the first refusal among the frames, or 0
-unfoldable pub firstRefusal : Settings → List (List ℕ) → ℕ
-unfolding openingRefusal
-firstRefusal s [] = 0
-firstRefusal s (f ∷ fs) = let rest = firstRefusal s fs in cond (eqb (openingRefusal s f) 0) rest (openingRefusal s f)
+abbrev pub firstRefusal : Settings → List (List ℕ) → ℕ
+firstRefusal s fs = firstNumber (openingRefusal s) fs
 
 -- the opening messages in event order, of equal ones the first first
 unfoldable pub queued : List Entry → List (List ℕ) → List Entry
@@ -74,7 +70,7 @@ opened o fs = record {
 
 -- what set up is refused with, or 0: 8, then of each frame in turn the number of its form, 2 or 3, then 5
 unfoldable pub setUpRefusal : Opening → ℕ → List ℕ → ℕ
-unfolding openingValid firstRefusal cutFrames
+unfolding openingValid openingRefusal firstNumber cutBy
 setUpRefusal o size list =
     let fs = cutFrames (length list) list in
     let refusal′ = firstRefusal (settingsOf o) fs in

@@ -5,3 +5,4 @@ pub mod FamilyLaws
 pub mod Ascents
 pub mod SearchLaws
 pub mod PositionLaws
+pub mod PieceLaws

@@ -2,7 +2,9 @@
 use mathlib.Core.Path.{_≡_}
 use mathlib.Core.Bool.{Bool, true, false, cond, _&&_, _||_}
 use mathlib.Core.List.{List, [], _∷_, _++_, List·Memᴰ}
-use Prim.Native.Nat.{ℕ, _+_, min}
+use Prim.Native.Nat.{ℕ, zero, suc, _+_, min}
+use lib.Dec.{eqb}
+use lib.ListN.{take, drop}
 
 infix 50 _∈_
 -- x is an element of xs
@@ -89,6 +91,17 @@ tally f (a ∷ l) = f a + tally f l
 unfoldable pub least : {A : Type 0} → ℕ → (A → ℕ) → List A → ℕ
 least never f [] = never
 least never f (a ∷ l) = min (f a) (least never f l)
+
+-- the first number other than 0 that f gives for an element; 0 if there is none
+unfoldable pub firstNumber : {A : Type 0} → (A → ℕ) → List A → ℕ
+firstNumber f [] = 0
+firstNumber f (x ∷ xs) = let rest = firstNumber f xs in cond (eqb (f x) 0) rest (f x)
+
+-- a list cut into pieces, each as long as its first element says; what is left too short is a cut piece. `turns` bounds their number
+unfoldable pub cutBy : {A : Type 0} → (A → ℕ) → ℕ → List A → List (List A)
+cutBy size zero s = []
+cutBy size (suc turns) [] = []
+cutBy size (suc turns) (x ∷ s) = take (size x) (x ∷ s) ∷ cutBy size turns (drop (size x) (x ∷ s))
 
 -- 1 for equal elements, else 0
 unfoldable pub matches : {A : Type 0} → Discrete A → A → A → ℕ

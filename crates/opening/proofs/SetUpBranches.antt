@@ -21,15 +21,15 @@ use Rattle.memory.proofs.Validated.{settings-facts, valid-facts}
 use Rattle.lists.proofs.BoolLaws.{and-left, and-right}
 use Rattle.memory.proofs.Fitting.{valid-fits}
 use Rattle.memory.proofs.Holding.{encode-by}
-use Rattle.gateway.specs.SettingUp.{settingsOf, openingValid, cutFrames, firstRefusal, queued, opened, setUpRefusal}
+use Rattle.gateway.specs.SettingUp.{settingsOf, openingValid, cutFrames, openingRefusal, firstRefusal, queued, opened, setUpRefusal}
 use Rattle.gateway.specs.Calls.{setUp}
 use Rattle.gateway.specs.declared.Answer.{Answer}
 use Rattle.gateway.specs.declared.Opening.{Opening}
 use Rattle.gateway.proofs.Openings.{length-queued, opened-keeps}
 use Rattle.opening_list.specs.declared.Checked.{Checked}
 use Rattle.opening_list.specs.inside.Frames.{framesFrom, checkedAs, openedHeader}
-use Rattle.opening_list.proofs.FramePositions.{frames-all}
-use Rattle.opening_list.proofs.Checking.{all-counted}
+use Rattle.lists.proofs.PieceLaws.{none-refused}
+use Rattle.opening_list.proofs.Checking.{frames-all}
 
 -- what valid settings say
 pub record ValidOpening (o : Opening) (size : ℕ) : Type 0 where
@@ -84,7 +84,7 @@ module _ (o : Opening) (list m : List ℕ) where
           count-is : r .count ≡ length (cutFrames (length list) list)
           count-is =
               ap (λ (x : Checked). x .count) k
-              ∙ all-counted s (framesFrom list 0) (sym (ap (λ (x : Checked). x .number) k) ∙ z)
+              ∙ ap length (none-refused (openingRefusal s) (framesFrom list 0) (sym (ap (λ (x : Checked). x .number) k) ∙ z))
               ∙ rw (frames-all list)
 
           none-is : eqb (firstRefusal (settingsOf o) (cutFrames (length list) list)) 0 ≡ true

@@ -2,12 +2,16 @@
 use mathlib.Core.Path.{_≡_, refl, sym, _∙_, ap}
 use mathlib.Core.Bool.{true, false, cond, not}
 use mathlib.Core.List.{List, [], _∷_}
-use Prim.Native.Nat.{ℕ, suc, _+_, _-_, _≤_, _<_}
+use Prim.Native.Nat.{ℕ, _+_, _-_, _≤_, _<_}
 use native.Mathlib.Omega.{arith}
 use native.Mathlib.Decide.{ℕ-discrete}
 use lib.Dec.{eqb}
 use lib.ListN.{length, take, drop}
-use Rattle.lists.specs.Lists.{beforeFirst}
+use Rattle.lists.specs.Lists.{beforeFirst, tally}
+use Rattle.lists.specs.inside.Pieces.{pieceEnd, isRefused}
+use Rattle.lists.proofs.PieceLaws.{pieces-all, Passing, Passed, passing-start, passing-end, passing-refused, passing-turn}
+use Rattle.frame.specs.Layout.{wholeLength}
+use Rattle.frame.proofs.Sizes.{whole-some}
 use borrow.Author.Tests.{eq-eqb, ne-eqb}
 use Rattle.model.specs.Messages.{kindNumber}
 use Rattle.frame.specs.Kinds.{senseNumber}
@@ -16,9 +20,8 @@ use Rattle.frame.specs.Reasons.{reading, formIn, formNumber}
 use Rattle.frame.specs.declared.Frame.{Frame}
 use Rattle.frame.specs.declared.Reading.{Reading}
 use Rattle.memory.specs.declared.Settings.{Settings}
-use Rattle.gateway.specs.SettingUp.{mayOpen, openingRefusal, firstRefusal}
-use Rattle.opening_list.specs.inside.Frames.{framesFrom, frameEnd, refusedFrame, checkedAs}
-use Rattle.opening_list.proofs.FramePositions.{end-between, frames-none, frames-next}
+use Rattle.gateway.specs.SettingUp.{cutFrames, mayOpen, openingRefusal}
+use Rattle.opening_list.specs.inside.Frames.{framesFrom, checkedAs}
 
 -- whether a frame may stand in the list
 module _ (f : Frame) {sense : ℕ} (e : sense ≡ senseNumber (f .sense)) where
@@ -44,64 +47,41 @@ module _ (s : Settings) (bytes : List ℕ) {r : Reading} (e : r ≡ reading byte
   unfolding openingRefusal
   frame-checked h n = n ∙ ap (λ (x : Reading). refusal (x .frame) (s .n) (s .own) (s .last)) e ∙ rw (← is-form, eq-eqb form 0 h)
 
+pub frames-all : (list : List ℕ) → framesFrom list 0 ≡ cutFrames (length list) list
+frames-all list = pieces-all wholeLength whole-some list
+
 -- the pass has come to a position, and none before it is refused
-pub record Passing (list : List ℕ) (s : Settings) (count at : ℕ) : Type 0 where
-  pub inside : at ≤ length list
-  pub few : count ≤ at
-  pub rest : firstRefusal s (framesFrom list 0) ≡ firstRefusal s (framesFrom list at)
-  pub counted : count + length (beforeFirst (refusedFrame s) (framesFrom list at)) ≡ length (beforeFirst (refusedFrame s) (framesFrom list 0))
+abbrev pub Checking : List ℕ → Settings → ℕ → ℕ → Type 0
+Checking list s count at = Passing wholeLength (openingRefusal s) (λ f. 1) list count at
 
--- where no frame is refused, all of them are counted
-pub all-counted : (s : Settings) (frames : List (List ℕ)) → firstRefusal s frames ≡ 0 → length (beforeFirst (refusedFrame s) frames) ≡ length frames
-unfolding firstRefusal beforeFirst
-all-counted s [] z = refl
-all-counted s (f ∷ fs) z = go (ℕ-discrete (openingRefusal s f) 0) (all-counted s fs)
-  where
-    go : Dec (openingRefusal s f ≡ 0) → (firstRefusal s fs ≡ 0 → length (beforeFirst (refusedFrame s) fs) ≡ length fs)
-        → length (beforeFirst (refusedFrame s) (f ∷ fs)) ≡ length (f ∷ fs)
-    go (yes e) rest = rw (eq-eqb (openingRefusal s f) 0 e) (ap suc (rest (rw (eq-eqb (openingRefusal s f) 0 e) at z)))
-    go (no d) rest = absurd (d (rw (ne-eqb (openingRefusal s f) 0 d) at z))
+one-each : {A : Type 0} (l : List A) → tally (λ a. 1) l ≡ length l
+unfolding tally
+one-each [] = refl
+one-each (a ∷ l) = omega (arith, one-each l)
 
-pub pass-start : (list : List ℕ) (s : Settings) → Passing list s 0 0
-pass-start list s = record { inside = omega arith; few = omega arith; rest = refl; counted = omega arith }
+-- every frame counts for one
+pub light : (s : Settings) (f : List ℕ) → 1 ≤ length f → openingRefusal s f ≡ 0 → 1 ≤ length f
+light s f h z = h
 
-module _ (list : List ℕ) (s : Settings) (count at : ℕ) (p : Passing list s count at) where
+checked-as : (list : List ℕ) (s : Settings) (number count : ℕ) → Passed wholeLength (openingRefusal s) (λ f. 1) list number count
+    → record { number = number; count = count } ≡ checkedAs s (framesFrom list 0)
+checked-as list s number count p =
+    let all = p .added ∙ one-each (beforeFirst (isRefused (openingRefusal s)) (framesFrom list 0)) in
+    λ i. record { number = p .first i; count = all i }
+
+pub pass-start : (list : List ℕ) (s : Settings) → Checking list s 0 0
+pass-start list s = passing-start wholeLength whole-some (openingRefusal s) (λ f. 1) (light s) list
+
+module _ (list : List ℕ) (s : Settings) (count at : ℕ) (p : Checking list s count at) where
   pub pass-end : length list ≤ at → record { number = 0; count = count } ≡ checkedAs s (framesFrom list 0)
-  unfolding firstRefusal beforeFirst
-  pass-end h =
-      let e = frames-none list at h in
-      let none : 0 ≡ firstRefusal s (framesFrom list 0) = sym (p .rest ∙ rw e) in
-      let all : count ≡ length (beforeFirst (refusedFrame s) (framesFrom list 0)) = omega (arith, rw e at (p .counted)) in
-      λ i. record { number = none i; count = all i }
+  pass-end h = checked-as list s 0 count (passing-end wholeLength whole-some (openingRefusal s) (λ f. 1) (light s) list count at p h)
 
-  module _ (h : at < length list) {end : ℕ} (e : end ≡ frameEnd list at) {number : ℕ} (n : number ≡ openingRefusal s (take (end - at) (drop at list))) where
-    here : framesFrom list at ≡ take (end - at) (drop at list) ∷ framesFrom list end
-    here = rw e (frames-next list at h)
+  module _ (h : at < length list) {end : ℕ} (e : end ≡ pieceEnd wholeLength list at) {number : ℕ} (n : number ≡ openingRefusal s (take (end - at)
+      (drop at list)))
+    where
+      pub pass-refused : (number ≡ 0 → ⊥) → record { number = number; count = count } ≡ checkedAs s (framesFrom list 0)
+      pass-refused d =
+          checked-as list s number count (passing-refused wholeLength whole-some (openingRefusal s) (λ f. 1) (light s) list count at p h e n d)
 
-    rest-here : firstRefusal s (framesFrom list 0) ≡ cond (eqb number 0) (firstRefusal s (framesFrom list end)) number
-    unfolding firstRefusal
-    rest-here = p .rest ∙ rw (here, n)
-
-    -- the frames that are counted from here on
-    counted-here : length (beforeFirst (refusedFrame s) (framesFrom list at))
-        ≡ length (cond (not (eqb number 0)) [] (take (end - at) (drop at list) ∷ beforeFirst (refusedFrame s) (framesFrom list end)))
-    unfolding beforeFirst
-    counted-here = rw (here, n)
-
-    pub pass-refused : (number ≡ 0 → ⊥) → record { number = number; count = count } ≡ checkedAs s (framesFrom list 0)
-    pass-refused d =
-        let found : number ≡ firstRefusal s (framesFrom list 0) = sym (rest-here ∙ rw (ne-eqb number 0 d)) in
-        let none = rw (ne-eqb number 0 d) at counted-here in
-        let all : count ≡ length (beforeFirst (refusedFrame s) (framesFrom list 0)) = omega (arith, none, p .counted) in
-        λ i. record { number = found i; count = all i }
-
-    pub pass-turn : number ≡ 0 → Passing list s (count + 1) end
-    pass-turn z =
-        let b = end-between list at h e in
-        let one-more = rw (eq-eqb number 0 z) at counted-here in
-        record {
-          inside = b .inside;
-          few = omega (arith, b .later, p .few);
-          rest = rest-here ∙ rw (eq-eqb number 0 z);
-          counted = omega (arith, one-more, p .counted);
-        }
+      pub pass-turn : number ≡ 0 → Checking list s (count + 1) end
+      pass-turn z = passing-turn wholeLength whole-some (openingRefusal s) (λ f. 1) (light s) list count at p h e n z refl

@@ -32,8 +32,11 @@ use Rattle.places.specs.inside.Searching.{passes, entriesIn}
 use Rattle.places.specs.declared.search.Search.the-variants.{Later}
 use Rattle.gateway.proofs.Openings.{length-entered}
 use Rattle.gateway.proofs.ReadMessages.{reading-fits}
-use Rattle.opening_list.specs.inside.Frames.{framesFrom, frameEnd, memoryEntered}
-use Rattle.opening_list.proofs.FramePositions.{end-between, frames-none, frames-next}
+use Rattle.lists.specs.inside.Pieces.{pieceEnd}
+use Rattle.lists.proofs.PieceLaws.{end-between, pieces-none, pieces-next}
+use Rattle.frame.specs.Layout.{wholeLength}
+use Rattle.frame.proofs.Sizes.{whole-some}
+use Rattle.opening_list.specs.inside.Frames.{framesFrom, memoryEntered}
 
 pub entered-at : (count : ℕ) (m : Message) (memory : List ℕ) {k : ℕ} {e : Entry} {after : List ℕ} → k ≡ firstWhere (passes Later m)
     (entriesIn memory count) → e ≡ pendingEntry m
@@ -130,11 +133,11 @@ enter-start before list = record {
 module _ (before list memory : List ℕ) (count at : ℕ) (p : Entering before list memory count at) where
   pub enter-end : length list ≤ at → memory ≡ write headerSize (joined entryBytes (queued [] (framesFrom list 0))) before
   unfolding queued
-  enter-end h = p .stored ∙ ap (λ (es : List Entry). queueWritten es before) (sym (p .rest ∙ rw (frames-none list at h)))
+  enter-end h = p .stored ∙ ap (λ (es : List Entry). queueWritten es before) (sym (p .rest ∙ rw (pieces-none wholeLength whole-some list at h)))
 
-  module _ (h : at < length list) (room : queueAt (length (framesFrom list 0)) ≤ length before) {end : ℕ} (e : end ≡ frameEnd list at) where
+  module _ (h : at < length list) (room : queueAt (length (framesFrom list 0)) ≤ length before) {end : ℕ} (e : end ≡ pieceEnd wholeLength list at) where
     here : framesFrom list at ≡ take (end - at) (drop at list) ∷ framesFrom list end
-    here = rw e (frames-next list at h)
+    here = rw e (pieces-next wholeLength whole-some list at h)
 
     here-length : length (framesFrom list at) ≡ suc (length (framesFrom list end))
     here-length = ap length here
@@ -147,7 +150,7 @@ module _ (before list memory : List ℕ) (count at : ℕ) (p : Entering before l
         → Entering before list after (count + 1) end
     unfolding queued part
     enter-turn bytes {r} q {after} a =
-        let b = end-between list at h e in
+        let b = end-between wholeLength whole-some list at h e in
         let m = r .frame .message in
         let f : MessageFits m = rw q (reading-fits (part list at (end - at)) (bytes-part list at (end - at) bytes)) in
         let space : queueAt (length (p .entries)) + queueSize ≤ length before = omega (arith, enter-room, p .few) in

@@ -1,4 +1,3 @@
 -- Laws and proofs of the opening list.
 pub mod Checking
 pub mod Entering
-pub mod FramePositions

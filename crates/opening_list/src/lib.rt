@@ -4,8 +4,8 @@ use effects::insert::pending;
 use frame::Frame;
 use frame::Reading;
 use frame::forms::number_where;
+use frame::pieces::frame_end;
 use frame::tables::sense_number;
-use frame::tables::whole_length;
 use limits::check;
 use memory::Settings;
 use model::Message;
@@ -15,7 +15,7 @@ use places::search::find;
 use reader::read;
 ghost use mathlib.Core.Path.{_≡_};
 ghost use mathlib.Core.List.{[]};
-ghost use Prim.Native.Nat.{_+_, _≤_, _<_};
+ghost use Prim.Native.Nat.{_+_, _≤_};
 ghost use lib.ListN.{length};
 ghost use Rattle.memory.specs.Layout.{headerSize, queueSize, queueAt};
 ghost use Rattle.lists.specs.Lists.{joined};
@@ -23,24 +23,12 @@ ghost use Rattle.buffer.specs.Slice.{write};
 ghost use Rattle.memory.specs.Codec.{entryBytes};
 ghost use Rattle.frame.specs.Reasons.{formIn, formNumber};
 ghost use Rattle.gateway.specs.SettingUp.{mayOpen, openingRefusal, queued};
-ghost use Rattle.opening_list.specs.inside.Frames.{frameEnd, framesFrom, checkedAs, memoryEntered};
+ghost use Rattle.opening_list.specs.inside.Frames.{framesFrom, checkedAs, memoryEntered};
 
 // What the pass over the opening list finds: the first refusal, or 0, and how many frames stand before it or in all.
 pub struct Checked {
     pub number: u8,
     pub count: usize,
-}
-
-// The position behind the frame that begins at a position; the list's end where it is cut short.
-fn frame_end(list: &[u8], at: usize) -> usize
-    requires { ⌜ at < length (now list) ⌝ }
-    ensures { λ r. ⌜ r ≡ frameEnd (now (list .entry)) at ⌝ }
-{
-    let size = whole_length(list[at]);
-    if list.len() - at < size {
-        return list.len();
-    }
-    at + size
 }
 
 // Whether a frame is a plain message of kind 0 or 3.

@@ -5,7 +5,7 @@ use Prim.Native.Nat.{ℕ, zero, suc, _+_, _≤_}
 use native.Mathlib.Omega.{arith}
 use lib.ListN.{length, take, drop, length-append}
 use lib.Seq.{take-append-seam, drop-append-seam}
-use Rattle.lists.specs.Lists.{All, cons, joined}
+use Rattle.lists.specs.Lists.{All, cons, joined, cutBy}
 use Rattle.buffer.specs.Slice.{write}
 use Rattle.frame.specs.Layout.{wholeLength}
 use Rattle.frame.specs.Kinds.{mapOf}
@@ -21,7 +21,7 @@ Whole f = wholeLength (mapOf f) ≡ length (written f)
 
 -- frames one behind the other are cut into these frames
 pub cut-written : (fs : List Frame) → All Whole fs → (turns : ℕ) → length fs ≤ turns → cutFrames turns (bytesOfFrames fs) ≡ map written fs
-unfolding cutFrames joined written
+unfolding cutBy joined written
 cut-written [] a zero h = refl
 cut-written [] a (suc turns) h = refl
 cut-written (f ∷ fs) a zero h = absurd (omega arith)

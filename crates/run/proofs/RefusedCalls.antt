@@ -10,7 +10,8 @@ use Rattle.lists.specs.Families.{change}
 use Rattle.model.specs.declared.Message.{Message}
 use Rattle.memory.specs.Records.{Gateway}
 use Rattle.memory.specs.Codec.{decode, encode}
-use Rattle.gateway.specs.SettingUp.{setUpRefusal, cutFrames}
+use Rattle.lists.specs.Lists.{cutBy}
+use Rattle.gateway.specs.SettingUp.{setUpRefusal}
 use Rattle.gateway.specs.Effects.{bytesOfFrames, fits}
 use Rattle.gateway.specs.Working.{Progress, noneDone, onceMore, workedBy, worked, done, pendingOf}
 use Rattle.gateway.specs.Claims.{SoundBytes}
@@ -84,7 +85,7 @@ no-event (suc b) room g h = next (pendingOf (g .queue)) h
 
 pub idle-work : (n : ℕ) (w : World) (i b : ℕ) (output : List ℕ) → SoundBytes (w .memories i) → workedOff b (w .memories i)
     output .answer .count ≡ 0 → afterCall n w (works i b output) ≡ w
-unfolding afterCall afterWorking workedOff cutFrames didSome
+unfolding afterCall afterWorking workedOff cutBy didSome
 idle-work n w i b output s h =
     rw (s .is-sound, none, ap length (e .output))
     (λ k. record {

@@ -4,7 +4,9 @@ use Prim.Native.Nat.{_-_}
 use native.Mathlib.Omega.{arith}
 use lib.ListN.{length}
 use Rattle.buffer.proofs.Lent.{bytes-known}
-use Rattle.opening_list.proofs.FramePositions.{end-between}
+use Rattle.lists.proofs.PieceLaws.{end-between}
+use Rattle.frame.specs.Layout.{wholeLength}
+use Rattle.frame.proofs.Sizes.{whole-some}
 use Rattle.opening_list.proofs.Entering.{Entering, enter-start, enter-end, enter-room, enter-turn}
 use borrow.Author.Needs.{needs}
 use Rattle.opening_list.proofs.enter_list.Statement.{statement}
@@ -23,13 +25,13 @@ frame-end-requires : tie.Need-frame-end-requires Inv-loop μ-loop
 frame-end-requires c κs = search needs
 
 sub-read : tie.Need-sub-read Inv-loop μ-loop
-sub-read c = let b = end-between _ _ (c .before .loop-test .taken) (c .frame-end .ensures) in search needs
+sub-read c = let b = end-between wholeLength whole-some _ _ (c .before .loop-test .taken) (c .frame-end .ensures) in search needs
 
 part-read-start : tie.Need-part-read-start Inv-loop μ-loop
-part-read-start c = let b = end-between _ _ (c .before .loop-test .taken) (c .frame-end .ensures) in search needs
+part-read-start c = let b = end-between wholeLength whole-some _ _ (c .before .loop-test .taken) (c .frame-end .ensures) in search needs
 
 part-read-end : tie.Need-part-read-end Inv-loop μ-loop
-part-read-end c = let b = end-between _ _ (c .before .loop-test .taken) (c .frame-end .ensures) in search needs
+part-read-end c = let b = end-between wholeLength whole-some _ _ (c .before .loop-test .taken) (c .frame-end .ensures) in search needs
 
 read-requires : tie.Need-read-requires Inv-loop μ-loop
 read-requires c κs = search needs
@@ -56,7 +58,7 @@ loop-less : tie.Need-loop-less Inv-loop μ-loop
 loop-less c =
     let at-frame-end = c .before .before .before .before .before .before .before .before in
     let at-loop-test = at-frame-end .before in
-    let b = end-between _ _ (at-loop-test .loop-test .taken) (at-frame-end .frame-end .ensures) in search needs
+    let b = end-between wholeLength whole-some _ _ (at-loop-test .loop-test .taken) (at-frame-end .frame-end .ensures) in search needs
 
 loop-again : tie.Need-loop-again Inv-loop μ-loop
 loop-again c =

@@ -1,8 +1,8 @@
--- `opening_list::frame_end` meets its contract.
-use Rattle.opening_list.proofs.FramePositions.{end-cut, end-whole}
+-- `frame::pieces::frame_end` meets its contract.
+use Rattle.lists.proofs.PieceLaws.{end-cut, end-whole}
 use borrow.Author.Needs.{needs}
-use Rattle.opening_list.proofs.frame_end.Statement.{statement}
-use Rattle.opening_list.proofs.frame_end.Tie as tie
+use Rattle.frame.proofs.pieces.frame_end.Statement.{statement}
+use Rattle.frame.proofs.pieces.frame_end.Tie as tie
 
 shared-slice-read-whole-length : tie.Need-shared-slice-read-whole-length
 shared-slice-read-whole-length c = search needs
