@@ -7,3 +7,4 @@ pub mod Numbers
 pub mod Equality
 pub mod Putting
 pub mod Lent
+pub mod Copies

@@ -5,8 +5,10 @@ use native.Mathlib.Omega.{arith}
 use mathlib.Core.Bool.{Bool, true, false, not, _&&_, false≢true}
 use lib.Dec.{eqb}
 use borrow.Author.Tests.{not-true, not-false}
-use Rattle.frame.specs.Reasons.{isGood, formWhere, formNumber}
+use Rattle.frame.specs.Reasons.{isGood, formWhere, formIn, formNumber}
 use Rattle.frame.specs.declared.Form.{Form}
+use Rattle.frame.specs.declared.Frame.{Frame}
+use Rattle.frame.specs.declared.Reading.{Reading}
 use Rattle.frame.specs.declared.Form.the-variants.{Good, TooShort, WrongMap, WrongLength, WrongSense, WrongLamp, WrongGateways, NotTaken}
 
 -- a form is good just where its number is 0
@@ -81,6 +83,12 @@ form-both taken form e = by (isGood form) taken (sym (form-passes taken form) �
     by : (a b : Bool) → (a && b) ≡ true → (a ≡ true) × (b ≡ true)
     by true b h = (refl, h)
     by false b h = absurd (false≢true h)
+
+-- a frame that a call takes is good, and of those that it takes
+pub form-passed : (taken : Frame → Bool) (r : Reading) → eqb (formNumber (formIn taken r)) 0 ≡ true → (r .form ≡ Good) × (taken (r .frame) ≡ true)
+form-passed taken r h =
+    let both = form-both (taken (r .frame)) (r .form) (good-number (formIn taken r) ∙ h) in
+    (good-form (r .form) (both .0), both .1)
 
 -- the branches of the code that finds it
 module _ (taken : Bool) (form : Form) {good : Bool} (e : good ≡ isGood form) where

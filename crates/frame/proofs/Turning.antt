@@ -1,9 +1,10 @@
 -- Laws of the checks of a frame's numbers and hour, and of a value's form, a law for each branch of the code.
 use mathlib.Core.Path.{_≡_, sym, _∙_}
 use Prim.Native.Nat.{ℕ, _/_, _<_, _≤_}
+use native.Mathlib.Omega.{arith}
 use mathlib.Core.Bool.{Bool, true, false, cond, not, _&&_, _||_}
 use lib.Dec.{ltb, eqb}
-use borrow.Author.Tests.{le-leb, lt-leb, lt-ltb, le-ltb, eq-eqb, ne-eqb, not-true, not-false}
+use borrow.Author.Tests.{le-leb, lt-leb, lt-ltb, le-ltb, not-true, not-false}
 use Rattle.model.specs.Messages.{kindNumber, originOf}
 use Rattle.model.specs.declared.Message.{Message}
 use Rattle.frame.specs.Layout.{odd}
@@ -52,6 +53,16 @@ module _ (here : Bool) (f : Frame) (n last : ℕ) {ok : Bool} (e : ok ≡ number
       pub allowed : not hour ≡ false → 0 ≡ refusalWhere here f n last
       unfolding refusalWhere
       allowed l = rw (sym e ∙ not-false ok h, not-false here d, sym k ∙ not-false hour l)
+
+-- whatever it is, the number is small
+pub refusal-few : (here : Bool) (f : Frame) (n last : ℕ) → refusalWhere here f n last < 10
+unfolding refusalWhere
+refusal-few here f n last = by-case (numbersBelow n (f .message) && here) (hourAllowed last (f .message))
+  where
+    by-case : (a b : Bool) → cond a (cond b 0 3) 2 < 10
+    by-case true true = omega arith
+    by-case true false = omega arith
+    by-case false b = omega arith
 
 -- by the gateway that looks at it
 pub checked-here : (f : Frame) (n own last : ℕ) {to number : ℕ} → to ≡ addressee (f .sense) (f .message) → number ≡ refusalWhere (eqb to own) f n last

@@ -10,13 +10,13 @@ use Rattle.model.specs.declared.Message.{Message}
 use Rattle.frame.specs.Claims.{RangedFrame}
 use Rattle.frame.specs.Kinds.{hasLamp}
 use Rattle.frame.specs.Limits.{addressee, numbersBelow, hourAllowed, nothingDue, refusal, refusalWhere}
-use Rattle.frame.specs.Reasons.{formIn, formNumber}
+use Rattle.frame.specs.Reasons.{formNumber}
 use Rattle.frame.specs.Writing.{wellFormed}
 use Rattle.frame.specs.declared.Frame.{Frame}
 use Rattle.frame.specs.declared.Form.{Form}
 use Rattle.frame.specs.declared.Form.the-variants.{Good as GoodForm}
-use Rattle.frame.specs.declared.Reading.{Reading}
-use Rattle.frame.proofs.FormNumbers.{good-number, good-form, form-both}
+use Rattle.frame.proofs.FormNumbers.{good-number, good-form}
+use Rattle.frame.proofs.Turning.{refusal-few}
 use Rattle.frame.proofs.Presence.{lamp-kinds}
 use Rattle.memory.specs.Validity.{frameIf}
 use Rattle.memory.specs.declared.Settings.{Settings}
@@ -26,12 +26,6 @@ use Rattle.gateway.proofs.Replies.{Good}
 -- only Good has the number 0
 pub form-good : (form : Form) → eqb (formNumber form) 0 ≡ true → form ≡ GoodForm
 form-good form h = good-form form (good-number form ∙ h)
-
--- a frame that a call takes is good, and of those that it takes
-pub form-passed : (taken : Frame → Bool) (r : Reading) → eqb (formNumber (formIn taken r)) 0 ≡ true → (r .form ≡ GoodForm) × (taken (r .frame) ≡ true)
-form-passed taken r h =
-    let both = form-both (taken (r .frame)) (r .form) (good-number (formIn taken r) ∙ h) in
-    (good-form (r .form) (both .0), both .1)
 
 -- a frame passes 2 and 3
 pub record Passes (s : Settings) (f : Frame) : Type 0 where
@@ -55,14 +49,9 @@ not-refused s f = by-case (numbersBelow (s .n) (f .message) && eqb (addressee (f
     by-case true e false h z = absurd (omega arith)
     by-case false e b h z = absurd (omega arith)
 
-pub refusal-few : (f : Frame) (n own last : ℕ) → refusal f n own last < 10
-unfolding refusal refusalWhere
-refusal-few f n own last = by-case (numbersBelow n (f .message) && eqb (addressee (f .sense) (f .message)) own) (hourAllowed last (f .message))
-  where
-    by-case : (a b : Bool) → cond a (cond b 0 3) 2 < 10
-    by-case true true = omega arith
-    by-case true false = omega arith
-    by-case false b = omega arith
+pub refusal-below : (f : Frame) (n own last : ℕ) → refusal f n own last < 10
+unfolding refusal
+refusal-below f n own last = refusal-few (eqb (addressee (f .sense) (f .message)) own) f n last
 
 -- a frame that is well formed, fits its fields and is not refused
 pub record Accepted (s : Settings) (f : Frame) : Type 0 where

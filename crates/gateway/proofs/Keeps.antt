@@ -42,8 +42,8 @@ use Rattle.gateway.proofs.Replies.{Good}
 use Rattle.gateway.proofs.Maintaining.{Proper, Standing, standing, Kept, enough, Ends, below-ten, unchanged, refuse, with-agreed, with-outstanding, fitting, settle}
 use Rattle.gateway.proofs.Queues.{leave-out}
 use Rattle.gateway.proofs.Arrivals.{begun-stands, start-stands, lvt-stands}
-use Rattle.frame.proofs.FormNumbers.{number-sound, number-small}
-use Rattle.gateway.proofs.Accepting.{form-passed, Accepted, refusal-few, not-refused, accepted-good, cancel-kind}
+use Rattle.frame.proofs.FormNumbers.{number-sound, number-small, form-passed}
+use Rattle.gateway.proofs.Accepting.{Accepted, refusal-below, not-refused, accepted-good, cancel-kind}
 use Rattle.gateway.proofs.Takings.{plain-stands, cancel-stands, done-stands, queue-of, requeue}
 
 -- either of two outcomes
@@ -179,7 +179,7 @@ module _ {g : Gateway} (p : Proper g) where
         ranged = one-to-one .readRanged bytes h good;
         passes = not-refused s (r .frame) (eqb-true number 0 z);
       }))
-      (refuses number (refusal-few (r .frame) (s .n) (s .own) (s .last))))
+      (refuses number (refusal-below (r .frame) (s .n) (s .own) (s .last))))
       (refuses-form (formIn byCarrier r))
 
 -- how work ends, however many events it does

@@ -37,7 +37,8 @@ use Rattle.lists.proofs.PieceLaws.{first-none}
 use Rattle.frame.proofs.PieceBytes.{cut-bytes}
 use Rattle.gateway.proofs.Maintaining.{Kept, enough}
 use Rattle.gateway.proofs.Queues.{GoodQueue, pending-good, opening-enters}
-use Rattle.gateway.proofs.Accepting.{Accepted, Taken, form-passed, not-refused, accepted-good}
+use Rattle.frame.proofs.FormNumbers.{form-passed}
+use Rattle.gateway.proofs.Accepting.{Accepted, Taken, not-refused, accepted-good}
 
 -- only a plain message has sense 0
 plain-sense : (sense : Sense) → eqb (senseNumber sense) 0 ≡ true → sense ≡ Plain

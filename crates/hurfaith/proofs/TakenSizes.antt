@@ -36,7 +36,8 @@ use Rattle.gateway.specs.Calls.{unlessBelow, byCarrier, takeByKind, takeBySense
 use Rattle.gateway.proofs.Searches.{processed-member}
 use Rattle.gateway.proofs.Queues.{found-member}
 use Rattle.gateway.proofs.Replies.{Good, sent-good}
-use Rattle.gateway.proofs.Accepting.{form-passed, Accepted, not-refused, accepted-good, cancel-kind}
+use Rattle.frame.proofs.FormNumbers.{form-passed}
+use Rattle.gateway.proofs.Accepting.{Accepted, not-refused, accepted-good, cancel-kind}
 use Rattle.gateway.proofs.Maintaining.{Proper, Standing, standing, fitting}
 use Rattle.gateway.proofs.Takings.{queue-of, plain-stands, cancel-stands}
 use Rattle.rollback.proofs.RollbackLaws.{sent-outstanding}

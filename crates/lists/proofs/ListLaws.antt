@@ -5,6 +5,7 @@ use mathlib.Core.Path.{_≡_, refl, sym, subst, _∙_, ap}
 use mathlib.Core.Logic.{_≢_, ⊎-elim}
 use Prim.Native.Nat.{ℕ, _+_, _≤_}
 use native.Mathlib.Omega.{arith}
+use lib.ListN.{length, length-append}
 use Rattle.lists.specs.Lists.{_∈_, All, nil, cons, Insert, here, there, Inserts, unchanged, one-more, joined, least, tally, matches, count}
 
 module _ {A : Type 0} {p : A → Type 0} where
@@ -124,6 +125,27 @@ module _ {A : Type 0} (f : A → ℕ) where
   unfolding tally
   tally-map g [] = refl
   tally-map g (b ∷ l) = omega (arith, tally-map g l)
+
+-- lists one behind the other: how long they are together, and of elements that are made of others
+pub length-joined : {A B : Type 0} (f : A → List B) (l : List A) → length (joined f l) ≡ tally (λ a. length (f a)) l
+unfolding joined tally
+length-joined f [] = refl
+length-joined f (a ∷ l) = omega (arith, length-append (f a) (joined f l), length-joined f l)
+
+pub joined-map : {A B C : Type 0} (f : B → List C) (g : A → B) (l : List A) → joined f (map g l) ≡ joined (λ a. f (g a)) l
+unfolding joined
+joined-map f g [] = refl
+joined-map f g (a ∷ l) = ap (λ m. f (g a) ++ m) (joined-map f g l)
+
+pub tally-less : {A : Type 0} (f g : A → ℕ) (l : List A) → ((a : A) → a ∈ l → f a ≤ g a) → tally f l ≤ tally g l
+unfolding tally
+tally-less f g [] h = omega arith
+tally-less f g (a ∷ l) h = omega (arith, h a (first refl), tally-less f g l (λ b m. h b (later m)))
+
+pub tally-same : {A : Type 0} (f g : A → ℕ) (l : List A) → ((a : A) → a ∈ l → f a ≡ g a) → tally f l ≡ tally g l
+unfolding tally
+tally-same f g [] h = refl
+tally-same f g (a ∷ l) h = omega (arith, h a (first refl), tally-same f g l (λ b m. h b (later m)))
 
 pub tally-agree : {A : Type 0} (f g : A → ℕ) (l : List A) → ((a : A) → f a ≡ g a) → tally f l ≡ tally g l
 unfolding tally

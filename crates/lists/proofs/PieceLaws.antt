@@ -2,16 +2,16 @@
 -- that is refused.
 use mathlib.Core.Path.{_≡_, refl, sym, _∙_, ap, ap₂}
 use mathlib.Core.Logic.{⊎-elim}
-use mathlib.Core.Bool.{true, false, cond, not}
-use mathlib.Core.List.{List, [], _∷_, List·Memᴰ·not-nil, List·Memᴰ·cases-cons}
+use mathlib.Core.Bool.{Bool, true, false, cond, not}
+use mathlib.Core.List.{List, [], _∷_, _++_, map, List·Memᴰ·not-nil, List·Memᴰ·cases-cons}
 use Prim.Native.Nat.{ℕ, zero, suc, _+_, _-_, _≤_, _<_, min}
 use native.Mathlib.Omega.{arith}
 use native.Mathlib.Decide.{ℕ-discrete, decLt}
 use lib.Dec.{eqb}
-use lib.ListN.{length, take, drop, getD, length-drop}
-use lib.Seq.{drop-cons, drop-drop, take-all, length-take-le}
+use lib.ListN.{length, take, drop, getD, length-take, length-drop, take-append-drop}
+use lib.Seq.{drop-cons, drop-drop, take-all, length-take-le, take-append-seam, drop-append-seam}
 use borrow.Author.Tests.{eq-eqb, ne-eqb}
-use Rattle.lists.specs.Lists.{_∈_, beforeFirst, firstNumber, tally, cutBy}
+use Rattle.lists.specs.Lists.{_∈_, All, nil, cons, beforeFirst, firstNumber, joined, tally, cutBy}
 use Rattle.lists.specs.inside.Pieces.{piecesFrom, pieceEnd, isRefused}
 
 pub drop-past : {A : Type 0} (n : ℕ) (s : List A) → length s ≤ n → drop n s ≡ []
@@ -20,7 +20,7 @@ drop-past zero (x ∷ s) h = absurd (omega arith)
 drop-past (suc n) [] h = refl
 drop-past (suc n) (x ∷ s) h = drop-past n s (omega arith)
 
--- where no number is given but 0
+-- where no number is given other than 0
 module _ {A : Type 0} (f : A → ℕ) where
   pub first-none : (xs : List A) → firstNumber f xs ≡ 0 → (x : A) → x ∈ xs → f x ≡ 0
   unfolding firstNumber
@@ -30,6 +30,28 @@ module _ {A : Type 0} (f : A → ℕ) where
       go : Dec (f y ≡ 0) → (firstNumber f ys ≡ 0 → x ∈ ys → f x ≡ 0) → f x ≡ 0
       go (yes e) rest = ⊎-elim (λ (d : x ≡ y). ap f d ∙ e) (rest (rw (eq-eqb (f y) 0 e) at z)) (List·Memᴰ·cases-cons m)
       go (no d) rest = absurd (d (rw (ne-eqb (f y) 0 d) at z))
+
+  pub first-cons : (x : A) (xs : List A) → firstNumber f (x ∷ xs) ≡ 0 → (f x ≡ 0) × (firstNumber f xs ≡ 0)
+  unfolding firstNumber
+  first-cons x xs z = go (ℕ-discrete (f x) 0)
+    where
+      go : Dec (f x ≡ 0) → (f x ≡ 0) × (firstNumber f xs ≡ 0)
+      go (yes e) = (e, rw (eq-eqb (f x) 0 e) at z)
+      go (no d) = absurd (d (rw (ne-eqb (f x) 0 d) at z))
+
+  pub first-below : (bound : ℕ) → 0 < bound → ((x : A) → f x < bound) → (xs : List A) → firstNumber f xs < bound
+  unfolding firstNumber
+  first-below bound some each [] = some
+  first-below bound some each (x ∷ xs) = go (eqb (f x) 0) (first-below bound some each xs)
+    where
+      go : (b : Bool) → firstNumber f xs < bound → cond b (firstNumber f xs) (f x) < bound
+      go true rest = rest
+      go false rest = each x
+
+  pub none-first : {xs : List A} → All (λ x. f x ≡ 0) xs → firstNumber f xs ≡ 0
+  unfolding firstNumber
+  none-first nil = refl
+  none-first (cons {a = x} e a) = rw (eq-eqb (f x) 0 e) (none-first a)
 
   pub none-refused : (xs : List A) → firstNumber f xs ≡ 0 → beforeFirst (isRefused f) xs ≡ xs
   unfolding firstNumber beforeFirst
@@ -61,6 +83,30 @@ module _ (size : ℕ → ℕ) (some : (x : ℕ) → 1 ≤ size x) where
       let w = some x in
       ap (_∷_ (take (size x) (x ∷ s))) (cut-enough a b (drop (size x) (x ∷ s)) (omega arith) (omega arith))
 
+  -- one behind the other they are the list
+  pub pieces-join : (turns : ℕ) (s : List ℕ) → length s ≤ turns → joined (λ p. p) (cutBy size turns s) ≡ s
+  unfolding cutBy joined
+  pieces-join zero [] h = refl
+  pieces-join zero (x ∷ s) h = absurd (omega arith)
+  pieces-join (suc turns) [] h = refl
+  pieces-join (suc turns) (x ∷ s) h =
+      let l : length (drop (size x) (x ∷ s)) ≡ suc (length s) - size x = length-drop (size x) (x ∷ s) in
+      let w = some x in
+      ap (λ rest. take (size x) (x ∷ s) ++ rest) (pieces-join turns (drop (size x) (x ∷ s)) (omega arith)) ∙ take-append-drop (size x) (x ∷ s)
+
+  -- and none is longer than its first element says
+  pub piece-short : (turns : ℕ) (s : List ℕ) (p : List ℕ) → p ∈ cutBy size turns s → length p ≤ size (getD p 0 0)
+  unfolding cutBy
+  piece-short zero s p m = absurd (List·Memᴰ·not-nil m)
+  piece-short (suc turns) [] p m = absurd (List·Memᴰ·not-nil m)
+  piece-short (suc turns) (x ∷ s) p m = ⊎-elim first (piece-short turns (drop (size x) (x ∷ s)) p) (List·Memᴰ·cases-cons m)
+    where
+      first : p ≡ take (size x) (x ∷ s) → length p ≤ size (getD p 0 0)
+      first e =
+          let more : size x ≡ suc (size x - 1) = omega (arith, some x) in
+          let head : getD (take (size x) (x ∷ s)) 0 0 ≡ x = rw more in
+          rw (e, head) (omega (arith, length-take (size x) (x ∷ s)))
+
   pub pieces-all : (list : List ℕ) → piecesFrom size list 0 ≡ cutBy size (length list) list
   unfolding piecesFrom
   pieces-all list = refl
@@ -70,7 +116,8 @@ module _ (size : ℕ → ℕ) (some : (x : ℕ) → 1 ≤ size x) where
   pieces-none list at h = rw (drop-past at list h)
 
   -- the first piece of a list, and the pieces of the rest
-  pub pieces-cons : (s : List ℕ) (x : ℕ) (rest : List ℕ) → s ≡ x ∷ rest → cutBy size (length s) s ≡ take (size x) s ∷ cutBy size (length (drop (size x) s)) (drop (size x) s)
+  pub pieces-cons : (s : List ℕ) (x : ℕ) (rest : List ℕ) → s ≡ x ∷ rest
+      → cutBy size (length s) s ≡ take (size x) s ∷ cutBy size (length (drop (size x) s)) (drop (size x) s)
   unfolding cutBy
   pieces-cons s x rest e =
       let l : length (drop (size x) (x ∷ rest)) ≡ suc (length rest) - size x = length-drop (size x) (x ∷ rest) in
@@ -78,9 +125,25 @@ module _ (size : ℕ → ℕ) (some : (x : ℕ) → 1 ≤ size x) where
       rw e (ap (_∷_ (take (size x) (x ∷ rest))) (cut-enough (length rest) (length (drop (size x) (x ∷ rest))) (drop (size x)
       (x ∷ rest)) (omega arith) (omega arith)))
 
+  -- a piece as long as its first element says, and the pieces of the rest
+  first-piece : (piece rest : List ℕ) → size (getD piece 0 0) ≡ length piece
+      → cutBy size (length (piece ++ rest)) (piece ++ rest) ≡ piece ∷ cutBy size (length rest) rest
+  first-piece [] rest e = absurd (omega (arith, some 0, e))
+  first-piece (x ∷ xs) rest e =
+      pieces-cons (x ∷ xs ++ rest) x (xs ++ rest) refl
+      ∙ ap (λ (n : ℕ). take n (x ∷ xs ++ rest) ∷ cutBy size (length (drop n (x ∷ xs ++ rest))) (drop n (x ∷ xs ++ rest))) e
+      ∙ ap₂ (λ (p q : List ℕ). p ∷ cutBy size (length q) q) (take-append-seam (x ∷ xs) rest) (drop-append-seam (x ∷ xs) rest)
+
+  -- such pieces one behind the other are cut into these
+  pub pieces-joined : {B : Type 0} (f : B → List ℕ) (xs : List B) → All (λ x. size (getD (f x) 0 0) ≡ length (f x)) xs
+      → cutBy size (length (joined f xs)) (joined f xs) ≡ map f xs
+  unfolding cutBy joined
+  pieces-joined f [] a = refl
+  pieces-joined f (x ∷ xs) (cons e a) = first-piece (f x) (joined f xs) e ∙ ap (_∷_ (f x)) (pieces-joined f xs a)
+
   module _ (list : List ℕ) (at : ℕ) (inside : at < length list) where
     -- up to its end, or as many as its first element says: the same
-    same-piece : take (size (getD list at 0)) (drop at list) ≡ take (pieceEnd size list at - at) (drop at list)
+    pub same-piece : take (size (getD list at 0)) (drop at list) ≡ take (pieceEnd size list at - at) (drop at list)
     unfolding pieceEnd
     same-piece = by-case (decLt (length list) (at + size (getD list at 0)))
       where
@@ -126,7 +189,7 @@ module _ (size : ℕ → ℕ) (list : List ℕ) (at : ℕ) (inside : at < length
   unfolding pieceEnd
   end-whole h = omega (arith, e)
 
--- a pass over the pieces up to the first for which f gives a number, adding up what each weighs: it has come to a position
+-- a pass over the pieces up to the first for which f gives a number, adding up the weight of each: it has come to a position
 pub record Passing (size : ℕ → ℕ) (f weight : List ℕ → ℕ) (list : List ℕ) (sum at : ℕ) : Type 0 where
   pub inside : at ≤ length list
   pub few : sum ≤ at
@@ -138,9 +201,9 @@ pub record Passed (size : ℕ → ℕ) (f weight : List ℕ → ℕ) (list : Lis
   pub first : number ≡ firstNumber f (piecesFrom size list 0)
   pub added : sum ≡ tally weight (beforeFirst (isRefused f) (piecesFrom size list 0))
 
--- a piece that is not refused weighs no more than its length
-module _ (size : ℕ → ℕ) (some : (x : ℕ) → 1 ≤ size x) (f weight : List ℕ → ℕ) (light : (p : List ℕ) → 1 ≤ length p → f p ≡ 0 → weight p ≤ length p)
-    (list : List ℕ)
+-- the weight of a piece that is not refused is at most its length
+module _ (size : ℕ → ℕ) (some : (x : ℕ) → 1 ≤ size x) (f weight : List ℕ → ℕ) (list : List ℕ)
+    (light : (at n : ℕ) → let p = take n (drop at list) in 1 ≤ length p → f p ≡ 0 → weight p ≤ length p)
   where
     pub passing-start : Passing size f weight list 0 0
     passing-start = record { inside = omega arith; few = omega arith; rest = refl; counted = omega arith }
@@ -183,7 +246,7 @@ module _ (size : ℕ → ℕ) (some : (x : ℕ) → 1 ≤ size x) (f weight : Li
               let b = end-between size some list at h e in
               let l : length (take (end - at) (drop at list)) ≡ end - at =
               length-take-le (end - at) (drop at list) (rw (length-drop at list) (omega (arith, b .inside))) in
-              omega (arith, b .later, p .few, light (take (end - at) (drop at list)) (omega (arith, b .later)) (sym n ∙ z))
+              omega (arith, b .later, p .few, light at (end - at) (omega (arith, b .later)) (sym n ∙ z))
 
           pub passing-turn : {more : ℕ} → more ≡ weight (take (end - at) (drop at list)) → Passing size f weight list (sum + more) end
           unfolding tally piece

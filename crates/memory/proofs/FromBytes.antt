@@ -10,21 +10,32 @@ use Rattle.buffer.proofs.Lent.{bytes-part}
 use Rattle.lists.specs.Lists.{All, nil, cons}
 use Rattle.buffer.specs.Slice.{Bytes, part}
 use Rattle.buffer.specs.Number.{bytesOf, numberOf}
-use Rattle.buffer.proofs.Numbers.{number-below, bytes-of-number}
+use Rattle.buffer.proofs.Copies.{number-again}
+use Rattle.buffer.proofs.Numbers.{number-below}
 use Rattle.buffer.proofs.Writes.{length-part, part-cons, part-nil}
 use Rattle.model.specs.Messages.{originOf, quantityOf, kindOf}
 use Rattle.model.specs.declared.Kind.{Kind}
 use Rattle.model.specs.declared.Kind.the-variants.{Failure, Request, Delivery, Restock, Start, Lvt, Update}
 use Rattle.memory.specs.Layout.{backSize, headerUsed, messageSize, outstandingSize, queueSize, stateSize}
 use Rattle.memory.specs.Ranges.{RangedState}
-use Rattle.memory.specs.Codec.{phaseNumber, phaseOf, stateOf, messageOf, entryOf, sentOf, headerAt, headerFront, headerBack, placesAt}
+use Rattle.memory.specs.Codec.{phaseNumber, phaseOf, stateBytes, stateOf, messageOf, entryOf, sentOf, headerAt, headerFront, headerBack, placesAt}
 use Rattle.memory.specs.inside.Fits.{MessageFits, EntryFits, SentFits, HeaderFits}
-use Rattle.buffer.proofs.Standing.{part-add}
+use Rattle.buffer.proofs.Standing.{part-add, part-whole}
 use Rattle.memory.proofs.RoundTrips.{byte-back}
 
 -- a number in bytes fits them
 pub number-fits : (m : List ℕ) (at n : ℕ) → Bytes m → at + n ≤ length m → numberOf (part m at n) < 256 ^ n
 number-fits m at n h fits = rw (length-part m at n fits) at (number-below (part m at n) (bytes-part m at n h))
+
+-- a number in bytes is made of the same bytes again, alone and with what follows
+module _ (m : List ℕ) (bytes : Bytes m) where
+  pub byte-next : (at rest : ℕ) {tail : List ℕ} → at < length m → tail ≡ part m (at + 1) rest → bytesOf 1 (getD m at 0) ++ tail ≡ part m at (suc rest)
+  unfolding bytesOf
+  byte-next at rest lt e = ap₂ _∷_ (byte-back (getD m at 0) (bytes at)) e ∙ sym (part-cons m at rest lt)
+
+  pub number-next : (at n rest : ℕ) {tail : List ℕ} → at + n ≤ length m → tail ≡ part m (at + n) rest → bytesOf n (numberOf (part m at n)) ++
+      tail ≡ part m at (n + rest)
+  number-next at n rest fits e = ap₂ _++_ (number-again m bytes at n fits) e ∙ sym (part-add m at n rest)
 
 -- a kind's own fields are those that it was made of, or zero
 choice : Bool → Bool → Bool → Bool → Bool → Bool → ℕ → ℕ → Kind
@@ -54,6 +65,13 @@ state-ranged b h bytes = record {
   fitted = number-fits b 6 4 bytes (omega arith);
   short = number-fits b 10 4 bytes (omega arith);
 }
+
+pub state-again : (b : List ℕ) → length b ≡ stateSize → Bytes b → stateBytes (stateOf b) ≡ b
+unfolding stateBytes stateOf
+state-again b h bytes =
+    number-next b bytes 0 2 12 (omega arith)
+    (number-next b bytes 2 4 8 (omega arith) (number-next b bytes 6 4 4 (omega arith) (number-again b bytes 10 4 (omega arith))))
+    ∙ part-whole b 14 (omega arith)
 
 pub message-fits : (b : List ℕ) → messageSize ≤ length b → Bytes b → MessageFits (messageOf b)
 unfolding messageOf
@@ -122,36 +140,24 @@ module _ (m : List ℕ) (bytes : Bytes m) (long : headerUsed ≤ length m) where
     outstanding = number-fits m 12 2 bytes (omega arith);
   }
 
-  -- a byte, and a number, with what follows
-  byte-next : (at rest : ℕ) {tail : List ℕ} → at < length m → tail ≡ part m (at + 1) rest → bytesOf 1 (getD m at 0) ++ tail ≡ part m at (suc rest)
-  unfolding bytesOf
-  byte-next at rest lt e = ap₂ _∷_ (byte-back (getD m at 0) (bytes at)) e ∙ sym (part-cons m at rest lt)
-
-  number-again : (at n : ℕ) → at + n ≤ length m → bytesOf n (numberOf (part m at n)) ≡ part m at n
-  number-again at n fits = rw (length-part m at n fits) at (bytes-of-number (part m at n) (bytes-part m at n bytes))
-
-  number-next : (at n rest : ℕ) {tail : List ℕ} → at + n ≤ length m → tail ≡ part m (at + n) rest → bytesOf n (numberOf (part m at n)) ++
-      tail ≡ part m at (n + rest)
-  number-next at n rest fits e = ap₂ _++_ (number-again at n fits) e ∙ sym (part-add m at n rest)
-
   pub front-again : getD m 3 0 ≤ 2 → headerFront (headerAt m) ≡ part m 0 5
   unfolding headerFront headerAt bytesOf
   front-again small =
       rw (phase-again (getD m 3 0) small)
-      (byte-next 0 4 (omega arith) (byte-next 1 3 (omega arith) (byte-next 2 2 (omega arith) (byte-next 3 1 (omega arith) (byte-next 4 0
+      (byte-next m bytes 0 4 (omega arith) (byte-next m bytes 1 3 (omega arith) (byte-next m bytes 2 2 (omega arith) (byte-next m bytes 3 1 (omega arith) (byte-next m bytes 4 0
       (omega arith) (sym (part-nil m 5)))))))
 
   pub back-again : headerBack (headerAt m) ≡ part m 6 backSize
   unfolding headerBack headerAt
   back-again =
-      number-next 6 2 32 (omega arith)
-      (number-next 8 2 30 (omega arith)
-      (number-next 10 2 28 (omega arith)
-      (number-next 12 2 26 (omega arith)
-      (number-next 14 2 24 (omega arith)
-      (number-next 16 4 20 (omega arith)
-      (number-next 20 4 16 (omega arith)
-      (number-next 24 4 12 (omega arith)
-      (number-next 28 4 8 (omega arith)
-      (number-next 32 4 4 (omega arith)
-      (number-again 36 4 (omega arith)))))))))))
+      number-next m bytes 6 2 32 (omega arith)
+      (number-next m bytes 8 2 30 (omega arith)
+      (number-next m bytes 10 2 28 (omega arith)
+      (number-next m bytes 12 2 26 (omega arith)
+      (number-next m bytes 14 2 24 (omega arith)
+      (number-next m bytes 16 4 20 (omega arith)
+      (number-next m bytes 20 4 16 (omega arith)
+      (number-next m bytes 24 4 12 (omega arith)
+      (number-next m bytes 28 4 8 (omega arith)
+      (number-next m bytes 32 4 4 (omega arith)
+      (number-again m bytes 36 4 (omega arith)))))))))))

@@ -1,10 +1,9 @@
 -- The pass over the opening list: a law for each branch of the code.
 use mathlib.Core.Path.{_≡_, refl, sym, _∙_, ap}
-use mathlib.Core.Bool.{true, false, cond, not}
+use mathlib.Core.Bool.{true, false}
 use mathlib.Core.List.{List, [], _∷_}
 use Prim.Native.Nat.{ℕ, _+_, _-_, _≤_, _<_}
 use native.Mathlib.Omega.{arith}
-use native.Mathlib.Decide.{ℕ-discrete}
 use lib.Dec.{eqb}
 use lib.ListN.{length, take, drop}
 use Rattle.lists.specs.Lists.{beforeFirst, tally}
@@ -59,10 +58,6 @@ unfolding tally
 one-each [] = refl
 one-each (a ∷ l) = omega (arith, one-each l)
 
--- every frame counts for one
-pub light : (s : Settings) (f : List ℕ) → 1 ≤ length f → openingRefusal s f ≡ 0 → 1 ≤ length f
-light s f h z = h
-
 checked-as : (list : List ℕ) (s : Settings) (number count : ℕ) → Passed wholeLength (openingRefusal s) (λ f. 1) list number count
     → record { number = number; count = count } ≡ checkedAs s (framesFrom list 0)
 checked-as list s number count p =
@@ -70,18 +65,18 @@ checked-as list s number count p =
     λ i. record { number = p .first i; count = all i }
 
 pub pass-start : (list : List ℕ) (s : Settings) → Checking list s 0 0
-pass-start list s = passing-start wholeLength whole-some (openingRefusal s) (λ f. 1) (light s) list
+pass-start list s = passing-start wholeLength whole-some (openingRefusal s) (λ f. 1) list (λ at n h z. h)
 
 module _ (list : List ℕ) (s : Settings) (count at : ℕ) (p : Checking list s count at) where
   pub pass-end : length list ≤ at → record { number = 0; count = count } ≡ checkedAs s (framesFrom list 0)
-  pass-end h = checked-as list s 0 count (passing-end wholeLength whole-some (openingRefusal s) (λ f. 1) (light s) list count at p h)
+  pass-end h = checked-as list s 0 count (passing-end wholeLength whole-some (openingRefusal s) (λ f. 1) list (λ at n h z. h) count at p h)
 
   module _ (h : at < length list) {end : ℕ} (e : end ≡ pieceEnd wholeLength list at) {number : ℕ} (n : number ≡ openingRefusal s (take (end - at)
       (drop at list)))
     where
       pub pass-refused : (number ≡ 0 → ⊥) → record { number = number; count = count } ≡ checkedAs s (framesFrom list 0)
       pass-refused d =
-          checked-as list s number count (passing-refused wholeLength whole-some (openingRefusal s) (λ f. 1) (light s) list count at p h e n d)
+          checked-as list s number count (passing-refused wholeLength whole-some (openingRefusal s) (λ f. 1) list (λ at n h z. h) count at p h e n d)
 
       pub pass-turn : number ≡ 0 → Checking list s (count + 1) end
-      pass-turn z = passing-turn wholeLength whole-some (openingRefusal s) (λ f. 1) (light s) list count at p h e n z refl
+      pass-turn z = passing-turn wholeLength whole-some (openingRefusal s) (λ f. 1) list (λ at n h z. h) count at p h e n z refl

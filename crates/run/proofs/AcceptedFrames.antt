@@ -16,7 +16,7 @@ use Rattle.frame.specs.declared.Frame.{Frame}
 use Rattle.frame.specs.declared.Sense.{Sense}
 use Rattle.frame.specs.declared.Sense.the-variants.{Plain, Cancel, Acknowledgment, CancelAcknowledgment}
 use Rattle.memory.specs.Records.{Gateway}
-use Rattle.gateway.proofs.Accepting.{form-passed}
+use Rattle.frame.proofs.FormNumbers.{form-passed}
 use Rattle.gateway.specs.Effects.{Effect, Outcome, bytesOfFrames, fits, settled, withOutstanding}
 use Rattle.gateway.specs.Taking.{isSent, takePlain, takeCancel, takeAcknowledgment}
 use Rattle.gateway.specs.Rounds.{takeStart, takeLvt, takeUpdate}

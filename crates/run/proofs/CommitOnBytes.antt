@@ -23,13 +23,22 @@ use Rattle.run.proofs.FigureGraph.{figureGraph}
 use Rattle.run.proofs.EventCalls.{notedAll, commit-saved}
 use Rattle.run.proofs.Ledgers.{committed-follows}
 use Rattle.run.proofs.EventWorlds.{commit-goes}
-use Rattle.run.proofs.CommittedRecords.{CommitTaken, commit-taken, commit-record}
+use Rattle.run.proofs.CommittedRecords.{accepted, CommitTaken, commit-taken, commit-record}
 use Rattle.run.proofs.FramesCut.{written-back}
 use Rattle.run.proofs.TakeChains.{still-stands}
 use Rattle.run.proofs.AcceptedCalls.{left, on-sound}
 use Rattle.run.proofs.HeldGateways.{written-held}
 use Rattle.run.proofs.BothWorlds.{forecastSetting, Both, Keeps, proper, sees}
 use Rattle.run.proofs.EventsKept.{Comes, keeps}
+
+-- what an accepted commit leaves
+pub commit-leaves : (memory output : List ℕ) → committed memory output .answer .number ≡ 0
+    → (k : CommitTaken (length output) (decode memory)) × (committed memory output ≡ left (accepted (decode memory) (k .event)) memory output)
+unfolding committed
+commit-leaves memory output z =
+    let (is-sound, number, leaves) = on-sound commit memory output z in
+    let k = commit-taken (length output) (decode memory) number in
+    (k, leaves ∙ ap (λ (r : Outcome). left r memory output) (k .comes-to))
 
 module _ (n : ℕ) (some : 1 ≤ n) (last : ℕ) (setups : ℕ → SetUpInput) {w : World} {t : Worlds.World (forecastSetting n some last setups)} (b
     : Both n some last setups w t) (i : ℕ) (h : i < n) (output : List ℕ) where
@@ -79,11 +88,8 @@ module _ (n : ℕ) (some : 1 ≤ n) (last : ℕ) (setups : ℕ → SetUpInput) {
   pub commits-kept : committed (w .memories i) output .answer .number ≡ 0 →
       let l = committed (w .memories i) output in
       Keeps n some last setups t (afterCommitting i (l .memory) (take (l .answer .written) (l .output)) w)
-  unfolding committed
   commits-kept z =
-      let (is-sound, number, leaves) = on-sound commit (w .memories i) output z in
-      let k = commit-taken (length output) g number in
-      subst (λ (l : CallResult Answer). Keeps n some last setups t (afterCommitting i (l .memory) (take (l .answer .written) (l .output)) w))
-      (sym (leaves ∙ ap (λ (r : Outcome). left r (w .memories i) output) (k .comes-to)))
+      let (k, leaves) = commit-leaves (w .memories i) output z in
+      subst (λ (l : CallResult Answer). Keeps n some last setups t (afterCommitting i (l .memory) (take (l .answer .written) (l .output)) w)) (sym leaves)
       (subst (λ (xs : List ℕ). Keeps n some last setups t (afterCommitting i (encode next (w .memories i)) xs w)) (sym (written-back
       (Committing.recordOf (k .event)) output)) (commit-kept k))

@@ -16,7 +16,7 @@ use Rattle.memory.specs.Records.{Gateway}
 use Rattle.memory.specs.Codec.{stateBytes}
 use Rattle.memory.specs.Validity.{isProcessed, frameIf}
 use Rattle.memory.specs.declared.Entry.{Entry}
-use Rattle.gateway.specs.Effects.{refused, withQueue}
+use Rattle.gateway.specs.Effects.{Outcome, refused, withQueue}
 use Rattle.gateway.specs.Undoing.{processedOf}
 use Rattle.gateway.specs.Committing as Committing
 use Rattle.gateway.specs.Committing.{commit, commitOldest}
@@ -31,13 +31,17 @@ use Rattle.run.proofs.SavedStates.{Saved}
 use Rattle.run.proofs.QueueChanges.{saved-committed, oldest-taken}
 use Rattle.run.proofs.SingleQueues.{historyRecord, record-beginning}
 
+-- what committing the event e comes to
+abbrev pub accepted : Gateway → Entry → Outcome
+accepted g e = record { number = 0; gateway = withQueue (withoutFirst isProcessed (g .queue)) g; output = Committing.recordOf e }
+
 -- an accepted commit
 pub record CommitTaken (room : ℕ) (g : Gateway) : Type 0 where
   pub event : Entry
   pub newer : List Entry
   pub is : processedOf (g .queue) ≡ event ∷ newer
   pub below : event .message .hour < g .agreed
-  pub comes-to : commit room g ≡ record { number = 0; gateway = withQueue (withoutFirst isProcessed (g .queue)) g; output = Committing.recordOf event }
+  pub comes-to : commit room g ≡ accepted g event
 
 pub commit-taken : (room : ℕ) (g : Gateway) → commit room g .number ≡ 0 → CommitTaken room g
 unfolding commit
@@ -45,11 +49,7 @@ commit-taken room g h = by-oldest (processedOf (g .queue)) refl h
   where
     by-tests : (e : Entry) (es : List Entry) → processedOf (g .queue) ≡ e ∷ es → (t : Bool) → ltb (e .message .hour) (g .agreed) ≡ t → (u :
         Bool) → leb (length (Committing.recordOf e)) room ≡ u
-        → cond t (cond u (record {
-          number = 0;
-          gateway = withQueue (withoutFirst isProcessed (g .queue)) g;
-          output = Committing.recordOf e;
-        }) (refused 5 g)) (refused 6 g) .number ≡ 0
+        → cond t (cond u (accepted g e) (refused 5 g)) (refused 6 g) .number ≡ 0
         → CommitTaken room g
     by-tests e es k true p true q h =
         record { event = e; newer = es; is = k; below = ltb-true (e .message .hour) (g .agreed) p; comes-to = ap (commitOldest room g) k ∙ rw (p, q) }
@@ -88,11 +88,7 @@ unfolding commit
 nothing-to-commit room g h m newer d = by-oldest (processedOf (g .queue)) refl h
   where
     by-tests : (e : Entry) (es : List Entry) → processedOf (g .queue) ≡ e ∷ es → (t : Bool) → ltb (e .message .hour) (g .agreed) ≡ t → (u : Bool)
-        → cond t (cond u (record {
-          number = 0;
-          gateway = withQueue (withoutFirst isProcessed (g .queue)) g;
-          output = Committing.recordOf e;
-        }) (refused 5 g)) (refused 6 g) .number ≡ 6
+        → cond t (cond u (accepted g e) (refused 5 g)) (refused 6 g) .number ≡ 6
         → g .agreed ≤ m .hour
     by-tests e es k true p true h = absurd (omega (arith, h))
     by-tests e es k true p false h = absurd (omega (arith, h))

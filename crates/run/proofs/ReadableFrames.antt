@@ -65,7 +65,7 @@ pub record Fitting (m : Message) : Type 0 where
   pub ranged : RangedMessage m
 
 -- they fit the fields of a frame
-frame-ranged : (f : Frame) → wellFormed f ≡ true → Fitting (f .message) → RangedFrame f
+pub frame-ranged : (f : Frame) → wellFormed f ≡ true → Fitting (f .message) → RangedFrame f
 frame-ranged f e r =
     record {
       hour = r .hour;
