@@ -6,13 +6,14 @@
  * 256 + 64 * queue_places + 32 * outstanding_places bytes; bytes past that are never written.
  *
  * Pointers. No pointer is null, even where its length is 0, and each points to as many elements as its length says. Parts of one
- * call may not overlap. `memory`, `out`, `list` and `frame` need no alignment; `neighbours` has that of uint16_t.
+ * call may not overlap. `memory`, `out`, `list`, `frame` and `record` need no alignment; `neighbours` has that of uint16_t.
  *
  * Threads. There are none, and no global state. Calls on different memories may run at once; calls on one memory may not.
  *
  * What is written. A call that is refused writes nothing, neither to `memory` nor to `out`. One that is accepted writes its bytes to
  * the front of `out`; the bytes of `out` behind them stay as they were. What hurfaith_work, hurfaith_take and hurfaith_start write
- * are frames for the carrier, one behind the other; what hurfaith_commit writes is the record of one event and is never carried.
+ * are frames for the carrier, one behind the other; what hurfaith_commit writes is the record of one event and is never carried, nor
+ * is what hurfaith_view writes, which is for its reader.
  *
  * Numbers. Every call answers one of these:
  */
@@ -30,23 +31,27 @@ enum {
     /* Accepted. For work: all the events asked for are done. */
     HURFAITH_DONE = 0,
     /* Map, kind, sense or gateway fields are those of no frame, or the frame is one that this call does not take: a Restock by the
-     * carrier; in an opening list all but plain Failure and Restock; for the lamp a frame without one. */
+     * carrier; in an opening list all but plain Failure and Restock; for the lamp a frame without one; in a record all but plain
+     * Failure, Request, Delivery and Restock. */
     HURFAITH_NO_FRAME = 1,
-    /* A gateway number of N or more, or a frame that is addressed elsewhere. */
+    /* A gateway number of N or more, or a frame that is addressed elsewhere. In a record: a gateway number of 255, whatever the
+     * addressee. */
     HURFAITH_WRONG_GATEWAY = 2,
-    /* An hour past the last hour. (Lvt and Update may say nothing due, 4,294,967,295.) */
+    /* An hour past the last hour. (Lvt and Update may say nothing due, 4,294,967,295.) In a record: the hour 4,294,967,295. */
     HURFAITH_PAST_LAST_HOUR = 3,
     /* A step of the round out of turn: the start call at another gateway than 0 or in an open round; a Start or Lvt twice, in the
      * wrong half of the round, or not from its arc; an Update not from the parent. */
     HURFAITH_OUT_OF_TURN = 4,
     /* Too few queue places, outstanding places or bytes of output for all that the call would do. The same call may be made again
-     * once there is more room: an acknowledgment frees an outstanding place, commit a queue place. */
+     * once there is more room: an acknowledgment frees an outstanding place, commit a queue place. View: the whole record is good, and
+     * the output is too short for all of the view. */
     HURFAITH_NO_ROOM = 5,
     /* Work: no unprocessed message. Commit: nothing to commit. */
     HURFAITH_NOTHING_TO_DO = 6,
     /* An acknowledgment that is equal to nothing outstanding. */
     HURFAITH_NOT_OUTSTANDING = 7,
-    /* A setting, a routing number or, at set up, the length of the memory is outside its range. */
+    /* A setting, a routing number or, at set up, the length of the memory is outside its range. View: a reader other than 0 and 1, or a
+     * record of 2^48 bytes or more. */
     HURFAITH_OUT_OF_RANGE = 8,
     /* A plain message, a cancel or an Lvt below this gateway's agreed time. */
     HURFAITH_BELOW_AGREED_TIME = 9,
@@ -54,21 +59,25 @@ enum {
      * order, a processed message behind an unprocessed plain one, a waiting cancel beside an equal plain message, or a stored message
      * of no valid form, number or hour. No call answers 10 to memory that set up made and the other calls left. */
     HURFAITH_NOT_SOUND = 10,
-    /* A frame of fewer than two bytes, or of another length than its map gives: cut, or with bytes too many. */
+    /* A frame of fewer than two bytes, or of another length than its map gives: cut, or with bytes too many. In a record also: fewer
+     * than fourteen bytes of state behind a frame. */
     HURFAITH_WRONG_LENGTH = 11,
     /* A lamp with a byte outside 33 to 126. */
     HURFAITH_WRONG_LAMP = 12
 };
 
 /* 1, 11 and 12 are one test in seven steps, wherever a frame is read: fewer than two bytes 11, map and kind 1, length 11, sense 1, lamp
- * 12, gateway fields 1, a form that this call does not take 1. The first that fails is answered; 2 and 3 come behind all of them. */
+ * 12, gateway fields 1, a form that this call does not take 1. The first that fails is answered; 2 and 3 come behind all of them, and in
+ * a record the 11 of a cut state behind 3. */
 
-/* The 64-bit answers hold three numbers. They never overlap: no call writes more than 14,364 bytes. For hurfaith_agreed_time the
- * third number is the hour, and no bytes are written. For hurfaith_lamp all that stands above the number is a place: hurfaith_place. */
+/* The 64-bit answers hold three numbers. They never overlap: no call but hurfaith_view writes more than 14,364 bytes. For
+ * hurfaith_agreed_time the third number is the hour, and no bytes are written. For hurfaith_lamp all that stands above the number is a
+ * place: hurfaith_place; for hurfaith_view it is the count of bytes written, which hurfaith_written would cut: hurfaith_view_written. */
 static inline uint32_t hurfaith_number(uint64_t answer) { return (uint32_t)(answer & 0xff); }
 static inline uint32_t hurfaith_written(uint64_t answer) { return (uint32_t)(answer >> 8 & 0xffffff); }
 static inline uint32_t hurfaith_count(uint64_t answer) { return (uint32_t)(answer >> 32); }
 static inline size_t hurfaith_place(uint64_t answer) { return (size_t)(answer >> 8); }
+static inline size_t hurfaith_view_written(uint64_t answer) { return (size_t)(answer >> 8); }
 
 /* The gateway of that place among the neighbours is none. */
 #define HURFAITH_NONE 65535
@@ -110,6 +119,26 @@ uint64_t hurfaith_agreed_time(const uint8_t *memory, size_t memory_len);
 /* The lamp of a frame, of whatever gateway and hour: hurfaith_number is 0, and the lamp is the eighteen bytes of `frame` from
  * hurfaith_place on; or hurfaith_number is 1, 11 or 12, and hurfaith_place 0. `frame` is only read. */
 uint64_t hurfaith_lamp(const uint8_t *frame, size_t frame_len);
+
+/* The readers of a record. */
+enum {
+    HURFAITH_PURCHASING = 0,
+    HURFAITH_MAINTENANCE = 1
+};
+
+/* What `reader` sees of `record`, a whole record as the commits of a gateway wrote it, one event behind the other. For each event one
+ * byte, the map, then the fields whose bit stands, in bit order, numbers high byte first; a field that the kind lacks is left out:
+ *
+ *   HURFAITH_PURCHASING    bits from 0: hour (4 bytes), kind (1), quantity (2), stock (2), failed (4), fitted (4), short (4)
+ *                          Failure, Request, Delivery: map 123, 20 bytes; Restock: map 127, 22 bytes
+ *   HURFAITH_MAINTENANCE   bits from 0: hour (4 bytes), kind (1), lamp (18), origin (1)
+ *                          Failure, Request, Delivery: map 15, 25 bytes; Restock: map 3, 6 bytes
+ *
+ * The record is read event by event: a frame, cut by the length that its map gives, and the fourteen bytes of the state after it.
+ * Answers 0; or 8, looked for first; or 1, 11, 12, 2, 3 or the 11 of a cut state, of the first event that is refused; or 5, looked for
+ * where the whole record is good. An empty record gives an empty view. An output as long as the record is enough. `record` is only
+ * read. Two records that are taken and agree in the fields of a reader, event by event, give that reader equal bytes. */
+uint64_t hurfaith_view(const uint8_t *record, size_t record_len, uint8_t *out, size_t out_len, uint32_t reader);
 
 #ifdef __cplusplus
 }

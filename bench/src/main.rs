@@ -1,15 +1,16 @@
-//! Measures the calls, a round, the town's forecast and the program arcs beside plain Rust, in one run, and prints a table.
+//! Measures the calls, a round, views of a record, the town's forecast and the program arcs beside plain Rust, in one run, and prints a table.
 //!
 //! `bench SCENARIO ARCS` with the town's scenario and the proved program arcs.
 
 mod measure;
+mod records;
 mod rounds;
 mod situations;
 
 use host::carrier::{Forecast, Stopped};
 use host::command::{printed, shown, Arguments, Ending, Program, BAD_FILE};
 use host::scenario::Scenario;
-use interface::{Calls, LampPlace, MOST_PLACES};
+use interface::{Calls, LampPlace, MAINTENANCE, MOST_PLACES, PURCHASING};
 use library::Library;
 use measure::{in_turn, timed, with_unit, Times};
 use plain::Plain;
@@ -23,9 +24,9 @@ const PROGRAM: Program =
     Program { name: "bench", usage: &["SCENARIO ARCS"], help: HELP, flags: &[], valued: &[] };
 
 const HELP: &str = "\
-Measures the calls of the proved library, a round, the forecast of a SCENARIO and the program ARCS
-beside plain Rust that does the same, and prints tables of the times. The program plain_arcs stands
-beside this one. The SCENARIO - is standard input.
+Measures the calls of the proved library, a round, views of a record of a megabyte, the forecast of a
+SCENARIO and the program ARCS beside plain Rust that does the same, and prints tables of the times. The
+program plain_arcs stands beside this one. The SCENARIO - is standard input.
 
 Status: 0, 1 if plain Rust does something else than what it is measured beside, 2 for a bad usage, 3
 if a file or program cannot be used or standard output cannot be written.
@@ -60,6 +61,7 @@ fn measure(arguments: &Arguments) -> Result<(), Ending> {
         let what = format!("a full round, N = {gateways}, {QUEUED} queued at each");
         tables.row(&what, round(gateways))?;
     }
+    views(&mut tables)?;
     tables.row("the town's forecast", town.times()?)?;
     tables.row("the program arcs, N = 65,535", arcs.times())?;
 
@@ -179,6 +181,31 @@ fn round(gateways: u32) -> Times {
         timed(|| rounds::round(calls, &mut memories, &mut output))
     };
     in_turn(TURNS / 3, |library| turn(if library { &Library } else { &Plain }))
+}
+
+/// The views of a record of a megabyte, with the megabytes of it that the library reads in a second.
+fn views(tables: &mut Tables<impl Write>) -> Result<(), Ending> {
+    let record = records::record();
+    for (name, reader) in [("purchasing", PURCHASING), ("maintenance", MAINTENANCE)] {
+        let times = view(&record, reader)?;
+        let speed = record.len() as f64 / 1e6 / times.library.as_secs_f64();
+        tables.row(&format!("view for {name}, 1 MB of record ({speed:.0} MB/s)"), times)?;
+    }
+    Ok(())
+}
+
+/// The time of one view of a record. Both implementations must write the same.
+fn view(record: &[u8], reader: u32) -> Result<Times, Ending> {
+    let seen = |calls: &dyn Calls| {
+        let mut output = vec![0; record.len()];
+        (calls.view(record, &mut output, reader), output)
+    };
+    if seen(&Library) != seen(&Plain) {
+        return Err(Ending::Failed(DIFFERENT, "plain Rust writes another view".into()));
+    }
+    let mut output = vec![0; record.len()];
+    let mut turn = |calls: &dyn Calls| timed(|| calls.view(record, &mut output, reader));
+    Ok(in_turn(TURNS, |library| turn(if library { &Library } else { &Plain })))
 }
 
 /// A scenario whose forecast is measured.

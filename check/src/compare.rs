@@ -1,13 +1,13 @@
 //! One call made three times, on copies of one memory and one output: all answers, memories and outputs must be equal.
 
 use crate::peer_calls::{setup, Peer, UNSOUND};
-use crate::tally::{Called, Lacking, Reader, Tally};
-use crate::Wrong;
-use interface::{ample_output, AgreedTime, Answer, Calls, Opening, MOST_PLACES};
+use crate::tally::{Called, FrameCall, Lacking, Situation, Tally};
+use crate::{views, Wrong};
+use interface::{ample_output, AgreedTime, Answer, Calls, Opening, ViewAnswer, MOST_PLACES};
 use library::Library;
 use peer::gateway::{self, Gateway};
 use peer::refusal::{Reason, Refusal, REASONS};
-use peer::{frame, memory};
+use peer::{frame, memory, view};
 use plain::Plain;
 
 /// What unwritten output bytes hold, so that a stray write shows.
@@ -124,7 +124,7 @@ impl Comparison {
             Err(Refusal::Frame(reason)) => Some(reason),
             _ => None,
         };
-        self.count_refused_frame(Reader::SetUp, reason, number)?;
+        self.count_refused_frame(FrameCall::SetUp, reason, number)?;
         Ok(number)
     }
 
@@ -150,7 +150,42 @@ impl Comparison {
             }
         }
         self.tally.count(Called::Lamp, found.number);
-        self.count_refused_frame(Reader::Lamp, frame::lamp_place(frame).err(), found.number)
+        self.count_refused_frame(FrameCall::Lamp, frame::lamp_place(frame).err(), found.number)
+    }
+
+    /// Writes what a reader sees of a record to an output of `room` bytes; the number, and what was written.
+    pub fn view(
+        &mut self,
+        record: &[u8],
+        room: usize,
+        reader: u32,
+    ) -> Result<(u32, Vec<u8>), Wrong> {
+        let left = |calls: &dyn Calls| {
+            let mut output = vec![FILL; room];
+            (calls.view(record, &mut output, reader), output)
+        };
+        let what = || format!("view for {reader} of {record:?} with {room} bytes");
+        let (found, mut output) = left(&Library);
+        for (name, other) in OTHERS {
+            let (other_found, other_output) = left(other);
+            if found != other_found {
+                return Err(format!("{}: {found:?}, by {name} {other_found:?}", what()));
+            }
+            if let Some(at) = first_difference(&output, &other_output) {
+                return Err(format!("{}: output differs from {name} at {at}", what()));
+            }
+        }
+        let ViewAnswer { number, written } = found;
+        if number != 0 && written != 0 || written > room {
+            return Err(format!("{}: answered {number} and wrote {written} bytes", what()));
+        }
+        if output[written..].iter().any(|&byte| byte != FILL) {
+            return Err(format!("{}: wrote past its {written} bytes", what()));
+        }
+        self.tally.count(Called::viewing(reader), number);
+        self.count_viewed(record, room, reader, number)?;
+        output.truncate(written);
+        Ok((number, output))
     }
 
     pub fn route(&mut self, gateways: u32, own: u32, count: usize) -> Result<(), Wrong> {
@@ -181,24 +216,46 @@ impl Comparison {
         if number == UNSOUND {
             return Ok(());
         }
-        self.count_refused_frame(Reader::Take, gateway::carried(frame).err(), number)
+        self.count_refused_frame(FrameCall::Take, gateway::carried(frame).err(), number)
+    }
+
+    /// Counts why a record had no view, and what else was wrong with it.
+    fn count_viewed(
+        &mut self,
+        record: &[u8],
+        room: usize,
+        reader: u32,
+        number: u32,
+    ) -> Result<(), Wrong> {
+        for situation in views::situations(record, room, reader, number) {
+            self.tally.count_situation(situation);
+        }
+        let reason = match view::view(record, room, reader) {
+            Err(Refusal::CutState) => {
+                self.tally.count_situation(Situation::ViewsOfACutState);
+                return check_number(number, Refusal::CutState.number());
+            }
+            Err(Refusal::Frame(reason)) => Some(reason),
+            _ => None,
+        };
+        self.count_refused_frame(FrameCall::View, reason, number)
     }
 
     /// Counts the reason why a call refused a frame, whose number the answer must be.
     fn count_refused_frame(
         &mut self,
-        reader: Reader,
+        call: FrameCall,
         reason: Option<Reason>,
         number: u32,
     ) -> Result<(), Wrong> {
         match reason {
             Some(reason) if reason.number() == number => {
-                self.tally.count_refused_frame(reader, reason);
+                self.tally.count_refused_frame(call, reason);
                 Ok(())
             }
-            Some(reason) => Err(format!("{reader:?} answered {number} in place of {reason}")),
+            Some(reason) => Err(format!("{call:?} answered {number} in place of {reason}")),
             None if REASONS.iter().any(|reason| reason.number() == number) => {
-                Err(format!("{reader:?} answered {number} for no reason"))
+                Err(format!("{call:?} answered {number} for no reason"))
             }
             None => Ok(()),
         }
@@ -315,8 +372,9 @@ mod tests {
     #[test]
     fn a_refused_frame_is_answered_with_the_number_of_its_reason() {
         let mut comparison = Comparison::default();
-        let mut count =
-            |reason, number| comparison.count_refused_frame(Reader::Take, reason, number).is_ok();
+        let mut count = |reason, number| {
+            comparison.count_refused_frame(FrameCall::Take, reason, number).is_ok()
+        };
         for reason in REASONS {
             for number in [0, 1, 2, 11, 12] {
                 assert_eq!(count(Some(reason), number), number == reason.number());

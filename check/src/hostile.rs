@@ -1,6 +1,8 @@
-//! Hostile input: damaged frames and lists, and memories with bytes changed.
+//! Hostile input: damaged frames and lists, records with a thing or two wrong, and memories with bytes changed.
 
+use crate::draw::{self, Site};
 use peer::generator::Generator;
+use peer::model::MAX_LAST_HOUR;
 
 /// Bytes with one thing wrong, or none left, or more of them.
 pub fn damaged(generator: &mut Generator, bytes: &[u8]) -> Vec<u8> {
@@ -41,6 +43,72 @@ fn change_field(generator: &mut Generator, frame: &mut [u8]) {
     if let Some(byte) = frame.get_mut(usize::from(at)) {
         *byte = value;
     }
+}
+
+/// A few events of a record, mostly with one or two of them wrong, and at times cut anywhere or with a byte changed.
+pub fn spoiled_record(generator: &mut Generator, mut events: Vec<Vec<u8>>) -> Vec<u8> {
+    let first = usize::from(generator.half()) % (events.len() + 1);
+    events.drain(..first);
+    events.truncate(generator.below(7).into());
+    for event in &mut events {
+        if generator.below(4) == 0 {
+            spoil_event(generator, event);
+        }
+    }
+    if generator.below(3) == 0 {
+        let place = usize::from(generator.half()) % (events.len() + 1);
+        events.insert(place, foreign_event(generator));
+    }
+    let mut bytes = events.concat();
+    match generator.below(6) {
+        0 | 1 => bytes.truncate(bytes.len().saturating_sub(generator.below(42).into())),
+        2 => bytes = damaged(generator, &bytes),
+        _ => {}
+    }
+    bytes
+}
+
+/// A frame of any form, whole or damaged, and a state behind it.
+fn foreign_event(generator: &mut Generator) -> Vec<u8> {
+    let gateways = generator.pick(&[2, 255]);
+    let site = Site { gateways, own: generator.below(gateways), last_hour: MAX_LAST_HOUR };
+    let mut event = draw::frame(generator, &site);
+    if generator.below(3) == 0 {
+        event = damaged_frame(generator, &event);
+    }
+    event.extend([generator.byte(); 14]);
+    event
+}
+
+/// Changes an event of a record in one thing, often gateways' numbers or the hour.
+fn spoil_event(generator: &mut Generator, event: &mut Vec<u8>) {
+    match generator.below(14) {
+        0..=3 => change_numbers(generator, event),
+        4..=7 => event[4..8].fill(255),
+        8 => event[9 + usize::from(generator.below(14))] = generator.pick(&[0, 32, 127, 255]),
+        9 => add_sense(generator, event),
+        10 => event[3] ^= 1,
+        11 => event.truncate(event.len() - 1 - usize::from(generator.below(20))),
+        12 => event[0] = 0,
+        _ => *event = damaged(generator, event),
+    }
+}
+
+/// Makes gateway numbers of an event 255, such that they agree as its kind demands.
+fn change_numbers(generator: &mut Generator, event: &mut [u8]) {
+    let places: &[usize] = match event[1] {
+        0 => &[2, 3, 8],
+        1 => generator.pick(&[&[2][..], &[3], &[8]]),
+        2 => generator.pick(&[&[2][..], &[3, 8]]),
+        _ => &[2, 3],
+    };
+    places.iter().for_each(|&place| event[place] = 255);
+}
+
+/// Makes an event's frame one with a sense, at times one that there is not.
+fn add_sense(generator: &mut Generator, event: &mut Vec<u8>) {
+    event[0] |= 128;
+    event.insert(event.len() - 14, generator.below(5));
 }
 
 /// Memory with one thing changed. It may still be sound.

@@ -9,7 +9,9 @@ pub mod hours;
 pub mod ledger;
 pub mod peer_calls;
 pub mod runs;
+pub mod seen;
 pub mod tally;
+pub mod views;
 pub mod world;
 
 pub use peer::under_way::Wrong;

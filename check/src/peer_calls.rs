@@ -1,11 +1,11 @@
 //! The second implementation behind the interface of the calls: it reads a gateway from the lent memory, does
 //! the call and writes the gateway back.
 
-use interface::{AgreedTime, Answer, Calls, LampPlace, Opening, NO_NEIGHBOUR};
+use interface::{AgreedTime, Answer, Calls, LampPlace, Opening, ViewAnswer, NO_NEIGHBOUR};
 use peer::frame::{self, Frame};
 use peer::gateway::{Gateway, Setup};
 use peer::refusal::Refusal;
-use peer::{memory, record, routing};
+use peer::{memory, record, routing, view};
 
 /// The number of memory that is not sound.
 pub const UNSOUND: u32 = 10;
@@ -78,6 +78,16 @@ impl Calls for Peer {
         match frame::lamp_place(frame) {
             Ok(place) => LampPlace { number: 0, place },
             Err(reason) => LampPlace { number: reason.number(), place: 0 },
+        }
+    }
+
+    fn view(&self, record: &[u8], output: &mut [u8], reader: u32) -> ViewAnswer {
+        match view::view(record, output.len(), reader) {
+            Ok(bytes) => {
+                output[..bytes.len()].copy_from_slice(&bytes);
+                ViewAnswer { number: 0, written: bytes.len() }
+            }
+            Err(refusal) => ViewAnswer { number: refusal.number(), written: 0 },
         }
     }
 }

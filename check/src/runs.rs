@@ -1,10 +1,11 @@
-//! The runs: forecasts with random carriers, single gateways that are told anything, set-ups and routing.
+//! The runs: forecasts with random carriers and the views of their records, single gateways that are told anything, set-ups and
+//! routing.
 
 use crate::compare::{check_number, Call, Comparison, AMPLE};
 use crate::draw::{self, Site};
 use crate::tally::Situation;
 use crate::world::{opening, World};
-use crate::{events, hostile, Wrong};
+use crate::{events, hostile, views, Wrong};
 use interface::{memory_length, Opening, MOST_PLACES};
 use peer::forecast;
 use peer::frame::{self, Frame, Sense};
@@ -22,7 +23,7 @@ const PATIENCE: usize = 60;
 /// All runs of one seed.
 pub fn all(seed: u32, comparison: &mut Comparison) -> Result<(), Wrong> {
     let mut generator = Generator::new(seed);
-    forecast_run(&mut generator, comparison, 600)?;
+    let records = forecast_run(&mut generator, comparison, 600)?;
     single_gateway(&mut generator, comparison, 600)?;
     set_ups(&mut generator, comparison, 60)?;
     for _ in 0..20 {
@@ -33,7 +34,7 @@ pub fn all(seed: u32, comparison: &mut Comparison) -> Result<(), Wrong> {
     for _ in 0..20 {
         events::two_events(&mut generator, comparison)?;
     }
-    Ok(())
+    views::of_records(&records, &mut generator, comparison)
 }
 
 /// Every gateway's neighbours for all numbers of gateways up to a limit.
@@ -50,12 +51,12 @@ pub fn routes(limit: u32, comparison: &mut Comparison) -> Result<(), Wrong> {
 }
 
 /// A random forecast: random calls, then turns until every record is whole or too few places stop it. Between the calls
-/// hostile ones are made on copies of the memories.
+/// hostile ones are made on copies of the memories. What was committed is answered.
 pub fn forecast_run(
     generator: &mut Generator,
     comparison: &mut Comparison,
     calls: usize,
-) -> Result<(), Wrong> {
+) -> Result<Vec<Vec<u8>>, Wrong> {
     let setups = forecast::draw(generator);
     let mut world = World::new(&setups, comparison)?;
     let habits = Habits::draw(generator);
@@ -70,7 +71,7 @@ pub fn forecast_run(
     let whole = finish(&mut world, comparison)?;
     let situation = if whole { Situation::ForecastsWhole } else { Situation::ForecastsStuck };
     comparison.tally.count_situation(situation);
-    Ok(())
+    Ok(world.into_records())
 }
 
 /// What a random carrier prefers.

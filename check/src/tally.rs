@@ -1,5 +1,6 @@
 //! How many calls of each kind were made, with which answers and for which reasons, and which of them are still missing.
 
+use interface::{MAINTENANCE, PURCHASING};
 use peer::frame::{self, Frame, Sense};
 use peer::memory::{self, Unsound};
 use peer::model::Kind;
@@ -28,13 +29,16 @@ pub enum Called {
     Commit,
     AgreedTime,
     Lamp,
+    ViewForPurchasing,
+    ViewForMaintenance,
+    ViewForAnother,
 }
 
 /// The numbers of all answers.
 const NUMBERS: RangeInclusive<u32> = 0..=12;
 
 /// Every kind of call with the numbers that it can answer.
-const ANSWERS: [(Called, &[u32]); 17] = [
+const ANSWERS: [(Called, &[u32]); 20] = [
     (Called::Route, &[0, 5, 8]),
     (Called::SetUp, &[0, 1, 2, 3, 5, 8, 11, 12]),
     (Called::Work, &[0, 5, 6, 10]),
@@ -52,17 +56,22 @@ const ANSWERS: [(Called, &[u32]); 17] = [
     (Called::Commit, &[0, 5, 6, 10]),
     (Called::AgreedTime, &[0, 10]),
     (Called::Lamp, &[0, 1, 11, 12]),
+    (Called::ViewForPurchasing, &[0, 1, 2, 3, 5, 11, 12]),
+    (Called::ViewForMaintenance, &[0, 1, 2, 3, 5, 11, 12]),
+    (Called::ViewForAnother, &[8]),
 ];
 
 /// The calls that read frames.
 #[derive(Clone, Copy, Debug, PartialEq, Eq, PartialOrd, Ord)]
-pub enum Reader {
+pub enum FrameCall {
     Take,
     SetUp,
     Lamp,
+    View,
 }
 
-const READERS: [Reader; 3] = [Reader::Take, Reader::SetUp, Reader::Lamp];
+const FRAME_CALLS: [FrameCall; 4] =
+    [FrameCall::Take, FrameCall::SetUp, FrameCall::Lamp, FrameCall::View];
 
 /// Why there was no room.
 #[derive(Clone, Copy, Debug, PartialEq, Eq, PartialOrd, Ord)]
@@ -75,7 +84,7 @@ pub enum Lacking {
 const LACKING: [Lacking; 3] =
     [Lacking::QueuePlaces, Lacking::OutstandingPlaces, Lacking::OutputBytes];
 
-/// What else is counted, of the runs of forecasts.
+/// What else is counted, of the runs of forecasts and of the views of their records.
 #[derive(Clone, Copy, Debug, PartialEq, Eq, PartialOrd, Ord)]
 pub enum Situation {
     /// Calls after which some cancel waits.
@@ -95,9 +104,17 @@ pub enum Situation {
     ForecastsWhole,
     /// Forecasts that too few places stopped.
     ForecastsStuck,
+    /// Views of records in which fewer than fourteen bytes of state stand behind a good frame: 11, which is for no frame.
+    ViewsOfACutState,
+    /// Views refused for a frame behind which the state is cut too.
+    ViewsOfABadFrameWithACutState,
+    /// Views refused for an event, with a cut state at the end of the record.
+    ViewsOfABadEventBeforeACutState,
+    /// Views refused for an event, with too little room for the events before it.
+    ViewsOfABadEventWithTooLittleRoom,
 }
 
-const SITUATIONS: [Situation; 9] = [
+const SITUATIONS: [Situation; 13] = [
     Situation::CallsWithCancelWaiting,
     Situation::RequestsTakenBesideADoneRestockOfTheirHour,
     Situation::RequestsTakenBesideADoneDeliveryOfTheirHour,
@@ -107,12 +124,16 @@ const SITUATIONS: [Situation; 9] = [
     Situation::RequestsAtAShelfThatStoppedInTheirHour,
     Situation::ForecastsWhole,
     Situation::ForecastsStuck,
+    Situation::ViewsOfACutState,
+    Situation::ViewsOfABadFrameWithACutState,
+    Situation::ViewsOfABadEventBeforeACutState,
+    Situation::ViewsOfABadEventWithTooLittleRoom,
 ];
 
 #[derive(Clone, Debug, Default)]
 pub struct Tally {
     answers: BTreeMap<(Called, u32), u64>,
-    refused_frames: BTreeMap<(Reader, Reason), u64>,
+    refused_frames: BTreeMap<(FrameCall, Reason), u64>,
     unsound: BTreeMap<Unsound, u64>,
     lacking: BTreeMap<Lacking, u64>,
     situations: BTreeMap<Situation, u64>,
@@ -139,6 +160,15 @@ impl Called {
             Err(_) => Called::TakeOtherBytes,
         }
     }
+
+    /// What a view for this reader is.
+    pub fn viewing(reader: u32) -> Called {
+        match reader {
+            PURCHASING => Called::ViewForPurchasing,
+            MAINTENANCE => Called::ViewForMaintenance,
+            _ => Called::ViewForAnother,
+        }
+    }
 }
 
 impl Tally {
@@ -147,8 +177,8 @@ impl Tally {
     }
 
     /// Counts why a call refused a frame.
-    pub fn count_refused_frame(&mut self, reader: Reader, reason: Reason) {
-        *self.refused_frames.entry((reader, reason)).or_default() += 1;
+    pub fn count_refused_frame(&mut self, call: FrameCall, reason: Reason) {
+        *self.refused_frames.entry((call, reason)).or_default() += 1;
     }
 
     pub fn count_unsound(&mut self, reason: Unsound) {
@@ -173,8 +203,8 @@ impl Tally {
     }
 
     /// How often a call refused a frame for that reason.
-    fn refused_frames(&self, reader: Reader, reason: Reason) -> u64 {
-        self.refused_frames.get(&(reader, reason)).copied().unwrap_or(0)
+    fn refused_frames(&self, call: FrameCall, reason: Reason) -> u64 {
+        self.refused_frames.get(&(call, reason)).copied().unwrap_or(0)
     }
 
     /// Answers, reasons and situations that can be and were never met.
@@ -185,10 +215,10 @@ impl Tally {
                 gaps.push(format!("{called:?} was never answered with {number}"));
             }
         }
-        for reader in READERS {
+        for call in FRAME_CALLS {
             for reason in refusal::REASONS {
-                if self.refused_frames(reader, reason) == 0 {
-                    gaps.push(format!("{reader:?} never refused a frame for {reason}"));
+                if self.refused_frames(call, reason) == 0 {
+                    gaps.push(format!("{call:?} never refused a frame for {reason}"));
                 }
             }
         }
@@ -231,14 +261,14 @@ impl fmt::Display for Tally {
             writeln!(formatter)?;
         }
         write!(formatter, "{:48}", "frames refused for")?;
-        for reader in READERS {
-            write!(formatter, "{:>9}", format!("{reader:?}"))?;
+        for call in FRAME_CALLS {
+            write!(formatter, "{:>9}", format!("{call:?}"))?;
         }
         writeln!(formatter)?;
         for reason in refusal::REASONS {
             write!(formatter, "{:48}", reason.to_string())?;
-            for reader in READERS {
-                write!(formatter, "{:>9}", self.refused_frames(reader, reason))?;
+            for call in FRAME_CALLS {
+                write!(formatter, "{:>9}", self.refused_frames(call, reason))?;
             }
             writeln!(formatter)?;
         }

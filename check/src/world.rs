@@ -14,7 +14,7 @@ use peer::under_way::{check_agreed, Carried, UnderWay};
 use peer::{queue, record};
 
 /// The bytes of a state behind the frame of a committed event: the stock, then the counters.
-const STATE_LENGTH: usize = 14;
+pub const STATE_LENGTH: usize = 14;
 
 pub struct World {
     pub memories: Vec<Vec<u8>>,
@@ -75,6 +75,11 @@ impl World {
     /// What a run that goes on must change at last: the agreed times and the bytes committed.
     pub fn progress(&self) -> (Vec<Hour>, usize) {
         (self.agreed.clone(), self.records.iter().map(Vec::len).sum())
+    }
+
+    /// What the gateways have committed.
+    pub fn into_records(self) -> Vec<Vec<u8>> {
+        self.records
     }
 
     pub fn waiting_cancels(&self) -> usize {

@@ -1,13 +1,14 @@
 //! The short seeded part of the comparison: no difference, and every answer of every call met.
 
 use check::compare::Comparison;
-use check::runs;
+use check::{runs, views};
 
 #[test]
 fn calls_agree_and_every_answer_is_met() {
     let mut comparison = Comparison::default();
     runs::routes(64, &mut comparison).unwrap();
     runs::most_places(&mut comparison).unwrap();
+    views::of_every_byte(&mut comparison).unwrap();
     for seed in 1..=60 {
         let result = runs::all(seed, &mut comparison);
         result.unwrap_or_else(|wrong| panic!("seed {seed}: {wrong}"));

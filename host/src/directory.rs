@@ -1,7 +1,9 @@
-//! The directory of a forecast: its scenario, its records, the copy to go on from, and what is made of the records at the end.
+//! The directory of a forecast: its scenario, its records, the copy to go on from, and what is made of the records at the end, the
+//! views of them included.
 
 use crate::record_files::{name, BadFile};
 use crate::scenario::MOST_GATEWAYS;
+use crate::view::READERS;
 use std::fs::{self, File, TryLockError};
 use std::io::{self, BufWriter, Write};
 use std::path::{Path, PathBuf};
@@ -12,7 +14,7 @@ const SCENARIO: &str = "forecast.scenario";
 /// The copy to go on from. It is there from the forecast's beginning to its end.
 const COPY: &str = "forecast.copy";
 
-/// What is made of the records.
+/// What is made of all the records; views are made of each.
 pub const RESULTS: [&str; 6] =
     ["report.html", "years.csv", "months.csv", "drivers.csv", "lamps.csv", "places.csv"];
 
@@ -67,6 +69,9 @@ impl Directory {
         }
         for gateway in 0..MOST_GATEWAYS {
             self.remove(&name(gateway))?;
+            for reader in READERS {
+                self.remove(&reader.file_name(gateway))?;
+            }
         }
         Ok(())
     }

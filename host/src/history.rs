@@ -1,6 +1,7 @@
 //! The records of all gateways as one history, in order of the hours.
 
-use crate::record::{Kind, Record, Records, Unreadable};
+use crate::events::Unreadable;
+use crate::record::{Kind, Record, Records};
 use std::cmp::Reverse;
 use std::collections::BinaryHeap;
 use std::io::Read;

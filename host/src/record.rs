@@ -1,19 +1,19 @@
 //! Reading records: the committed events of a gateway, each a frame and the state after it, one behind the other.
 
 use crate::bytes::{half, word};
+use crate::events::{Events, Parser};
 use crate::frame::{
     in_table, length, CANCEL, DELIVERY, FAILURE, LAMP_LENGTH, LONGEST, REQUEST, RESTOCK, SENSE_BIT,
 };
 use crate::refusal;
 use interface::NOTHING_DUE;
 use std::fmt;
-use std::io::{self, Read};
 
 /// The state after an event: stock, failed, fitted and short, high byte first.
-const STATE_LENGTH: usize = 14;
+pub(crate) const STATE_LENGTH: usize = 14;
 
 /// N is read as 255, so that no gateway has this number.
-const NO_GATEWAY: u8 = 255;
+pub(crate) const NO_GATEWAY: u8 = 255;
 
 /// A lamp's number.
 pub type Lamp = [u8; LAMP_LENGTH];
@@ -49,6 +49,18 @@ pub struct State {
     pub short: u32,
 }
 
+impl State {
+    /// The state that these bytes are.
+    pub(crate) fn of(bytes: &[u8; STATE_LENGTH]) -> State {
+        State {
+            stock: half(bytes, 0),
+            failed: word(bytes, 2),
+            fitted: word(bytes, 6),
+            short: word(bytes, 10),
+        }
+    }
+}
+
 /// A committed event. The fields stand in event order; one that its kind lacks is zero.
 #[derive(Clone, Copy, Debug, PartialEq, Eq, PartialOrd, Ord)]
 pub struct Event {
@@ -66,29 +78,6 @@ pub struct Event {
 pub struct Record {
     pub event: Event,
     pub after: State,
-}
-
-/// Why bytes are no record.
-#[derive(Debug)]
-pub enum Unreadable {
-    File(io::Error),
-    /// Where the event begins that is no record, and the first reason of it.
-    NoRecord {
-        place: u64,
-        reason: Reason,
-    },
-}
-
-impl fmt::Display for Unreadable {
-    fn fmt(&self, formatter: &mut fmt::Formatter) -> fmt::Result {
-        match self {
-            Unreadable::File(error) => write!(formatter, "{error}"),
-            Unreadable::NoRecord { place, reason } => {
-                let number = refusal::named(reason.number());
-                write!(formatter, "no record at byte {place}: {number}, {reason}")
-            }
-        }
-    }
 }
 
 /// Why an event is no record. The reasons are looked for in this order.
@@ -142,6 +131,7 @@ impl Reason {
 
 impl fmt::Display for Reason {
     fn fmt(&self, formatter: &mut fmt::Formatter) -> fmt::Result {
+        write!(formatter, "{}, ", refusal::named(self.number()))?;
         match self {
             Reason::FewerThanTwoBytes => write!(formatter, "a frame of fewer than two bytes"),
             Reason::MapAndKind { map, kind } => {
@@ -176,64 +166,30 @@ impl fmt::Display for Reason {
     }
 }
 
-/// Reads a record event by event. Nothing comes behind the first that cannot be read.
-pub struct Records<R> {
-    input: R,
-    /// Where the next event begins.
-    place: u64,
+/// Reads a record event by event.
+pub type Records<R> = Events<R, RecordParser>;
+
+#[derive(Default)]
+pub struct RecordParser {
     last: Option<Event>,
-    over: bool,
 }
 
-impl<R: Read> Records<R> {
-    pub fn new(input: R) -> Records<R> {
-        Records { input, place: 0, last: None, over: false }
+impl Parser for RecordParser {
+    const NAME: &'static str = "record";
+    type Event = Record;
+    type Reason = Reason;
+
+    fn length(&self, map: u8) -> Result<usize, Reason> {
+        Ok(length(map).min(LONGEST) + STATE_LENGTH)
     }
 
-    fn read(&mut self) -> Result<Option<Record>, Unreadable> {
-        let mut bytes = [0; LONGEST + STATE_LENGTH];
-        if self.fill(&mut bytes[..1])? == 0 {
-            return Ok(None);
+    fn parse(&mut self, bytes: &[u8]) -> Result<Record, Reason> {
+        let record = parsed(bytes)?;
+        if self.last.is_some_and(|last| record.event < last) {
+            return Err(Reason::EventOrder);
         }
-        let whole = (length(bytes[0]) + STATE_LENGTH).min(bytes.len());
-        let found = 1 + self.fill(&mut bytes[1..whole])?;
-        let reason = match parsed(&bytes[..found]) {
-            Ok(record) if self.last.is_some_and(|last| record.event < last) => Reason::EventOrder,
-            Ok(record) => {
-                self.place += found as u64;
-                self.last = Some(record.event);
-                return Ok(Some(record));
-            }
-            Err(reason) => reason,
-        };
-        Err(Unreadable::NoRecord { place: self.place, reason })
-    }
-
-    /// Reads as many bytes as there are; how many that is.
-    fn fill(&mut self, bytes: &mut [u8]) -> Result<usize, Unreadable> {
-        let mut filled = 0;
-        while filled < bytes.len() {
-            match self.input.read(&mut bytes[filled..]) {
-                Ok(0) => break,
-                Ok(count) => filled += count,
-                Err(error) if error.kind() == io::ErrorKind::Interrupted => {}
-                Err(error) => return Err(Unreadable::File(error)),
-            }
-        }
-        Ok(filled)
-    }
-}
-
-impl<R: Read> Iterator for Records<R> {
-    type Item = Result<Record, Unreadable>;
-
-    fn next(&mut self) -> Option<Self::Item> {
-        if self.over {
-            return None;
-        }
-        let result = self.read().transpose();
-        self.over = !matches!(result, Some(Ok(_)));
-        result
+        self.last = Some(record.event);
+        Ok(record)
     }
 }
 
@@ -245,13 +201,7 @@ fn parsed(bytes: &[u8]) -> Result<Record, Reason> {
     let Ok(state) = <[u8; STATE_LENGTH]>::try_from(state) else {
         return Err(Reason::CutState(state.len()));
     };
-    let after = State {
-        stock: half(&state, 0),
-        failed: word(&state, 2),
-        fitted: word(&state, 6),
-        short: word(&state, 10),
-    };
-    Ok(Record { event, after })
+    Ok(Record { event, after: State::of(&state) })
 }
 
 /// The event of a plain frame, or the first reason why these bytes are none.
@@ -280,7 +230,7 @@ fn sense(map: u8, frame: &[u8]) -> Result<Option<u8>, Reason> {
 }
 
 /// The kind of an event with this number; `None` for a frame of a round.
-fn kind(number: u8) -> Option<Kind> {
+pub(crate) fn kind(number: u8) -> Option<Kind> {
     match number {
         FAILURE => Some(Kind::Failure),
         REQUEST => Some(Kind::Request),
@@ -334,8 +284,12 @@ fn check_limits(event: &Event) -> Result<(), Reason> {
 }
 
 fn check_lamp(lamp: &Lamp) -> Result<(), Reason> {
-    let other = lamp.iter().find(|byte| !(33..=126).contains(*byte));
-    other.map_or(Ok(()), |&byte| Err(Reason::Lamp(byte)))
+    foreign_byte(lamp).map_or(Ok(()), |byte| Err(Reason::Lamp(byte)))
+}
+
+/// A byte of a lamp's number that no lamp has.
+pub(crate) fn foreign_byte(lamp: &Lamp) -> Option<u8> {
+    lamp.iter().copied().find(|byte| !(33..=126).contains(byte))
 }
 
 /// A lamp's number as text.
@@ -357,6 +311,7 @@ pub fn lamp(text: &str) -> Result<Lamp, String> {
 #[cfg(test)]
 mod tests {
     use super::*;
+    use crate::events;
     use crate::frame::{failure, restock};
 
     const LAMP: &Lamp = b"L00000000000000001";
@@ -368,14 +323,7 @@ mod tests {
     }
 
     fn read(bytes: &[u8]) -> (Vec<Record>, Option<String>) {
-        let mut records = Vec::new();
-        for record in Records::new(bytes) {
-            match record {
-                Ok(record) => records.push(record),
-                Err(why) => return (records, Some(why.to_string())),
-            }
-        }
-        (records, None)
+        events::read::<RecordParser>(bytes)
     }
 
     #[test]

@@ -8,12 +8,15 @@ use crate::page::Page;
 use crate::record_files::{name, BadFile};
 use crate::report;
 use crate::scenario::Scenario;
-use std::fs::File;
+use crate::view::READERS;
+use interface::Calls;
+use std::fs::{self, File};
 use std::io::{BufReader, Write};
 
-/// Reads the records in a directory and writes the results beside them. `stopped` says why the forecast could not go on, if so.
-/// The order table is answered.
+/// Reads the records in a directory and writes the results beside them, the views by `calls`. `stopped` says why the forecast could
+/// not go on, if so. The order table is answered.
 pub fn write(
+    calls: &impl Calls,
     directory: &Directory,
     scenario: &Scenario,
     carried: &Carried,
@@ -22,6 +25,7 @@ pub fn write(
     let accounts = accounts(directory, scenario)?;
     let Carried { progress, trace, most, .. } = carried;
     let page = Page { scenario, accounts: &accounts, progress, trace: &trace.entries, stopped };
+    write_views(calls, directory, scenario.gateways.len())?;
     let [page_file, years, months, drivers, lamps, places] = RESULTS;
     directory.write(years, |out| report::write_periods(out, "year", accounts.years()))?;
     directory.write(months, |out| report::write_periods(out, "month", accounts.months()))?;
@@ -31,6 +35,19 @@ pub fn write(
     directory.write(page_file, |out| out.write_all(page.html().as_bytes()))?;
     directory.sync()?;
     Ok(report::order_table(accounts.years()))
+}
+
+/// Writes what purchasing and maintenance see of each record.
+fn write_views(calls: &impl Calls, directory: &Directory, gateways: usize) -> Result<(), BadFile> {
+    for gateway in 0..gateways {
+        let path = directory.path().join(name(gateway));
+        let record = fs::read(&path).map_err(|error| BadFile::new(&path, error))?;
+        for reader in READERS {
+            let view = reader.view(calls, &record).map_err(|what| BadFile::new(&path, what))?;
+            directory.write(&reader.file_name(gateway), |out| out.write_all(&view))?;
+        }
+    }
+    Ok(())
 }
 
 /// The accounts of the records in a directory.

@@ -4,7 +4,7 @@ use host::carrier::{Forecast, Progress, Stopped, Want};
 use host::frame::REQUEST;
 use host::record::{Kind, Record, Records, State};
 use host::scenario::Scenario;
-use interface::{AgreedTime, Answer, Calls, LampPlace, Opening};
+use interface::{AgreedTime, Answer, Calls, LampPlace, Opening, ViewAnswer};
 use library::Library;
 
 /// Runs a scenario: how it ended, and each gateway's events.
@@ -126,6 +126,10 @@ impl Calls for Failing {
 
     fn lamp(&self, frame: &[u8]) -> LampPlace {
         Library.lamp(frame)
+    }
+
+    fn view(&self, record: &[u8], output: &mut [u8], reader: u32) -> ViewAnswer {
+        Library.view(record, output, reader)
     }
 }
 

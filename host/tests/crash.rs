@@ -72,7 +72,7 @@ fn undisturbed(name: &str) -> BTreeMap<String, Vec<u8>> {
     assert_eq!((end.status, &end.error[..]), (Some(0), ""));
     assert!(!end.output.contains(" 0 windows taken back"), "{}", end.output);
     let files = files(&directory);
-    assert_eq!(files.len(), 4 + 1 + 6);
+    assert_eq!(files.len(), 4 * 3 + 1 + 6);
     files
 }
 
@@ -246,7 +246,10 @@ fn what_cannot_be_gone_on_with_is_refused_in_words() {
 fn begun_anew() {
     let expected = undisturbed("anew-undisturbed");
     let (file, directory) = killed("anew");
-    fs::write(directory.join("gateway-100.record"), b"of an earlier forecast").unwrap();
+    for ending in ["record", "purchasing", "maintenance"] {
+        let name = format!("gateway-100.{ending}");
+        fs::write(directory.join(name), b"of an earlier forecast").unwrap();
+    }
     let mut anew = words(&[Path::new("--anew")]);
     anew.extend([file.as_os_str(), directory.as_os_str()]);
     assert_eq!(run(FORECAST, &anew).status, Some(0));

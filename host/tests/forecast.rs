@@ -110,5 +110,9 @@ fn a_forecast_that_cannot_go_on_keeps_what_is_committed() {
         assert!(!result.join("forecast.copy").exists());
         assert!(read(&result, "years.csv").ends_with("\n1,all,0,0,0,3,0,3,0,0,-3\n"));
         assert!(read(&result, "report.html").contains("4 queue places are too few"));
+        let length = |name: &str| fs::metadata(result.join(name)).unwrap().len();
+        assert_eq!(length("gateway-000.record"), 24);
+        assert_eq!(length("gateway-000.purchasing"), 22);
+        assert_eq!(length("gateway-000.maintenance"), 6);
     }
 }

@@ -2,11 +2,11 @@
 
 mod common;
 
-use common::{check_bad_usage, check_help_and_version, run, run_on, run_unread, scratch, Ended};
+use common::{
+    check_bad_usage, check_help_and_version, file, lines, run, run_on, run_unread, scratch, Ended,
+};
 use host::frame::{failure, restock, DELIVERY, REQUEST};
 use host::scenario::Scenario;
-use std::fs;
-use std::path::Path;
 
 const RECORD: &str = env!("CARGO_BIN_EXE_record");
 const TOWN: &str = env!("CARGO_BIN_EXE_town");
@@ -59,22 +59,9 @@ hour,kind,from,to,origin,lamp,quantity,stock,failed,fitted,short
 4294967294,Restock,3,3,,,65535,65535,4294967295,4294967295,4294967295
 ";
 
-/// These lines of a text.
-fn lines(text: &str, numbers: &[usize]) -> String {
-    let lines: Vec<&str> = text.split_inclusive('\n').collect();
-    numbers.iter().map(|&number| lines[number]).collect()
-}
-
 /// What is printed for the small record with these words before it; it must end well.
 fn picked(words: &[&str]) -> String {
     run_on(RECORD, &[words, &["-"]].concat(), &small()).good()
-}
-
-/// The name of a file with these bytes.
-fn file(directory: &Path, name: &str, bytes: &[u8]) -> String {
-    let path = directory.join(name);
-    fs::write(&path, bytes).unwrap();
-    path.to_str().unwrap().into()
 }
 
 #[test]

@@ -27,6 +27,10 @@ pub const fn ample_output(outstanding_places: u32) -> usize {
 /// The most bytes that a commit writes: a frame of 27 bytes and the state.
 pub const LONGEST_RECORD: usize = 41;
 
+/// The readers for whom `view` writes.
+pub const PURCHASING: u32 = 0;
+pub const MAINTENANCE: u32 = 1;
+
 /// The least length of the memory that set up is lent.
 pub const fn memory_length(queue_places: u32, outstanding_places: u32) -> usize {
     256 + 64 * queue_places as usize + 32 * outstanding_places as usize
@@ -94,6 +98,20 @@ impl LampPlace {
     }
 }
 
+/// What came of a view: 0 and the bytes written to the output, or a refusal's number and 0.
+#[derive(Clone, Copy, Debug, Default, PartialEq, Eq)]
+pub struct ViewAnswer {
+    pub number: u32,
+    pub written: usize,
+}
+
+impl ViewAnswer {
+    /// The number and 256 times the bytes written, taken apart.
+    pub const fn unpacked(packed: u64) -> ViewAnswer {
+        ViewAnswer { number: packed as u32 & 0xff, written: (packed >> 8) as usize }
+    }
+}
+
 /// The calls. Memory is lent for the time of a call; a refusal leaves memory and output as they were.
 pub trait Calls {
     /// The neighbours of gateway `own`: two that it hears, then two that it tells, with
@@ -119,4 +137,25 @@ pub trait Calls {
 
     /// Reads the lamp of a frame: 0, or 1, 11 or 12 where the frame is refused, 1 too where it has no lamp.
     fn lamp(&self, frame: &[u8]) -> LampPlace;
+
+    /// Writes what a reader, [`PURCHASING`] or [`MAINTENANCE`], sees of a whole record: for each event a map and the fields whose
+    /// bit stands. 0; or 8 for another reader or a record of 2^48 bytes or more; or 1, 11, 12, 2, 3 or, for a cut state, 11 of the
+    /// first event that is refused; or 5. An output as long as the record is enough.
+    fn view(&self, record: &[u8], output: &mut [u8], reader: u32) -> ViewAnswer;
+}
+
+#[cfg(test)]
+mod tests {
+    use super::*;
+
+    #[test]
+    fn all_above_the_number_of_a_view_is_what_was_written() {
+        assert_eq!(ViewAnswer::unpacked(8), ViewAnswer { number: 8, written: 0 });
+        assert_eq!(ViewAnswer::unpacked(20 << 8), ViewAnswer { number: 0, written: 20 });
+        let most = (1 << 48) - 1;
+        assert_eq!(
+            ViewAnswer::unpacked(most << 8),
+            ViewAnswer { number: 0, written: most as usize }
+        );
+    }
 }

@@ -3,7 +3,7 @@
 //! Every call of C is here, and no other unsafe code. Slices of Rust keep what the library counts on:
 //! pointers to so many bytes, of which the written ones overlap nothing else.
 
-use interface::{AgreedTime, Answer, Calls, LampPlace, Opening};
+use interface::{AgreedTime, Answer, Calls, LampPlace, Opening, ViewAnswer};
 
 mod declared {
     //! The functions that `include/hurfaith.h` declares.
@@ -57,6 +57,13 @@ mod declared {
         ) -> u64;
         pub fn hurfaith_agreed_time(memory: *const u8, memory_length: usize) -> u64;
         pub fn hurfaith_lamp(frame: *const u8, frame_length: usize) -> u64;
+        pub fn hurfaith_view(
+            record: *const u8,
+            record_length: usize,
+            output: *mut u8,
+            output_length: usize,
+            reader: u32,
+        ) -> u64;
     }
 }
 
@@ -152,5 +159,18 @@ impl Calls for Library {
     fn lamp(&self, frame: &[u8]) -> LampPlace {
         // SAFETY: the pointer and the length are those of one slice.
         LampPlace::unpacked(unsafe { declared::hurfaith_lamp(frame.as_ptr(), frame.len()) })
+    }
+
+    fn view(&self, record: &[u8], output: &mut [u8], reader: u32) -> ViewAnswer {
+        // SAFETY: each pointer and length are those of one slice; the output is lent mutably.
+        ViewAnswer::unpacked(unsafe {
+            declared::hurfaith_view(
+                record.as_ptr(),
+                record.len(),
+                output.as_mut_ptr(),
+                output.len(),
+                reader,
+            )
+        })
     }
 }

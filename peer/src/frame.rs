@@ -79,12 +79,18 @@ pub fn lamp_place(bytes: &[u8]) -> Result<usize, Reason> {
 /// The frames that stand one behind the other in a list, cut by the lengths of their maps.
 pub fn list(mut bytes: &[u8]) -> Vec<Result<Frame, Reason>> {
     let mut frames = Vec::new();
-    while let Some(&map) = bytes.first() {
-        let (first, rest) = bytes.split_at(length(map).min(bytes.len()));
+    while !bytes.is_empty() {
+        let (first, rest) = cut(bytes);
         frames.push(read(first));
         bytes = rest;
     }
     frames
+}
+
+/// The first frame of a list or of a record, by the length of its map or as much as is there, and the bytes behind it.
+pub fn cut(bytes: &[u8]) -> (&[u8], &[u8]) {
+    let length = bytes.first().map_or(0, |&map| length(map));
+    bytes.split_at(length.min(bytes.len()))
 }
 
 /// The map is the kind's one map, with a sense only for kinds 0 to 2.

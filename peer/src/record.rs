@@ -1,7 +1,11 @@
 //! The record of a gateway: what its commits write, one event behind the other.
 
 use crate::frame::{self, Frame, Sense};
-use crate::model::{Done, State};
+use crate::model::{Done, Message, State, NOTHING_DUE};
+use crate::refusal::{Reason, Refusal};
+
+/// N, where a record is read: it is that of no forecast in particular.
+const NODES: u32 = 255;
 
 /// The bytes that a commit writes: the event's frame, then the state after it, high byte first.
 pub fn bytes(done: &Done) -> Vec<u8> {
@@ -20,6 +24,44 @@ pub fn line(done: &Done) -> String {
     format!("{} {stock} {failed} {fitted} {short}", frame::line(&plain(done)))
 }
 
+/// The events of a whole record, or the refusal of the first one that is refused.
+pub fn read(mut bytes: &[u8]) -> Result<Vec<Done>, Refusal> {
+    let mut record = Vec::new();
+    while !bytes.is_empty() {
+        let (frame, rest) = frame::cut(bytes);
+        let message = event(frame)?;
+        let (after, rest) = state(rest).ok_or(Refusal::CutState)?;
+        record.push(Done { message, after });
+        bytes = rest;
+    }
+    Ok(record)
+}
+
+/// The event of a frame in a record: a plain one, with numbers and an hour that some forecast has, to any addressee.
+fn event(bytes: &[u8]) -> Result<Message, Refusal> {
+    let frame = frame::read(bytes)?;
+    let Frame::Event { sense: Sense::Plain, message } = frame else {
+        return Err(Reason::FormNotTaken.into());
+    };
+    if u32::from(frame.largest_number()) >= NODES {
+        return Err(Refusal::Number);
+    }
+    if message.hour == NOTHING_DUE {
+        return Err(Refusal::PastLastHour);
+    }
+    Ok(message)
+}
+
+/// The state at the front of some bytes, and the bytes behind it; `None` where it is cut.
+fn state(bytes: &[u8]) -> Option<(State, &[u8])> {
+    let (stock, bytes) = bytes.split_first_chunk()?;
+    let (failed, bytes) = bytes.split_first_chunk()?;
+    let (fitted, bytes) = bytes.split_first_chunk()?;
+    let (short, bytes) = bytes.split_first_chunk()?;
+    let [failed, fitted, short] = [failed, fitted, short].map(|&word| u32::from_be_bytes(word));
+    Some((State { stock: u16::from_be_bytes(*stock), failed, fitted, short }, bytes))
+}
+
 fn plain(done: &Done) -> Frame {
     Frame::Event { sense: Sense::Plain, message: done.message }
 }
@@ -27,7 +69,64 @@ fn plain(done: &Done) -> Frame {
 #[cfg(test)]
 mod tests {
     use super::*;
-    use crate::model::{Kind, Message};
+    use crate::model::Kind;
+
+    const LAMP: [u8; 18] = *b"L00000000000000001";
+
+    fn done(kind: Kind, hour: u32, from: u8, to: u8, origin: u8) -> Done {
+        let (lamp, quantity) = if kind == Kind::Restock { ([0; 18], 258) } else { (LAMP, 0) };
+        let message = Message { hour, kind, origin, lamp, quantity, from, to };
+        let after = State { stock: 0x0102, failed: 0x0304_0506, fitted: 7, short: 0x0800_0000 };
+        Done { message, after }
+    }
+
+    #[test]
+    fn what_is_written_is_read() {
+        let record = [
+            done(Kind::Failure, 10, 254, 254, 254),
+            done(Kind::Restock, 10, 6, 6, 0),
+            done(Kind::Request, NOTHING_DUE - 1, 0, 6, 3),
+            done(Kind::Delivery, 5, 6, 254, 254),
+        ];
+        let whole: Vec<u8> = record.iter().flat_map(bytes).collect();
+        assert_eq!(read(&whole), Ok(record.to_vec()));
+        assert_eq!(read(&[]), Ok(vec![]));
+        let ends = [0, 41, 65, 106, 147];
+        for length in 0..whole.len() {
+            let read = read(&whole[..length]).map(|record| record.len());
+            match ends.iter().position(|&end| end == length) {
+                Some(events) => assert_eq!(read, Ok(events)),
+                None => assert_eq!(read.map_err(Refusal::number), Err(11), "{length}"),
+            }
+        }
+    }
+
+    /// Each event has two faults that are neighbours in the order.
+    #[test]
+    fn the_first_refusal_of_an_event() {
+        let refusal = |bytes: &[u8]| read(bytes).unwrap_err();
+        let number = bytes(&done(Kind::Request, NOTHING_DUE, 255, 3, 4));
+        let sense = [&[191], &number[1..27], &[1], &number[27..]].concat();
+        assert_eq!(refusal(&sense), Reason::FormNotTaken.into(), "and a number of 255");
+        assert_eq!(refusal(&[7, 4, 255, 0]), Reason::FormNotTaken.into(), "and a number of 255");
+        assert_eq!(refusal(&number), Refusal::Number, "and hour 4,294,967,295");
+        let hour = bytes(&done(Kind::Request, NOTHING_DUE, 0, 3, 4));
+        assert_eq!(refusal(&hour[..40]), Refusal::PastLastHour, "and a cut state");
+        let good = bytes(&done(Kind::Request, 3, 0, 3, 4));
+        for length in 27..41 {
+            assert_eq!(refusal(&good[..length]), Refusal::CutState);
+        }
+        assert_eq!(refusal(&good[..26]), Reason::Length.into());
+    }
+
+    #[test]
+    fn every_number_of_255_is_refused() {
+        for (from, to, origin) in [(255, 0, 0), (0, 255, 0), (0, 0, 255)] {
+            let event = bytes(&done(Kind::Request, 3, from, to, origin));
+            assert_eq!(read(&event), Err(Refusal::Number));
+        }
+        assert_eq!(read(&bytes(&done(Kind::Restock, 3, 255, 255, 0))), Err(Refusal::Number));
+    }
 
     #[test]
     fn the_state_stands_behind_the_frame() {

@@ -16,6 +16,8 @@ pub enum Refusal {
     NotOutstanding,
     Setting,
     BelowAgreed,
+    /// 11, of a record whose last state is cut.
+    CutState,
 }
 
 /// Why bytes are not taken as a frame, in the order in which it is looked for.
@@ -53,6 +55,7 @@ impl Refusal {
             Refusal::NotOutstanding => 7,
             Refusal::Setting => 8,
             Refusal::BelowAgreed => 9,
+            Refusal::CutState => 11,
         }
     }
 }

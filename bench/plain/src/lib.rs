@@ -13,9 +13,10 @@ mod queue;
 mod round;
 mod routing;
 mod soundness;
+mod view;
 
 use frame::{Frame, Output, Sense};
-use interface::{AgreedTime, Answer, Calls, LampPlace, Opening, NOTHING_DUE};
+use interface::{AgreedTime, Answer, Calls, LampPlace, Opening, ViewAnswer, NOTHING_DUE};
 use memory::Header;
 use message::Kind;
 
@@ -94,6 +95,13 @@ impl Calls for Plain {
         match frame::lamp_place(frame) {
             Ok(place) => LampPlace { number: 0, place },
             Err(number) => LampPlace { number, place: 0 },
+        }
+    }
+
+    fn view(&self, record: &[u8], output: &mut [u8], reader: u32) -> ViewAnswer {
+        match view::view(record, output, reader) {
+            Ok(written) => ViewAnswer { number: 0, written },
+            Err(number) => ViewAnswer { number, written: 0 },
         }
     }
 }

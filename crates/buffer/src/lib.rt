@@ -56,6 +56,22 @@ pub fn copy(bytes: &mut [u8], at: usize, source: &[u8])
     }
 }
 
+// Copies the two bytes of source from one position into bytes, from another on.
+pub fn copy_two(bytes: &mut [u8], at: usize, source: &[u8], from: usize)
+    requires { ⌜ (at + 2 ≤ length (now bytes)) × (from + 2 ≤ length (now source)) ⌝ }
+    ensures { λ _. ⌜ now (bytes .exit) ≡ write at (part (now (source .entry)) from 2) (now (bytes .entry)) ⌝ }
+{
+    write16(bytes, at, read16(source, from));
+}
+
+// The same for four bytes.
+pub fn copy_four(bytes: &mut [u8], at: usize, source: &[u8], from: usize)
+    requires { ⌜ (at + 4 ≤ length (now bytes)) × (from + 4 ≤ length (now source)) ⌝ }
+    ensures { λ _. ⌜ now (bytes .exit) ≡ write at (part (now (source .entry)) from 4) (now (bytes .entry)) ⌝ }
+{
+    write32(bytes, at, read32(source, from));
+}
+
 fn wide16(byte: u8) -> u16
     ensures { λ r. ⌜ (r ≡ byte) × (r ≤ 255) ⌝ }
 {

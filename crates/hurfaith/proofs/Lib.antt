@@ -6,3 +6,4 @@ pub mod Packing
 pub mod ReadBacks
 pub mod Routing
 pub mod LampPlaces
+pub mod ViewSizes

@@ -22,6 +22,7 @@ use Rattle.gateway.proofs.Keeps.{start-keeps, commit-keeps, bytes-keep, work-ke
 use Rattle.hurfaith.specs.Exported.{AnswersReadBack}
 use Rattle.hurfaith.proofs.WrittenSizes.{held, started-small, committed-small, worked-small}
 use Rattle.hurfaith.proofs.TakenSizes.{taken-small}
+use Rattle.hurfaith.proofs.ViewSizes.{view-read-back}
 use Rattle.packing.proofs.Packing.{read-back}
 
 module _ (memory output : List ℕ) (bytes : Bytes memory) where
@@ -84,5 +85,6 @@ answers-read-back =
       ofStarting = λ memory output bytes. read-back _ _ 0 (started-number memory output bytes) (omega (arith, started-small memory output bytes));
       ofCommitting = λ memory output bytes. read-back _ _ 0 (committed-number memory output bytes) (omega (arith, committed-small memory output bytes));
       ofWorking = λ b memory output bytes. read-back _ _ _ (worked-number memory output bytes b) (omega (arith, worked-small memory output bytes b));
+      ofViewing = view-read-back;
       ofReadingTime = λ memory. read-back _ _ _ (time-number memory) (omega arith);
     }

@@ -7,10 +7,11 @@ use lib.Dec.{leb, eqb}
 use lib.ListN.{length, drop}
 use denote.Ref.{RefT, ptr, now}
 use Rattle.routing.specs.Answers.{neighboursOf}
-use Rattle.packing.specs.Packed.{packed, ReadBack, numberAt}
+use Rattle.packing.specs.Packed.{packed, ReadBack, packedTwo, ReadBackTwo, numberAt}
 use Rattle.buffer.specs.Slice.{Bytes}
 use Rattle.frame.specs.Reasons.{reading}
 use Rattle.frame.specs.Lamps.{lampRefusal, lampStart, IsLamp}
+use Rattle.views.specs.Viewing.{ViewResult, viewed}
 use Rattle.gateway.specs.Calls.{CallResult, taken, started, committed, workedOff, agreedTime}
 use Rattle.gateway.specs.declared.Answer.{Answer}
 use Rattle.gateway.specs.declared.Worked.{Worked}
@@ -44,6 +45,14 @@ pub record LampAnswer (frame : RefT (List ℕ)) (answer : ℕ) : Type 0 where
   pub number : answer % 256 ≡ lampRefusal (now frame)
   pub place : (p : RefT (List ℕ)) → IsLamp frame p → ptr p ≡ (ptr frame .0, answer / 256 + ptr frame .1)
 
+-- what the call of a view leaves: its number and, above it, the bytes written, and the output
+pub record PackedViewResult : Type 0 where
+  pub answer : ℕ
+  pub output : List ℕ
+
+abbrev pub packedView : ViewResult → PackedViewResult
+packedView l = record { answer = packedTwo (l .answer .number) (l .answer .written); output = l .output }
+
 -- what the call of routing leaves: its number, and the array
 pub record RouteResult : Type 0 where
   pub answer : ℕ
@@ -68,4 +77,5 @@ pub record AnswersReadBack : Type 0 where
   pub ofCommitting : (memory output : List ℕ) → Bytes memory → ReadBack (committed memory output .answer .number) (committed memory output .answer .written) 0
   pub ofWorking : (b : ℕ) (memory output : List ℕ) → Bytes memory
       → ReadBack (workedOff b memory output .answer .why) (workedOff b memory output .answer .written) (workedOff b memory output .answer .count)
+  pub ofViewing : (reader : ℕ) (bytes output : List ℕ) → ReadBackTwo (viewed reader bytes output .answer .number) (viewed reader bytes output .answer .written)
   pub ofReadingTime : (memory : List ℕ) → ReadBack (agreedTime memory .number) 0 (agreedTime memory .hour)

@@ -8,15 +8,18 @@ use neighbours::neighbours_of;
 use opening::set_up::set_up;
 use packing::number_at;
 use packing::packed;
+use packing::packed_two;
 use packing::put_four;
 use round::agreed::agreed_time;
 use round::start::start;
 use take::take;
+use views::view;
 use work::work;
 ghost use mathlib.Core.Path.{_≡_};
 ghost use mathlib.Core.List.{[]};
+ghost use Rattle.views.specs.Viewing.{viewed};
 ghost use Rattle.gateway.specs.Calls.{left, workedOff, started, committed, agreedTime, taken, setUp};
-ghost use Rattle.hurfaith.specs.Exported.{packedAnswer, packedWork, packedTime, routed, numberAlone, settingsGiven, LampAnswer};
+ghost use Rattle.hurfaith.specs.Exported.{packedAnswer, packedWork, packedTime, routed, numberAlone, settingsGiven, LampAnswer, packedView};
 
 // The neighbours of a gateway: the two that it hears from and the two that it tells, 65,535 where there is none.
 #[no_mangle]
@@ -129,4 +132,13 @@ pub extern "C" fn hurfaith_lamp(frame: &[u8]) -> u64
         return packed(number, 0, 0);
     }
     packed(number, LAMP_PLACE, 0)
+}
+
+// A reader's view of a record: the number, and the bytes written. Reader 0 is purchasing, 1 maintenance.
+#[no_mangle]
+pub extern "C" fn hurfaith_view(bytes: &[u8], output: &mut [u8], reader: u32) -> u64
+    ensures { λ r. ⌜ record { answer = r; output = now (output .exit) } ≡ packedView (viewed reader (now (bytes .entry)) (now (output .entry))) ⌝ }
+{
+    let answer = view(bytes, output, reader);
+    packed_two(answer.number, answer.written)
 }

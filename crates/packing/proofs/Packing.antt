@@ -6,12 +6,20 @@ use native.Mathlib.Omega.{arith}
 use lib.ListN.{length, getD, set, drop}
 use borrow.Author.Tests.{lt-ltb, le-ltb}
 use Rattle.routing.specs.declared.Gateways.{Gateways}
-use Rattle.packing.specs.Packed.{packed, ReadBack, numberAt}
+use Rattle.packing.specs.Packed.{packed, ReadBack, packedTwo, ReadBackTwo, numberAt}
 
 -- the sum
 pub packed-sum : (number written count : ℕ) → number + 256 * written + 4294967296 * count ≡ packed number written count
 unfolding packed
 packed-sum number written count = refl
+
+pub two-sum : (number written : ℕ) → number + 256 * written ≡ packedTwo number written
+unfolding packedTwo
+two-sum number written = refl
+
+pub read-back-two : (number written : ℕ) → number < 256 → ReadBackTwo number written
+unfolding packedTwo
+read-back-two number written h = record { number = omega arith; written = omega arith }
 
 -- the parts are read back
 pub read-back : (number written count : ℕ) → number < 256 → written < 16777216 → ReadBack number written count

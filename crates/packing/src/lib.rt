@@ -15,6 +15,14 @@ pub fn packed(number: u8, written: usize, count: u32) -> u64
     number as u64 + 256 * (written as u64) + 4294967296 * (count as u64)
 }
 
+// A number and the bytes written, which take all that is left, in one number.
+pub fn packed_two(number: u8, written: usize) -> u64
+    requires { ⌜ written < 72057594037927936 ⌝ }
+    ensures { λ r. ⌜ r ≡ Packed.packedTwo number written ⌝ }
+{
+    number as u64 + 256 * (written as u64)
+}
+
 // The gateway of that index, 65,535 where there is none.
 pub fn number_at(among: Gateways, i: usize) -> u16
     requires { ⌜ (i < 2) × (getD (among .number) i 0 < 65536) ⌝ }

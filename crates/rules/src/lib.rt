@@ -58,7 +58,7 @@ pub fn gateways_agree(from: u8, to: u8, kind: Kind) -> bool
 }
 
 // Looks at every byte and keeps whether all so far were between: an early return would be a branch for each byte.
-fn all_between(lamp: [u8; 18], low: u8, high: u8) -> bool
+pub fn all_between(lamp: [u8; 18], low: u8, high: u8) -> bool
     ensures { λ r. ⌜ r ≡ allBetween low high lamp ⌝ }
 {
     let mut i = 0;

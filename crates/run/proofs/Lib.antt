@@ -59,4 +59,6 @@ pub mod KeptRelation
 pub mod Further
 pub mod Example
 pub mod OrderTable
+pub mod RecordsTaken
+pub mod RecordExample
 pub mod Theorem

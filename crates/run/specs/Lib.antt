@@ -7,3 +7,4 @@ pub mod Demand3
 pub mod Further
 pub mod ExampleRun
 pub mod OrderExamples
+pub mod RecordsTaken

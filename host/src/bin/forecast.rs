@@ -34,8 +34,9 @@ const PROGRAM: Program = Program {
     ],
     help: "\
 Runs all gateways of a scenario until every record is whole, and writes to DIRECTORY each
-gateway's record (gateway-NNN.record) and what is made of the records: report.html to begin
-with, years.csv, months.csv, drivers.csv, lamps.csv and places.csv. SCENARIO - is standard input.
+gateway's record (gateway-NNN.record), what purchasing and what maintenance is to see of it
+(gateway-NNN.purchasing, gateway-NNN.maintenance), and what is made of all records: report.html to
+begin with, years.csv, months.csv, drivers.csv, lamps.csv and places.csv. SCENARIO - is standard input.
 
   --resume DIRECTORY    go on with the forecast in DIRECTORY after a crash
   --save-every SECONDS  write the copy to go on from every so many seconds (10; 0: after each round)
@@ -158,14 +159,14 @@ fn finish(name: &str, kept: Kept<Library>, result: Result<(), Unfinished>) -> Re
 /// Writes the results, after which there is nothing to go on with; the summary.
 fn results(kept: Kept<Library>, stopped: Option<&str>) -> Result<String, BadFile> {
     let (directory, scenario, carried) = kept.close()?;
-    let orders = results::write(&directory, &scenario, &carried, stopped)?;
+    let orders = results::write(&Library, &directory, &scenario, &carried, stopped)?;
     directory.remove_copy()?;
     let Progress { worked, committed, frames, rounds, taken_back, .. } = carried.progress;
     Ok(format!(
         "{}, last hour {}: every record is whole, {}\n\
          {orders}\
          {} were done and undone again, {} carried, {}, {} taken back\n\
-         {}: {} and the records\n",
+         {}: {}, the records and their views\n",
         counted(scenario.gateways.len() as u64, "gateway"),
         grouped(scenario.last_hour),
         counted(committed, "event"),

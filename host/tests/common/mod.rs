@@ -23,6 +23,13 @@ pub fn scratch(name: &str) -> PathBuf {
     path
 }
 
+/// The name of a file with these bytes.
+pub fn file(directory: &Path, name: &str, bytes: &[u8]) -> String {
+    let path = directory.join(name);
+    fs::write(&path, bytes).unwrap();
+    path.to_str().unwrap().into()
+}
+
 /// Starts a program with its streams connected.
 pub fn start(program: impl AsRef<OsStr>, words: &[impl AsRef<OsStr>]) -> Child {
     let mut command = Command::new(program);
@@ -79,6 +86,12 @@ impl Ended {
         assert_eq!((self.status, self.output.as_str()), (Some(status), ""), "{}", self.error);
         self.error
     }
+}
+
+/// These lines of a text.
+pub fn lines(text: &str, numbers: &[usize]) -> String {
+    let lines: Vec<&str> = text.split_inclusive('\n').collect();
+    numbers.iter().map(|&number| lines[number]).collect()
 }
 
 /// Help and version are on standard output; an option that no program has is a bad usage.

@@ -1,0 +1,139 @@
+//! A record of a megabyte, as a forecast makes it.
+
+use host::frame::{failure, restock, DELIVERY, FAILURE, PLAIN_RESTOCK, REQUEST};
+use host::generator::Generator;
+use std::collections::BTreeSet;
+
+/// The length that a record is to come near, from below.
+const MEGABYTE: usize = 1_000_000;
+
+/// The gateway of the record, which is its own supplier.
+const OWN: u8 = 7;
+
+/// Hours at which a Request or a Delivery is due, and the lamps, in event order.
+type Due = BTreeSet<(u32, u32)>;
+
+/// What the gateway has, and what it has written.
+#[derive(Default)]
+struct Gateway {
+    stock: u16,
+    failed: u32,
+    fitted: u32,
+    short: u32,
+    record: Vec<u8>,
+}
+
+/// The record of a gateway that is its own supplier, whose lamps fail and whose shelf is filled at drawn hours: as many of its events
+/// as a megabyte has room for.
+pub fn record() -> Vec<u8> {
+    let mut generator = Generator(1);
+    let mut gateway = Gateway { stock: 100, ..Gateway::default() };
+    let (mut requests, mut deliveries) = (Due::new(), Due::new());
+    let mut lamps = 0;
+    for hour in 0.. {
+        for _ in 0..generator.below(3) {
+            lamps += 1;
+            gateway.fail(hour, lamps);
+            requests.insert((hour + 1, lamps));
+        }
+        if generator.below(6) == 0 {
+            gateway.restock(hour, generator.below(16) as u16);
+        }
+        while let Some(lamp) = due(&mut requests, hour) {
+            let served = gateway.serve(hour, lamp);
+            let (waiting, hours) = if served { (&mut deliveries, 24) } else { (&mut requests, 1) };
+            waiting.insert((hour + hours, lamp));
+        }
+        while let Some(lamp) = due(&mut deliveries, hour) {
+            gateway.fit(hour, lamp);
+        }
+        if gateway.record.len() > MEGABYTE {
+            break;
+        }
+    }
+    cut(gateway.record)
+}
+
+/// The next lamp whose hour has come.
+fn due(waiting: &mut Due, hour: u32) -> Option<u32> {
+    let first = waiting.first().copied().filter(|&(due, _)| due == hour)?;
+    waiting.remove(&first);
+    Some(first.1)
+}
+
+/// The whole events that a megabyte has room for.
+fn cut(mut record: Vec<u8>) -> Vec<u8> {
+    let mut end = 0;
+    loop {
+        let length = if record[end] == PLAIN_RESTOCK { 24 } else { 41 };
+        if end + length > MEGABYTE {
+            break;
+        }
+        end += length;
+    }
+    record.truncate(end);
+    record
+}
+
+impl Gateway {
+    fn fail(&mut self, hour: u32, lamp: u32) {
+        self.failed += 1;
+        self.add(&of_lamp(FAILURE, hour, lamp));
+    }
+
+    fn restock(&mut self, hour: u32, quantity: u16) {
+        self.stock = self.stock.saturating_add(quantity);
+        self.add(&restock(OWN, hour, quantity));
+    }
+
+    /// Whether there was a driver for the lamp.
+    fn serve(&mut self, hour: u32, lamp: u32) -> bool {
+        let served = self.stock > 0;
+        match served {
+            true => self.stock -= 1,
+            false => self.short += 1,
+        }
+        self.add(&of_lamp(REQUEST, hour, lamp));
+        served
+    }
+
+    fn fit(&mut self, hour: u32, lamp: u32) {
+        self.fitted += 1;
+        self.add(&of_lamp(DELIVERY, hour, lamp));
+    }
+
+    /// Adds an event's frame and the state after it.
+    fn add(&mut self, frame: &[u8]) {
+        self.record.extend(frame);
+        self.record.extend(self.stock.to_be_bytes());
+        for counter in [self.failed, self.fitted, self.short] {
+            self.record.extend(counter.to_be_bytes());
+        }
+    }
+}
+
+/// The frame of an event of a kind with a lamp.
+fn of_lamp(kind: u8, hour: u32, lamp: u32) -> Vec<u8> {
+    let lamp = format!("L{lamp:017}").into_bytes().try_into().expect("eighteen characters");
+    let mut frame = failure(OWN, hour, &lamp);
+    frame[1] = kind;
+    frame
+}
+
+#[cfg(test)]
+mod tests {
+    use super::*;
+    use host::record::{Kind, Records, KINDS};
+
+    #[test]
+    fn it_is_a_record_of_a_megabyte_with_all_kinds() {
+        let record = record();
+        assert!(record.len() <= MEGABYTE && record.len() > MEGABYTE - 41, "{}", record.len());
+        let kinds: Vec<Kind> =
+            Records::new(&record[..]).map(|event| event.unwrap().event.kind).collect();
+        for kind in KINDS {
+            let count = kinds.iter().filter(|&&other| other == kind).count();
+            assert!(count > 1_000, "{count} of {kind}");
+        }
+    }
+}

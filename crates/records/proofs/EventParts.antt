@@ -1,0 +1,212 @@
+-- Where in the bytes of an event that is taken its fields stand.
+use mathlib.Core.Path.{_≡_, refl, sym, _∙_, ap}
+use mathlib.Core.Bool.{true, cond}
+use mathlib.Core.List.{List, [], _∷_, _++_}
+use Prim.Native.Nat.{ℕ, zero, suc, _+_, _≤_, _<_}
+use native.Mathlib.Omega.{arith}
+use native.Mathlib.Decide.{ℕ-discrete, decLt}
+use lib.Dec.{leb, eqb}
+use lib.ListN.{length, drop, getD, length-take, length-drop}
+use lib.Seq.{take-at}
+use borrow.Author.Tests.{eq-eqb, ne-eqb, eqb-true, leb-true, lt-leb}
+use Rattle.lists.specs.Lists.{joined}
+use Rattle.lists.proofs.BoolLaws.{and-left, and-right}
+use Rattle.buffer.specs.Slice.{Bytes, part}
+use Rattle.buffer.specs.Number.{bytesOf}
+use Rattle.buffer.proofs.Lent.{bytes-take, bytes-part}
+use Rattle.buffer.proofs.Readings.{getD-part}
+use Rattle.buffer.proofs.Writes.{part-part, length-part}
+use Rattle.model.specs.Messages.{kindNumber, originOf, quantityOf}
+use Rattle.frame.specs.Layout.{standing, wholeLength}
+use Rattle.frame.specs.Kinds.{mapOfKind, mapOf, senseNumber}
+use Rattle.frame.specs.Writing.{contents, written}
+use Rattle.frame.specs.Limits.{refusalWhere}
+use Rattle.frame.specs.Reasons.{reading, formIn, formNumber}
+use Rattle.frame.specs.declared.Frame.{Frame}
+use Rattle.frame.specs.declared.Form.the-variants.{Good}
+use Rattle.frame.proofs.FormNumbers.{form-passed}
+use Rattle.frame.proofs.Laws.{one-to-one}
+use Rattle.frame.proofs.Sizes.{whole-some}
+use Rattle.memory.specs.Layout.{stateSize}
+use Rattle.memory.specs.Codec.{stateBytes}
+use Rattle.memory.proofs.FromBytes.{state-again}
+use Rattle.memory.proofs.RoundTrips.{byte-back}
+use Rattle.records.specs.Events.{mostGateways, latestHour, frameIn, stateIn, isEvent, frameRefusal, eventRefusal, eventOf}
+
+-- a number and one behind it come to 0 where both are
+both-zero : (n m : ℕ) → cond (eqb n 0) m n ≡ 0 → (n ≡ 0) × (m ≡ 0)
+both-zero n m = go (ℕ-discrete n 0)
+  where
+    go : Dec (n ≡ 0) → cond (eqb n 0) m n ≡ 0 → (n ≡ 0) × (m ≡ 0)
+    go (yes e) z = (e, rw (eq-eqb n 0 e) at z)
+    go (no d) z = absurd (d (rw (ne-eqb n 0 d) at z))
+
+-- what an event keeps to that is not refused
+pub record TakenEvent (s : List ℕ) : Type 0 where
+  pub form : reading (frameIn s) .form ≡ Good
+  pub sense : senseNumber (reading (frameIn s) .frame .sense) ≡ 0
+  pub kind : kindNumber (reading (frameIn s) .frame .message .kind) ≤ 3
+  pub limits : refusalWhere true (reading (frameIn s) .frame) mostGateways latestHour ≡ 0
+  pub state : stateSize ≤ length (stateIn s)
+
+pub event-taken : (s : List ℕ) → eventRefusal s ≡ 0 → TakenEvent s
+unfolding eventRefusal frameRefusal
+event-taken s z =
+    let r = reading (frameIn s) in
+    let outer = both-zero (frameRefusal r) (cond (leb stateSize (length (stateIn s))) 0 11) z in
+    let inner = both-zero (formNumber (formIn isEvent r)) (refusalWhere true (r .frame) mostGateways latestHour) (outer .0) in
+    let passed = form-passed isEvent r (eq-eqb (formNumber (formIn isEvent r)) 0 (inner .0)) in
+    let both = passed .1 in
+    record {
+      form = passed .0;
+      sense = eqb-true _ 0 (and-left _ (leb (kindNumber (r .frame .message .kind)) 3) both);
+      kind = leb-true (kindNumber (r .frame .message .kind)) 3 (and-right (eqb (senseNumber (r .frame .sense)) 0) _ both);
+      limits = inner .1;
+      state = enough (length (stateIn s)) (outer .1);
+    }
+  where
+    enough : (n : ℕ) → _≡_ {A = ℕ} (cond (leb stateSize n) 0 11) 0 → stateSize ≤ n
+    enough n = go (decLt n stateSize)
+      where
+        go : Dec (n < stateSize) → _≡_ {A = ℕ} (cond (leb stateSize n) 0 11) 0 → stateSize ≤ n
+        go (yes h) e = absurd (omega (arith, rw (lt-leb stateSize n h) at e))
+        go (no h) e = omega arith
+
+-- a Failure, Request or Delivery
+pub record LampParts (s : List ℕ) : Type 0 where
+  pub kind : getD s 1 0 ≤ 2
+  pub number : kindNumber (eventOf s .message .kind) ≡ getD s 1 0
+  pub whole : wholeLength (getD s 0 0) ≡ 27
+  pub long : 41 ≤ length s
+  pub hour : bytesOf 4 (eventOf s .message .hour) ≡ part s 4 4
+  pub origin : bytesOf 1 (originOf (eventOf s .message .kind)) ≡ part s 8 1
+  pub lamp : eventOf s .message .lamp ≡ part s 9 18
+  pub state : stateBytes (eventOf s .state) ≡ part s 27 14
+
+-- a Restock
+pub record RestockParts (s : List ℕ) : Type 0 where
+  pub kind : getD s 1 0 ≡ 3
+  pub number : kindNumber (eventOf s .message .kind) ≡ getD s 1 0
+  pub whole : wholeLength (getD s 0 0) ≡ 10
+  pub long : 24 ≤ length s
+  pub hour : bytesOf 4 (eventOf s .message .hour) ≡ part s 4 4
+  pub quantity : bytesOf 2 (quantityOf (eventOf s .message .kind)) ≡ part s 8 2
+  pub state : stateBytes (eventOf s .state) ≡ part s 10 14
+
+pub data Parts (s : List ℕ) : Type 0 where
+  withLamp : LampParts s → Parts s
+  restock : RestockParts s → Parts s
+
+-- the maps of the kinds without a sense
+pub plain-map : (f : Frame) → senseNumber (f .sense) ≡ 0 → mapOf f ≡ mapOfKind (kindNumber (f .message .kind))
+unfolding mapOf
+plain-map f e = rw e
+
+pub lamp-map : (kind : ℕ) → kind ≤ 2 → mapOfKind kind ≡ 63
+unfolding mapOfKind
+lamp-map zero h = refl
+lamp-map (suc zero) h = refl
+lamp-map (suc (suc zero)) h = refl
+lamp-map (suc (suc (suc kind))) h = absurd (omega arith)
+
+pub restock-map : (kind : ℕ) → kind ≡ 3 → mapOfKind kind ≡ 79
+unfolding mapOfKind
+restock-map kind e = rw e
+
+-- a frame's bytes by its map
+module _ (f : Frame) where
+  abbrev kindByte : List ℕ
+  kindByte = bytesOf 1 (kindNumber (f .message .kind))
+
+  abbrev gateways : List ℕ
+  gateways = bytesOf 1 (f .message .from) ++ bytesOf 1 (f .message .to)
+
+  pub lamp-written : mapOf f ≡ 63 → written f ≡ 63 ∷ (kindByte ++ (gateways ++ (bytesOf 4 (f .message .hour) ++ (bytesOf 1 (originOf (f .message .kind)) ++ (f .message .lamp ++ [])))))
+  unfolding written contents standing joined bytesOf
+  lamp-written e = rw e
+
+  pub restock-written : mapOf f ≡ 79 → written f ≡ 79 ∷ (kindByte ++ (gateways ++ (bytesOf 4 (f .message .hour) ++ bytesOf 2 (quantityOf (f .message .kind)))))
+  unfolding written contents standing joined bytesOf
+  restock-written e = rw e
+
+module _ (s : List ℕ) (bytes : Bytes s) (t : TakenEvent s) where
+  abbrev f : Frame
+  f = reading (frameIn s) .frame
+
+  same : written f ≡ frameIn s
+  same = one-to-one .readWritten (frameIn s) (bytes-take (wholeLength (getD s 0 0)) s bytes) (t .form)
+
+  first : getD (written f) 0 0 ≡ getD s 0 0
+  unfolding part
+  first = ap (λ (l : List ℕ). getD l 0 0) same ∙ getD-part s 0 (wholeLength (getD s 0 0)) 0 (whole-some (getD s 0 0))
+
+  -- a part of its frame
+  module _ {w : ℕ} (e : wholeLength (getD s 0 0) ≡ w) where
+    in-frame : (at n : ℕ) → at + n ≤ w → part (written f) at n ≡ part s at n
+    unfolding part
+    in-frame at n h =
+        let from : 0 + at ≡ at = omega arith in
+        ap (λ (l : List ℕ). part l at n) same ∙ part-part s 0 (wholeLength (getD s 0 0)) at n (rw e h) ∙ ap (λ (k : ℕ). part s k n) from
+
+    kind-there : 2 ≤ w → getD (written f) 1 0 ≡ getD s 1 0
+    unfolding part
+    kind-there h = ap (λ (l : List ℕ). getD l 1 0) same ∙ getD-part s 0 (wholeLength (getD s 0 0)) 1 (rw e h)
+
+    whole-event : w + 14 ≤ length s
+    unfolding part
+    whole-event = omega (arith, e, t .state, length-take 14 (drop (wholeLength (getD s 0 0)) s), length-drop (wholeLength (getD s 0 0)) s)
+
+    state-there : stateBytes (eventOf s .state) ≡ part s w 14
+    unfolding eventOf
+    state-there =
+        state-again (stateIn s) (length-part s (wholeLength (getD s 0 0)) 14 (rw e whole-event)) (bytes-part s (wholeLength (getD s 0 0)) 14 bytes) ∙ rw e
+
+  lamp-whole : length (f .message .lamp) ≡ 18
+  lamp-whole = one-to-one .readRanged (frameIn s) (bytes-take (wholeLength (getD s 0 0)) s bytes) (t .form) .lamp
+
+  kind-few : kindNumber (f .message .kind) < 256
+  kind-few = let k = t .kind in omega arith
+
+  lamp-parts : kindNumber (f .message .kind) ≤ 2 → LampParts s
+  unfolding eventOf part bytesOf wholeLength
+  lamp-parts k =
+      let is = lamp-written f (plain-map f (t .sense) ∙ lamp-map (kindNumber (f .message .kind)) k) in
+      let map : getD s 0 0 ≡ 63 = sym first ∙ ap (λ (l : List ℕ). getD l 0 0) is in
+      let whole : wholeLength (getD s 0 0) ≡ 27 = ap wholeLength map in
+      let number : kindNumber (f .message .kind) ≡ getD s 1 0 =
+      sym (byte-back (kindNumber (f .message .kind)) kind-few) ∙ sym (ap (λ (l : List ℕ). getD l 1 0) is) ∙ kind-there whole (omega arith) in
+      record {
+        kind = omega (arith, number);
+        number = number;
+        whole = whole;
+        long = whole-event whole;
+        hour = sym (ap (λ (l : List ℕ). part l 4 4) is) ∙ in-frame whole 4 4 (omega arith);
+        origin = sym (ap (λ (l : List ℕ). part l 8 1) is) ∙ in-frame whole 8 1 (omega arith);
+        lamp = sym (take-at (f .message .lamp) [] 18 lamp-whole) ∙ sym (ap (λ (l : List ℕ). part l 9 18) is) ∙ in-frame whole 9 18 (omega arith);
+        state = state-there whole;
+      }
+
+  restock-parts : kindNumber (f .message .kind) ≡ 3 → RestockParts s
+  unfolding eventOf part bytesOf wholeLength
+  restock-parts k =
+      let is = restock-written f (plain-map f (t .sense) ∙ restock-map (kindNumber (f .message .kind)) k) in
+      let map : getD s 0 0 ≡ 79 = sym first ∙ ap (λ (l : List ℕ). getD l 0 0) is in
+      let whole : wholeLength (getD s 0 0) ≡ 10 = ap wholeLength map in
+      let number : kindNumber (f .message .kind) ≡ getD s 1 0 =
+      sym (byte-back (kindNumber (f .message .kind)) kind-few) ∙ sym (ap (λ (l : List ℕ). getD l 1 0) is) ∙ kind-there whole (omega arith) in
+      record {
+        kind = sym number ∙ k;
+        number = number;
+        whole = whole;
+        long = whole-event whole;
+        hour = sym (ap (λ (l : List ℕ). part l 4 4) is) ∙ in-frame whole 4 4 (omega arith);
+        quantity = sym (ap (λ (l : List ℕ). part l 8 2) is) ∙ in-frame whole 8 2 (omega arith);
+        state = state-there whole;
+      }
+
+  pub parts : Parts s
+  parts = go (decLt (kindNumber (f .message .kind)) 3)
+    where
+      go : Dec (kindNumber (reading (frameIn s) .frame .message .kind) < 3) → Parts s
+      go (yes h) = withLamp (lamp-parts (omega arith))
+      go (no h) = restock (restock-parts (let k = t .kind in omega arith))

@@ -1,0 +1,7 @@
+-- Laws and proofs of reading a record.
+pub mod EventBranches
+pub mod EventParts
+pub mod EventEnds
+pub mod EventNumbers
+pub mod WrittenEvents
+pub mod GoodEvents

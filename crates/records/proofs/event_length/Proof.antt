@@ -1,0 +1,13 @@
+-- `records::event_length` meets its contract.
+use borrow.Author.Tests.{eq-eqb, ne-eqb}
+use Rattle.records.proofs.event_length.Statement.{statement}
+use Rattle.records.proofs.event_length.Tie as tie
+
+returns : tie.Need-returns
+returns c = rw (eq-eqb _ 3 (c .if1 .taken))
+
+returns-2 : tie.Need-returns-2
+returns-2 c = rw (ne-eqb _ 3 (c .if1 .left))
+
+pub event-length-spec : {M : Type 1} → statement M
+event-length-spec = tie.close (tie.spec returns returns-2)

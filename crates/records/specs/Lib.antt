@@ -1,0 +1,3 @@
+-- A record, read event by event.
+pub mod Events
+pub mod inside

@@ -1,0 +1,50 @@
+-- What the functions that read a record promise.
+use Prim.Native.Nat.{ℕ, _-_}
+use mathlib.Core.Bool.{Bool, cond, not, _&&_}
+use mathlib.Core.List.{List}
+use lib.Dec.{leb, eqb}
+use lib.ListN.{take, drop, getD}
+use Rattle.lists.specs.inside.Pieces.{pieceEnd}
+use Rattle.buffer.specs.Slice.{part}
+use Rattle.buffer.specs.Number.{numberOf}
+use Rattle.model.specs.Messages.{kindNumber, originOf, kindOf}
+use Rattle.model.specs.declared.Kind.{Kind}
+use Rattle.model.specs.declared.Kind.the-variants.{Restock}
+use Rattle.frame.specs.Writing.{allBetween, gatewaysAgree}
+use Rattle.records.specs.Events.{mostGateways, latestHour, eventLength, eventRefusal, eventOf}
+use Rattle.records.specs.declared.Found.{Found}
+
+-- the bytes of the event that begins at a position: as many as its map says, or all where there are fewer
+abbrev pub eventAt : List ℕ → ℕ → List ℕ
+eventAt bytes at = take (pieceEnd eventLength bytes at - at) (drop at bytes)
+
+-- the whole length of an event by its kind, 0 to 3
+abbrev pub lengthOfKind : ℕ → ℕ
+lengthOfKind kind = cond (eqb kind 3) 24 41
+
+-- the gateways agree, and their numbers are below 255
+unfoldable pub goodGateways : ℕ → ℕ → Kind → Bool
+goodGateways from to kind =
+    not (eqb from mostGateways) && (not (eqb to mostGateways) && (not (eqb (originOf kind) mostGateways) && gatewaysAgree from to kind))
+
+-- bytes that begin with a Failure, Request or Delivery that is good, told from the bytes at their places
+unfoldable pub goodWithLamp : List ℕ → Bool
+goodWithLamp s =
+    eqb (getD s 0 0) 63
+    && (leb (getD s 1 0) 2
+    && (goodGateways (getD s 2 0) (getD s 3 0) (kindOf (getD s 1 0) (getD s 8 0) 0)
+    && (leb (numberOf (part s 4 4)) latestHour && allBetween 33 126 (part s 9 18))))
+
+-- the same for a Restock
+unfoldable pub goodRestock : List ℕ → Bool
+goodRestock s =
+    eqb (getD s 0 0) 79
+    && (eqb (getD s 1 0) 3 && (goodGateways (getD s 2 0) (getD s 3 0) (Restock 0) && leb (numberOf (part s 4 4)) latestHour))
+
+-- what is found at a position: the refusal and no event, or 0, the event's kind and the position behind it
+unfoldable pub foundAt : List ℕ → ℕ → Found
+foundAt bytes at =
+    let s = eventAt bytes at in
+    cond (eqb (eventRefusal s) 0)
+    (record { number = 0; kind = kindNumber (eventOf s .message .kind); end = pieceEnd eventLength bytes at })
+    (record { number = eventRefusal s; kind = 0; end = at })

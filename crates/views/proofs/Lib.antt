@@ -1,0 +1,9 @@
+-- Laws and proofs of the views.
+pub mod ViewParts
+pub mod Measuring
+pub mod Writing
+pub mod ViewBranches
+pub mod ViewAnswers
+pub mod Telling
+pub mod SecrecyProved
+pub mod ViewTable

@@ -1,0 +1,337 @@
+-- What a reader gets of an event, as parts of the event's bytes.
+use mathlib.Core.Path.{_≡_, refl, sym, _∙_, ap}
+use mathlib.Core.Bool.{Bool, true, false, cond, not}
+use mathlib.Core.List.{List, [], _∷_, _++_, append-assoc, append-nil}
+use Prim.Native.Nat.{ℕ, zero, suc, _+_, _≤_, _<_}
+use native.Mathlib.Omega.{arith}
+use native.Mathlib.Decide.{ℕ-discrete}
+use lib.Dec.{eqb}
+use lib.ListN.{length, set, getD, length-append, length-set}
+use borrow.Author.Tests.{eq-eqb, ne-eqb}
+use Rattle.lists.specs.Lists.{joined}
+use Rattle.buffer.specs.Slice.{Bytes, part, write, Puts}
+use Rattle.buffer.specs.Number.{bytesOf}
+use Rattle.buffer.proofs.Copies.{copy-length}
+use Rattle.buffer.proofs.Putting.{puts-more, puts-length}
+use Rattle.frame.proofs.Output.{puts-as}
+use Rattle.buffer.proofs.Numbers.{one-byte}
+use Rattle.buffer.proofs.Standing.{part-add}
+use Rattle.buffer.proofs.Writes.{length-part, length-write, part-cons, part-nil, write-join, set-write, write-snoc}
+use Rattle.model.specs.Messages.{kindNumber, originOf, quantityOf}
+use Rattle.frame.specs.Kinds.{hasOrigin, hasLamp, hasQuantity}
+use Rattle.memory.specs.Codec.{stateBytes}
+use Rattle.records.specs.Events.{Event, eventRefusal, eventOf}
+use Rattle.records.proofs.EventParts.{LampParts, RestockParts, Parts, withLamp, restock, event-taken, parts}
+use Rattle.views.specs.Fields.{seen}
+use Rattle.views.specs.Bytes.{fieldBytes, placeBytes, viewMap, placesBytes, eventView}
+use Rattle.views.specs.inside.Parts.{lengthFor, viewLength, headOf, frontOf, stateFrom}
+use Rattle.views.specs.declared.Reader.{Reader}
+use Rattle.views.specs.declared.Reader.the-variants.{Purchasing, Maintenance}
+
+-- which fields a kind has: lamp and origin, or a quantity
+record HasFields (kind : ℕ) (own : Bool) : Type 0 where
+  lamp : hasLamp kind ≡ own
+  origin : hasOrigin kind ≡ own
+  quantity : hasQuantity kind ≡ not own
+
+restock-kind : (kind : ℕ) → kind ≡ 3 → HasFields kind false
+unfolding hasLamp hasOrigin hasQuantity
+restock-kind kind e = record { lamp = rw e; origin = rw e; quantity = rw e }
+
+lamp-kind : (kind : ℕ) → kind ≤ 2 → HasFields kind true
+unfolding hasLamp hasOrigin hasQuantity
+lamp-kind zero h = record { lamp = refl; origin = refl; quantity = refl }
+lamp-kind (suc zero) h = record { lamp = refl; origin = refl; quantity = refl }
+lamp-kind (suc (suc zero)) h = record { lamp = refl; origin = refl; quantity = refl }
+lamp-kind (suc (suc (suc kind))) h = absurd (omega arith)
+
+-- by values: each view's bytes
+module _ (e : Event) where
+  abbrev number : ℕ
+  number = kindNumber (e .message .kind)
+
+  purchasing-of-lamp : number ≤ 2 → eventView Purchasing e ≡ 123 ∷ (bytesOf 4 (e .message .hour) ++ (bytesOf 1 number ++ stateBytes (e .state)))
+  unfolding seen fieldBytes placeBytes viewMap placesBytes joined stateBytes
+  purchasing-of-lamp h = rw (lamp-kind number h .quantity, append-nil)
+
+  purchasing-of-restock : number ≡ 3 → eventView Purchasing e ≡ 127 ∷ (bytesOf 4 (e .message .hour) ++ (bytesOf 1 number ++ (bytesOf 2 (quantityOf
+      (e .message .kind)) ++ stateBytes (e .state))))
+  unfolding seen fieldBytes placeBytes viewMap placesBytes joined stateBytes
+  purchasing-of-restock h = rw (restock-kind number h .quantity, append-nil)
+
+  maintenance-of-lamp : number ≤ 2 → eventView Maintenance e ≡ 15 ∷ (bytesOf 4 (e .message .hour) ++ (bytesOf 1 number ++ (e .message .lamp
+      ++ bytesOf 1 (originOf (e .message .kind)))))
+  unfolding seen fieldBytes placeBytes viewMap placesBytes joined
+  maintenance-of-lamp h = rw (lamp-kind number h .lamp, lamp-kind number h .origin, append-nil)
+
+  maintenance-of-restock : number ≡ 3 → eventView Maintenance e ≡ 3 ∷ (bytesOf 4 (e .message .hour) ++ bytesOf 1 number)
+  unfolding seen fieldBytes placeBytes viewMap placesBytes joined
+  maintenance-of-restock h = rw (restock-kind number h .lamp, restock-kind number h .origin, append-nil)
+
+-- the front of a view, with what follows
+head-with : (map : ℕ) (s body : List ℕ) → headOf map s ++ body ≡ map ∷ (part s 4 4 ++ (getD s 1 0 ∷ body))
+head-with map s body = ap (_∷_ map) (append-assoc (part s 4 4) (getD s 1 0 ∷ []) body)
+
+pub length-head : (map : ℕ) (s : List ℕ) → 8 ≤ length s → length (headOf map s) ≡ 6
+length-head map s h = rw (length-append, length-part s 4 4 h)
+
+-- an event that is taken
+module _ (s : List ℕ) (b : Bytes s) (z : eventRefusal s ≡ 0) where
+  its-parts : Parts s
+  its-parts = parts s b (event-taken s z)
+
+  kind-few : getD s 1 0 < 256
+  kind-few = b 1
+
+  -- its kind's byte
+  kind-byte : kindNumber (eventOf s .message .kind) ≡ getD s 1 0 → bytesOf 1 (kindNumber (eventOf s .message .kind)) ≡ getD s 1 0 ∷ []
+  kind-byte e = rw e (one-byte (getD s 1 0) kind-few)
+
+  pub kind-inside : 1 < length s
+  kind-inside = by its-parts
+    where
+      by : Parts s → 1 < length s
+      by (withLamp p) = omega (arith, p .long)
+      by (restock p) = omega (arith, p .long)
+
+  -- a Restock
+  module _ (k : getD s 1 0 ≡ 3) where
+    is-restock : RestockParts s
+    is-restock = by its-parts
+      where
+        by : Parts s → RestockParts s
+        by (withLamp p) = absurd (omega (arith, p .kind, k))
+        by (restock p) = p
+
+    pub restock-long : 24 ≤ length s
+    restock-long = is-restock .long
+
+    pub purchasing-restock : eventView Purchasing (eventOf s) ≡ headOf 127 s ++ part s 8 16
+    purchasing-restock =
+        let p = is-restock in
+        purchasing-of-restock (eventOf s) (p .number ∙ k)
+        ∙ rw (p .hour, p .quantity, p .state, kind-byte (p .number), part-add s 8 2 14) (sym (head-with 127 s (part s 8 2 ++ part s 10 14)))
+
+    pub maintenance-restock : eventView Maintenance (eventOf s) ≡ headOf 3 s
+    maintenance-restock = let p = is-restock in maintenance-of-restock (eventOf s) (p .number ∙ k) ∙ rw (p .hour, kind-byte (p .number))
+
+  -- a Failure, Request or Delivery
+  module _ (k : getD s 1 0 ≡ 3 → ⊥) where
+    has-lamp : LampParts s
+    has-lamp = by its-parts
+      where
+        by : Parts s → LampParts s
+        by (withLamp p) = p
+        by (restock p) = absurd (k (p .kind))
+
+    pub lamp-long : 41 ≤ length s
+    lamp-long = has-lamp .long
+
+    few : kindNumber (eventOf s .message .kind) ≤ 2
+    few = omega (arith, has-lamp .number, has-lamp .kind)
+
+    pub purchasing-lamp : eventView Purchasing (eventOf s) ≡ headOf 123 s ++ part s 27 14
+    purchasing-lamp =
+        let p = has-lamp in
+        purchasing-of-lamp (eventOf s) few ∙ rw (p .hour, p .state, kind-byte (p .number)) (sym (head-with 123 s (part s 27 14)))
+
+    pub maintenance-lamp : eventView Maintenance (eventOf s) ≡ headOf 15 s ++ (part s 9 18 ++ (getD s 8 0 ∷ []))
+    maintenance-lamp =
+        let p = has-lamp in
+        let origin : bytesOf 1 (originOf (eventOf s .message .kind)) ≡ getD s 8 0 ∷ [] =
+        p .origin ∙ part-cons s 8 0 (omega (arith, p .long)) ∙ rw (part-nil s 9) in
+        maintenance-of-lamp (eventOf s) few
+        ∙ rw (p .hour, p .lamp, kind-byte (p .number), origin) (sym (head-with 15 s (part s 9 18 ++ (getD s 8 0 ∷ []))))
+
+  -- how long the view is
+  pub view-length : (reader : Reader) → lengthFor reader (kindNumber (eventOf s .message .kind)) ≡ viewLength reader s
+  view-length reader = by its-parts reader
+    where
+      by : Parts s → (reader : Reader) → lengthFor reader (kindNumber (eventOf s .message .kind)) ≡ viewLength reader s
+      by (withLamp p) Purchasing =
+          let k : getD s 1 0 ≡ 3 → ⊥ = λ e. omega (arith, p .kind) in
+          rw (p .number, ne-eqb (getD s 1 0) 3 k, purchasing-lamp k, length-append, length-head 123 s (omega (arith, p .long)), length-part s 27 14 (p .long))
+      by (withLamp p) Maintenance =
+          let k : getD s 1 0 ≡ 3 → ⊥ = λ e. omega (arith, p .kind) in
+          rw (
+            p .number,
+            ne-eqb (getD s 1 0) 3 k,
+            maintenance-lamp k,
+            length-append,
+            length-head 15 s (omega (arith, p .long)),
+            length-append,
+            length-part s 9 18 (omega (arith, p .long)),
+          )
+      by (restock p) Purchasing =
+          rw (
+            p .number,
+            p .kind,
+            purchasing-restock (p .kind),
+            length-append,
+            length-head 127 s (omega (arith, p .long)),
+            length-part s 8 16 (p .long),
+          )
+      by (restock p) Maintenance = rw (p .number, p .kind, maintenance-restock (p .kind), length-head 3 s (omega (arith, p .long)))
+
+  -- no longer than the event
+  pub view-shorter : (reader : Reader) → viewLength reader s ≤ length s
+  view-shorter reader = by its-parts reader (view-length reader)
+    where
+      by : Parts s → (reader : Reader) → lengthFor reader (kindNumber (eventOf s .message .kind)) ≡ viewLength reader s → viewLength reader s ≤ length s
+      by (withLamp p) Purchasing e = omega (arith, rw (p .number, ne-eqb (getD s 1 0) 3 (λ e. omega (arith, p .kind))) at e, p .long)
+      by (withLamp p) Maintenance e = omega (arith, rw (p .number, ne-eqb (getD s 1 0) 3 (λ e. omega (arith, p .kind))) at e, p .long)
+      by (restock p) Purchasing e = omega (arith, rw (p .number, p .kind) at e, p .long)
+      by (restock p) Maintenance e = omega (arith, rw (p .number, p .kind) at e, p .long)
+
+-- a view's front and its rest, put one behind the other
+module _ (at map : ℕ) (m s v body : List ℕ) {n : ℕ} (is : v ≡ headOf map s ++ body) (size : length body ≡ n) (long : 8 ≤ length s)
+    (room : at + length v ≤ length m)
+  where
+    length-view : length v ≡ 6 + n
+    length-view = ap length is ∙ rw (length-append, length-head map s long, size)
+
+    pub view-room : at + (6 + n) ≤ length m
+    view-room = omega (arith, length-view)
+
+    pub view-put : {one two : List ℕ} → one ≡ write at (headOf map s) m → two ≡ write (at + 6) body one → Puts at v m two (at + (6 + n))
+    view-put {one} {two} p q =
+        let six = length-head map s long in
+        let fits : at + length (headOf map s) ≤ length m = omega (arith, six, view-room) in
+        record {
+          position = omega (arith, length-view);
+          output =
+              q
+              ∙ rw (p, ← six) (write-join at (headOf map s) body m fits)
+              ∙ ap (λ (l : List ℕ). write at l m) (sym is);
+        }
+
+-- the front of a view put field by field
+module _ (at map : ℕ) (m s : List ℕ) (long : 8 ≤ length s) (room : at + 6 ≤ length m) where
+  hour-size : length (part s 4 4) ≡ 4
+  hour-size = length-part s 4 4 long
+
+  pub hour-room : at + 1 + 4 ≤ length (set m at map)
+  hour-room = rw (length-set m at map) (omega arith)
+
+  module _ {two : List ℕ} (p : two ≡ write (at + 1) (part s 4 4) (set m at map)) where
+    with-hour : two ≡ write at (map ∷ part s 4 4) m
+    with-hour = p ∙ rw (set-write m at map (omega arith)) (write-join at (map ∷ []) (part s 4 4) m (omega arith))
+
+    pub head-length : length two ≡ length m
+    head-length = ap length with-hour ∙ length-write at (map ∷ part s 4 4) m (rw hour-size (omega arith))
+
+    pub head-put : set two (at + 5) (getD s 1 0) ≡ write at (headOf map s) m
+    head-put =
+        rw with-hour
+        (write-snoc at (map ∷ part s 4 4) m (getD s 1 0) (at + 5) (rw hour-size (omega arith)) (rw hour-size (omega arith)))
+
+-- a view that is its front alone
+module _ (at map : ℕ) (m s v : List ℕ) (is : v ≡ headOf map s) (long : 8 ≤ length s) where
+  pub front-room : at + length v ≤ length m → at + 6 ≤ length m
+  front-room room = omega (arith, ap length is ∙ length-head map s long)
+
+  pub front-put : {one : List ℕ} → one ≡ write at (headOf map s) m → Puts at v m one (at + 6)
+  front-put p =
+      record { position = omega (arith, ap length is ∙ length-head map s long); output = p ∙ ap (λ (l : List ℕ). write at l m) (sym is) }
+
+-- purchasing's view: its front, and the state behind it
+module _ (s : List ℕ) (b : Bytes s) (z : eventRefusal s ≡ 0) where
+  pub state-inside : stateFrom s + 14 ≤ length s
+  unfolding stateFrom
+  state-inside = by (ℕ-discrete (getD s 1 0) 3)
+    where
+      by : Dec (getD s 1 0 ≡ 3) → cond (eqb (getD s 1 0) 3) 10 27 + 14 ≤ length s
+      by (yes k) = rw (eq-eqb (getD s 1 0) 3 k) (omega (arith, restock-long s b z k))
+      by (no k) = rw (ne-eqb (getD s 1 0) 3 k) (omega (arith, lamp-long s b z k))
+
+  pub front-and-state : eventView Purchasing (eventOf s) ≡ frontOf s ++ part s (stateFrom s) 14
+  unfolding frontOf stateFrom
+  front-and-state = by (ℕ-discrete (getD s 1 0) 3)
+    where
+      by : Dec (getD s 1 0 ≡ 3) → eventView Purchasing (eventOf s) ≡ cond (eqb (getD s 1 0) 3) (headOf 127 s ++ part s 8 2) (headOf 123 s) ++ part s
+          (cond (eqb (getD s 1 0) 3) 10 27) 14
+      by (yes k) =
+          purchasing-restock s b z k
+          ∙ rw (eq-eqb (getD s 1 0) 3 k, part-add s 8 2 14) (sym (append-assoc (headOf 127 s) (part s 8 2) (part s 10 14)))
+      by (no k) = purchasing-lamp s b z k ∙ rw (ne-eqb (getD s 1 0) 3 k)
+
+module _ (at : ℕ) (m s v : List ℕ) (is : v ≡ frontOf s ++ part s (stateFrom s) 14) (long : stateFrom s + 14 ≤ length s) (room : at + length v ≤ length m) where
+  length-all : length v ≡ length (frontOf s) + 14
+  length-all = ap length is ∙ rw (length-append, length-part s (stateFrom s) 14 long)
+
+  pub front-fits : at + length (frontOf s) ≤ length m
+  front-fits = omega (arith, length-all)
+
+  module _ {one : List ℕ} {position state : ℕ} (p : Puts at (frontOf s) m one position × (state ≡ stateFrom s)) where
+    pub state-fits : (position + 14 ≤ length one) × (state + 14 ≤ length s)
+    state-fits = (omega (arith, length-all, p .0 .position, puts-length front-fits (p .0)), rw (p .1) long)
+
+    pub purchasing-put : {two : List ℕ} → two ≡ write position (part s state 14) one → Puts at v m two (position + 14)
+    purchasing-put q =
+        let size = length-part s (stateFrom s) 14 long in
+        puts-as (puts-more front-fits (p .0) (record {
+          position = omega (arith, size);
+          output = q ∙ rw (p .1);
+        })) (sym is)
+
+-- its front, of a Restock and of any other
+module _ (at : ℕ) (m s : List ℕ) (room : at + length (frontOf s) ≤ length m) where
+  module _ (k : getD s 1 0 ≡ 3) (long : 24 ≤ length s) where
+    front-is : frontOf s ≡ headOf 127 s ++ part s 8 2
+    unfolding frontOf
+    front-is = rw (eq-eqb (getD s 1 0) 3 k)
+
+    pub restock-room : at + 8 ≤ length m
+    restock-room = view-room at 127 m s (frontOf s) (part s 8 2) front-is (length-part s 8 2 (omega arith)) (omega arith) room
+
+    module _ {one : List ℕ} (p : one ≡ write at (headOf 127 s) m) where
+      pub quantity-fits : at + 6 + 2 ≤ length one
+      quantity-fits =
+          let same = length-write at (headOf 127 s) m (omega (arith, length-head 127 s (omega arith), restock-room)) in
+          omega (arith, ap length p, same, restock-room)
+
+      pub restock-front : {two : List ℕ} → two ≡ write (at + 6) (part s 8 2) one → Puts at (frontOf s) m two (at + 8) × (10 ≡ stateFrom s)
+      unfolding stateFrom
+      restock-front q = (
+        view-put at 127 m s (frontOf s) (part s 8 2) front-is (length-part s 8 2 (omega arith)) (omega arith) room p q,
+        rw (eq-eqb (getD s 1 0) 3 k),
+      )
+
+  module _ (k : getD s 1 0 ≡ 3 → ⊥) (long : 41 ≤ length s) where
+    front-alone : frontOf s ≡ headOf 123 s
+    unfolding frontOf
+    front-alone = rw (ne-eqb (getD s 1 0) 3 k)
+
+    pub head-room : at + 6 ≤ length m
+    head-room = front-room at 123 m s (frontOf s) front-alone (omega arith) room
+
+    pub lamp-front : {one : List ℕ} → one ≡ write at (headOf 123 s) m → Puts at (frontOf s) m one (at + 6) × (27 ≡ stateFrom s)
+    unfolding stateFrom
+    lamp-front p = (front-put at 123 m s (frontOf s) front-alone (omega arith) p, rw (ne-eqb (getD s 1 0) 3 k))
+
+-- its front, the lamp and the origin
+module _ (at : ℕ) (m s v : List ℕ) (is : v ≡ headOf 15 s ++ (part s 9 18 ++ (getD s 8 0 ∷ []))) (long : 41 ≤ length s) (room : at + length v ≤ length m) where
+  lamp-size : length (part s 9 18) ≡ 18
+  lamp-size = length-part s 9 18 (omega arith)
+
+  body-size : length (part s 9 18 ++ (getD s 8 0 ∷ [])) ≡ 19
+  body-size = rw (length-append, lamp-size)
+
+  pub lamp-room : at + 25 ≤ length m
+  lamp-room = view-room at 15 m s v (part s 9 18 ++ (getD s 8 0 ∷ [])) is body-size (omega arith) room
+
+  module _ {one : List ℕ} (p : one ≡ write at (headOf 15 s) m) where
+    one-length : length one ≡ length m
+    one-length = ap length p ∙ length-write at (headOf 15 s) m (omega (arith, length-head 15 s (omega arith), lamp-room))
+
+    pub lamp-fits : at + 6 + 18 ≤ length one
+    lamp-fits = omega (arith, one-length, lamp-room)
+
+    module _ {two : List ℕ} (q : two ≡ write (at + 6) (part s 9 18) one) where
+      pub lamp-length : length two ≡ length m
+      lamp-length = copy-length s one (at + 6) 9 18 lamp-fits (omega arith) q ∙ one-length
+
+      pub lamp-put : Puts at v m (set two (at + 24) (getD s 8 0)) (at + 25)
+      lamp-put =
+          view-put at 15 m s v (part s 9 18 ++ (getD s 8 0 ∷ [])) is body-size (omega arith) room p
+          (rw q (write-snoc (at + 6) (part s 9 18) one (getD s 8 0) (at + 24) (rw (lamp-size, one-length) (omega (arith, lamp-room))) (rw lamp-size (omega arith))))

@@ -1,0 +1,153 @@
+-- Examples of the views, as one table: what each reader gets of a record, and what a record is refused with.
+use mathlib.Core.Path.{_≡_}
+use Prim.Native.Nat.{ℕ}
+use mathlib.Core.Bool.{false}
+use mathlib.Core.List.{List, [], _∷_, _++_}
+use lib.ListN.{take, getD, replicate}
+use Rattle.buffer.specs.Slice.{sameBytes}
+use Rattle.buffer.specs.Number.{bytesOf}
+use Rattle.records.specs.Events.{recordRefusal}
+use Rattle.views.specs.Fields as Fields
+use Rattle.views.specs.Fields.{holds, lacks}
+use Rattle.views.specs.Bytes.{view}
+use Rattle.views.specs.Viewing.{ViewResult, refusedView, viewed}
+use Rattle.views.specs.Secrecy.{fieldsSeen}
+use Rattle.views.specs.declared.Reader.the-variants.{Purchasing, Maintenance}
+
+-- the lamp ABCDEFGHIJKLMNOPQR, the lamp of eighteen zeros, and eighteen blanks, which are no lamp
+abbrev lamp : List ℕ
+lamp = 65 ∷ 66 ∷ 67 ∷ 68 ∷ 69 ∷ 70 ∷ 71 ∷ 72 ∷ 73 ∷ 74 ∷ 75 ∷ 76 ∷ 77 ∷ 78 ∷ 79 ∷ 80 ∷ 81 ∷ 82 ∷ []
+
+abbrev zeros : List ℕ
+zeros = replicate 18 48
+
+abbrev blanks : List ℕ
+blanks = replicate 18 32
+
+-- a plain frame of kinds 0 to 2: map, kind, from, to, hour, origin, lamp
+abbrev frame : (kind from to hour origin : ℕ) → (lamp : List ℕ) → List ℕ
+frame kind from to hour origin lamp = 63 ∷ kind ∷ from ∷ to ∷ (bytesOf 4 hour ++ (origin ∷ lamp))
+
+-- a Failure at gateway 3; a Request at hour 10 with origin 3; the same from 3 to 4 with a sense, behind the lamp
+abbrev failureFrame : (hour : ℕ) → (lamp : List ℕ) → List ℕ
+failureFrame hour lamp = frame 0 3 3 hour 3 lamp
+
+abbrev requestFrame : (from to : ℕ) → List ℕ
+requestFrame from to = frame 1 from to 10 3 lamp
+
+abbrev senseFrame : (sense : ℕ) → List ℕ
+senseFrame sense = 191 ∷ 1 ∷ 3 ∷ 4 ∷ (bytesOf 4 10 ++ (3 ∷ (lamp ++ (sense ∷ []))))
+
+-- a Restock of 300 at gateway 3 at hour 258: map, kind, from, to, hour, quantity
+abbrev restockFrame : List ℕ
+restockFrame = 79 ∷ 3 ∷ 3 ∷ 3 ∷ (bytesOf 4 258 ++ bytesOf 2 300)
+
+-- a state: stock, failed, fitted, short
+abbrev state : (stock failed fitted short : ℕ) → List ℕ
+state stock failed fitted short = bytesOf 2 stock ++ (bytesOf 4 failed ++ (bytesOf 4 fitted ++ bytesOf 4 short))
+
+-- an event: a frame, and the state after it; one whose state is cut by a byte
+abbrev event : (frame : List ℕ) → List ℕ
+event frame = frame ++ state 1 2 3 4
+
+abbrev cutEvent : (frame : List ℕ) → List ℕ
+cutEvent frame = frame ++ take 13 (state 1 2 3 4)
+
+-- the Failure at hour 10, the Restock, and a record of both
+abbrev failure : List ℕ
+failure = event (failureFrame 10 lamp)
+
+abbrev restock : List ℕ
+restock = restockFrame ++ state 301 2 3 4
+
+abbrev both : List ℕ
+both = failure ++ restock
+
+-- the Failure with another stock and short after it; two Requests that differ in from, to, origin and lamp
+abbrev otherFailure : List ℕ
+otherFailure = failureFrame 10 lamp ++ state 5 2 3 8
+
+abbrev request : List ℕ
+request = event (requestFrame 3 4)
+
+abbrev otherRequest : List ℕ
+otherRequest = event (frame 1 5 6 10 7 zeros)
+
+-- what purchasing gets of the Failure and of the Restock, 20 and 22 bytes: map, hour, kind, quantity, stock, failed, fitted, short
+abbrev failureForPurchasing : List ℕ
+failureForPurchasing = 123 ∷ 0 ∷ 0 ∷ 0 ∷ 10 ∷ 0 ∷ 0 ∷ 1 ∷ 0 ∷ 0 ∷ 0 ∷ 2 ∷ 0 ∷ 0 ∷ 0 ∷ 3 ∷ 0 ∷ 0 ∷ 0 ∷ 4 ∷ []
+
+abbrev restockForPurchasing : List ℕ
+restockForPurchasing = 127 ∷ 0 ∷ 0 ∷ 1 ∷ 2 ∷ 3 ∷ 1 ∷ 44 ∷ 1 ∷ 45 ∷ 0 ∷ 0 ∷ 0 ∷ 2 ∷ 0 ∷ 0 ∷ 0 ∷ 3 ∷ 0 ∷ 0 ∷ 0 ∷ 4 ∷ []
+
+-- what maintenance gets of them, 25 and 6 bytes: map, hour, kind, lamp, origin
+abbrev failureForMaintenance : List ℕ
+failureForMaintenance = 15 ∷ 0 ∷ 0 ∷ 0 ∷ 10 ∷ 0 ∷ (lamp ++ (3 ∷ []))
+
+abbrev restockForMaintenance : List ℕ
+restockForMaintenance = 3 ∷ 0 ∷ 0 ∷ 1 ∷ 2 ∷ 3 ∷ []
+
+-- an output of so many bytes, each 9
+abbrev room : ℕ → List ℕ
+room n = replicate n 9
+
+-- the call wrote so many bytes, and that is its output
+abbrev wrote : ℕ → List ℕ → ViewResult
+wrote count output = record { answer = record { number = 0; written = count }; output = output }
+
+pub record ViewExamples : Type 0 where
+  -- an empty record: an empty view
+  pub empty : (viewed 0 [] (room 1) ≡ wrote 0 (9 ∷ [])) × (viewed 1 [] [] ≡ wrote 0 [])
+  -- a Failure, for purchasing: the quantity is left out; the two bytes past the 20 are as they were
+  pub purchasingFailure : viewed 0 failure (room 22) ≡ wrote 20 (failureForPurchasing ++ (9 ∷ 9 ∷ []))
+  -- the same for maintenance: lamp and origin, and nothing of the state; the byte past the 25 is as it was
+  pub maintenanceFailure : viewed 1 failure (room 26) ≡ wrote 25 (failureForMaintenance ++ (9 ∷ []))
+  -- a Restock: purchasing gets its quantity too, maintenance hour and kind alone, since a Restock has no lamp and no origin
+  pub restockViews : (viewed 0 restock (room 23) ≡ wrote 22 (restockForPurchasing ++ (9 ∷ [])))
+      × (viewed 1 restock (room 8) ≡ wrote 6 (restockForMaintenance ++ (9 ∷ 9 ∷ [])))
+  -- the fields of the Restock that each of them sees, as values; a field that it lacks has its place
+  pub restockFields : (fieldsSeen Purchasing restock ≡ (holds (Fields.hour 258) ∷ holds (Fields.kind 3) ∷ holds (Fields.quantity 300)
+      ∷ holds (Fields.stock 301) ∷ holds (Fields.failed 2) ∷ holds (Fields.fitted 3) ∷ holds (Fields.short 4) ∷ []) ∷ [])
+      × (fieldsSeen Maintenance restock ≡ (holds (Fields.hour 258) ∷ holds (Fields.kind 3) ∷ lacks ∷ lacks ∷ []) ∷ [])
+  -- the kind, behind map and hour, is its number, not its rank within an hour: a Request's is 1, a Delivery's 2, a Restock's 3
+  pub kindNumbers : (getD (view Purchasing request) 5 0 ≡ 1) × (getD (view Purchasing (event (frame 2 4 3 10 3 lamp))) 5 0 ≡ 2)
+      × (getD (view Purchasing restock) 5 0 ≡ 3)
+  -- two events, and room for exactly both views
+  pub exactRoom : (viewed 0 both (room 42) ≡ wrote 42 (failureForPurchasing ++ restockForPurchasing))
+      × (viewed 1 both (room 31) ≡ wrote 31 (failureForMaintenance ++ restockForMaintenance))
+  -- one byte less is 5, and nothing is written, not even the view of the first event
+  pub noRoom : (viewed 0 both (room 41) ≡ refusedView 5 (room 41)) × (viewed 1 both (room 30) ≡ refusedView 5 (room 30))
+  -- room comes last: no room for the first event's view, but the second event has a bad lamp, 12, or is cut, 11
+  pub roomLast : (viewed 0 (failure ++ event (failureFrame 10 blanks)) (room 3) ≡ refusedView 12 (room 3))
+      × (viewed 1 (failure ++ cutEvent (failureFrame 10 lamp)) [] ≡ refusedView 11 [])
+  -- a cut state is 11, where its last byte is missing and where all are
+  pub cutState : (viewed 1 (cutEvent (failureFrame 10 lamp)) (room 26) ≡ refusedView 11 (room 26)) × (recordRefusal (failureFrame 10 lamp) ≡ 11)
+  -- but its frame's refusals come first: a bad lamp, gateway 255, hour 4,294,967,295
+  pub frameFirst : (recordRefusal (cutEvent (failureFrame 10 blanks)) ≡ 12) × (recordRefusal (cutEvent (requestFrame 255 4)) ≡ 2)
+      × (recordRefusal (cutEvent (failureFrame 4294967295 lamp)) ≡ 3)
+  -- the first event that is refused decides: its 3 before the second's 11, its 12 before the second's 2
+  pub inTurn : (recordRefusal (event (failureFrame 4294967295 lamp) ++ cutEvent (failureFrame 10 lamp)) ≡ 3)
+      × (recordRefusal (event (failureFrame 10 blanks) ++ event (requestFrame 255 4)) ≡ 12)
+  -- gateway 254 is taken, 255 is 2, as from, as to and as origin
+  pub numbers : (recordRefusal (event (frame 1 254 254 10 254 lamp)) ≡ 0) × (recordRefusal (event (requestFrame 255 4)) ≡ 2)
+      × (recordRefusal (event (requestFrame 3 255)) ≡ 2) × (recordRefusal (event (frame 1 3 4 10 255 lamp)) ≡ 2)
+  -- any addressee: two events that are addressed to different gateways are taken
+  pub addressees : recordRefusal (request ++ event (requestFrame 3 5)) ≡ 0
+  -- hour 4,294,967,294 is taken and written in all its bytes, the next hour is 3
+  pub lastHour : (take 5 (view Purchasing (event (failureFrame 4294967294 lamp))) ≡ 123 ∷ 255 ∷ 255 ∷ 255 ∷ 254 ∷ [])
+      × (recordRefusal (event (failureFrame 4294967294 lamp)) ≡ 0) × (recordRefusal (event (failureFrame 4294967295 lamp)) ≡ 3)
+  -- any other form than a plain message of kinds 0 to 3 is 1: a cancel, an acknowledgment, a Start
+  pub otherForms : (recordRefusal (event (senseFrame 1)) ≡ 1) × (recordRefusal (event (senseFrame 2)) ≡ 1)
+      × (recordRefusal (event (7 ∷ 4 ∷ 3 ∷ 4 ∷ [])) ≡ 1)
+  -- 11: a cut frame; one byte, alone and behind an event; a map of 0, whose frame is that one byte
+  pub lengths : (recordRefusal (take 26 failure) ≡ 11) × (recordRefusal (63 ∷ []) ≡ 11) × (recordRefusal (failure ++ (63 ∷ [])) ≡ 11)
+      × (recordRefusal (0 ∷ failure) ≡ 11)
+  -- there is no reader 2: 8, also where there is no room, and where the record would be refused too
+  pub noReader : (viewed 2 failure (room 26) ≡ refusedView 8 (room 26)) × (viewed 2 failure (room 3) ≡ refusedView 8 (room 3))
+      × (viewed 2 (63 ∷ []) [] ≡ refusedView 8 [])
+  -- the two Requests give purchasing equal bytes, and maintenance different ones
+  pub purchasingAlike : (view Purchasing request ≡ view Purchasing otherRequest)
+      × (sameBytes (view Maintenance request) (view Maintenance otherRequest) ≡ false)
+  -- the Failure and the one with another stock and short after it give maintenance equal bytes, and purchasing different ones
+  pub maintenanceAlike : (view Maintenance failure ≡ view Maintenance otherFailure)
+      × (sameBytes (view Purchasing failure) (view Purchasing otherFailure) ≡ false)

@@ -1,0 +1,42 @@
+-- What the functions that measure and write a view promise.
+use Prim.Native.Nat.{ℕ}
+use mathlib.Core.Bool.{cond}
+use mathlib.Core.List.{List, [], _∷_, _++_}
+use lib.Dec.{eqb}
+use lib.ListN.{length, getD}
+use Rattle.lists.specs.Lists.{beforeFirst, tally}
+use Rattle.lists.specs.inside.Pieces.{isRefused}
+use Rattle.buffer.specs.Slice.{part}
+use Rattle.records.specs.Events.{cutEvents, eventRefusal, recordRefusal, eventOf}
+use Rattle.views.specs.Bytes.{eventView}
+use Rattle.views.specs.declared.Reader.{Reader}
+use Rattle.views.specs.declared.Reader.the-variants.{Purchasing, Maintenance}
+use Rattle.views.specs.declared.Measured.{Measured}
+
+-- the bytes that a view has of an event of that kind
+abbrev pub lengthFor : Reader → ℕ → ℕ
+lengthFor Purchasing kind = cond (eqb kind 3) 22 20
+lengthFor Maintenance kind = cond (eqb kind 3) 6 25
+
+-- the bytes that a view has of an event
+abbrev pub viewLength : Reader → List ℕ → ℕ
+viewLength reader s = length (eventView reader (eventOf s))
+
+-- what the pass over a record finds: the first refusal, or 0, and the bytes of the view of the events before it or of all
+abbrev pub measuredAs : Reader → List ℕ → Measured
+measuredAs reader bytes = record {
+  number = recordRefusal bytes;
+  length = tally (viewLength reader) (beforeFirst (isRefused eventRefusal) (cutEvents bytes));
+}
+
+-- what every view begins with: its map, the hour and the kind, as they stand in an event's bytes
+abbrev pub headOf : ℕ → List ℕ → List ℕ
+headOf map s = map ∷ (part s 4 4 ++ (getD s 1 0 ∷ []))
+
+-- what purchasing gets of an event before its state: map, hour, kind, and of a Restock the quantity
+unfoldable pub frontOf : List ℕ → List ℕ
+frontOf s = cond (eqb (getD s 1 0) 3) (headOf 127 s ++ part s 8 2) (headOf 123 s)
+
+-- where the state stands in an event's bytes
+unfoldable pub stateFrom : List ℕ → ℕ
+stateFrom s = cond (eqb (getD s 1 0) 3) 10 27

@@ -1,0 +1,247 @@
+// The views of a record: each reader gets the fields that it is to see of each event, by a map of the view's own, and nothing else.
+// One pass checks the record and measures the view, one writes it.
+use buffer::copy_four;
+use buffer::copy_two;
+use memory::STATE_SIZE;
+use records::event_at;
+use records::event_length;
+ghost use mathlib.Core.Path.{_≡_};
+ghost use Prim.Native.Nat.{_+_, _≤_};
+ghost use lib.ListN.{length};
+ghost use Rattle.buffer.specs.Slice.{part, write, Puts};
+ghost use Rattle.records.specs.Events.{recordRefusal, eventRefusal, eventOf};
+ghost use Rattle.views.specs.Bytes as Bytes;
+ghost use Rattle.views.specs.Bytes.{eventView};
+ghost use Rattle.views.specs.Viewing as Viewing;
+ghost use Rattle.views.specs.Viewing.{viewFor, viewed};
+ghost use Rattle.views.specs.declared.Reader.the-variants.{Purchasing, Maintenance};
+ghost use Rattle.views.specs.inside.Parts.{lengthFor, measuredAs, headOf, frontOf, stateFrom};
+
+// Who reads a record.
+pub enum Reader {
+    Purchasing,
+    Maintenance,
+}
+
+// What a view's call answers: 0 and the bytes written, or what it is refused with.
+pub struct ViewAnswer {
+    pub number: u8,
+    pub written: usize,
+}
+
+// What the pass over a record finds: the first refusal, or 0, and the bytes of the view up to it or in all.
+pub struct Measured {
+    pub number: u8,
+    pub length: usize,
+}
+
+// What putting a view's front gives: the position behind it, and where the state stands in the event.
+pub struct Front {
+    pub position: usize,
+    pub state: usize,
+}
+
+// A record of so many bytes or more is refused.
+const RECORD_LIMIT: usize = 281474976710656;
+
+// The maps of each reader, of a Failure, Request or Delivery and of a Restock: a bit for each field that the reader sees and the kind has.
+const PURCHASING_MAP: u8 = 123;
+
+const PURCHASING_RESTOCK_MAP: u8 = 127;
+
+const MAINTENANCE_MAP: u8 = 15;
+
+const MAINTENANCE_RESTOCK_MAP: u8 = 3;
+
+// Where fields stand in an event of the record: its hour; of a Failure, Request or Delivery the origin, the lamp and the state; of a
+// Restock the quantity and the state.
+const HOUR: usize = 4;
+
+const ORIGIN: usize = 8;
+
+const LAMP: usize = 9;
+
+const LAMP_STATE: usize = 27;
+
+const QUANTITY: usize = 8;
+
+const RESTOCK_STATE: usize = 10;
+
+// The view of a record for a reader, by its number.
+pub fn view(bytes: &[u8], output: &mut [u8], reader: u32) -> ViewAnswer
+    ensures { λ r. ⌜ record { answer = r; output = now (output .exit) } ≡ viewed reader (now (bytes .entry)) (now (output .entry)) ⌝ }
+{
+    if reader >= 2 {
+        return refused(8);
+    }
+    if bytes.len() >= RECORD_LIMIT {
+        return refused(8);
+    }
+    view_for(bytes, output, reader_of(reader))
+}
+
+fn reader_of(number: u32) -> Reader
+    ensures { λ r. ⌜ r ≡ Viewing.readerOf number ⌝ }
+{
+    if number == 0 {
+        return Reader::Purchasing;
+    }
+    Reader::Maintenance
+}
+
+fn refused(number: u8) -> ViewAnswer
+    ensures { λ r. ⌜ r ≡ record { number = number; written = 0 } ⌝ }
+{
+    ViewAnswer { number, written: 0 }
+}
+
+// The refusals of the record come first, event by event, and 5 last.
+fn view_for(bytes: &[u8], output: &mut [u8], reader: Reader) -> ViewAnswer
+    ensures { λ r. ⌜ record { answer = r; output = now (output .exit) } ≡ viewFor reader (now (bytes .entry)) (now (output .entry)) ⌝ }
+{
+    let measured = measure(bytes, reader);
+    if measured.number != 0 {
+        return refused(measured.number);
+    }
+    if output.len() < measured.length {
+        return refused(5);
+    }
+    write_view(bytes, output, reader);
+    ViewAnswer {
+        number: 0,
+        written: measured.length,
+    }
+}
+
+// One pass over the record: its first refusal, and the length of the view.
+fn measure(bytes: &[u8], reader: Reader) -> Measured
+    ensures { λ r. ⌜ r ≡ measuredAs reader (now (bytes .entry)) ⌝ }
+{
+    let mut length = 0;
+    let mut at = 0;
+    while at < bytes.len() {
+        let found = event_at(bytes, at);
+        if found.number != 0 {
+            return Measured {
+                number: found.number,
+                length,
+            };
+        }
+        length += length_for(reader, found.kind);
+        at = found.end;
+    }
+    Measured { number: 0, length }
+}
+
+// The bytes that a view has of an event of that kind.
+fn length_for(reader: Reader, kind: u8) -> usize
+    ensures { λ r. ⌜ r ≡ lengthFor reader kind ⌝ }
+{
+    match reader {
+        Reader::Purchasing => { if kind == 3 { 22 } else { 20 } }
+        Reader::Maintenance => { if kind == 3 { 6 } else { 25 } }
+    }
+}
+
+// Writes the view of a record that is taken.
+fn write_view(bytes: &[u8], output: &mut [u8], reader: Reader)
+    requires { ⌜ (recordRefusal (now bytes) ≡ 0) × (length (Bytes.view reader (now bytes)) ≤ length (now output)) ⌝ }
+    ensures { λ _. ⌜ now (output .exit) ≡ write 0 (Bytes.view reader (now (bytes .entry))) (now (output .entry)) ⌝ }
+{
+    let mut at = 0;
+    let mut position = 0;
+    while at < bytes.len() {
+        let end = at + event_length(bytes[at + 1]);
+        position = put_event(output, position, &bytes[at..end], reader);
+        at = end;
+    }
+}
+
+// Puts what the reader gets of an event from a position on, and gives the position behind it.
+fn put_event(output: &mut [u8], at: usize, event: &[u8], reader: Reader) -> usize
+    requires { ⌜ (eventRefusal (now event) ≡ 0) × (at + length (eventView reader (eventOf (now event))) ≤ length (now output)) ⌝ }
+    ensures { λ r. ⌜ Puts at (eventView reader (eventOf (now (event .entry)))) (now (output .entry)) (now (output .exit)) r ⌝ }
+{
+    match reader {
+        Reader::Purchasing => put_for_purchasing(output, at, event),
+        Reader::Maintenance => put_for_maintenance(output, at, event),
+    }
+}
+
+// Hour, kind, quantity and the state.
+fn put_for_purchasing(output: &mut [u8], at: usize, event: &[u8]) -> usize
+    requires { ⌜ (eventRefusal (now event) ≡ 0) × (at + length (eventView Purchasing (eventOf (now event))) ≤ length (now output)) ⌝ }
+    ensures { λ r. ⌜ Puts at (eventView Purchasing (eventOf (now (event .entry)))) (now (output .entry)) (now (output .exit)) r ⌝ }
+{
+    let front = put_front(output, at, event);
+    copy_state(output, front.position, event, front.state);
+    front.position + STATE_SIZE
+}
+
+// What stands before the state: map, hour, kind and the quantity of a Restock.
+fn put_front(output: &mut [u8], at: usize, event: &[u8]) -> Front
+    requires { ⌜ (eventRefusal (now event) ≡ 0) × (at + length (frontOf (now event)) ≤ length (now output)) ⌝ }
+    ensures { λ r. ⌜ Puts at (frontOf (now (event .entry))) (now (output .entry)) (now (output .exit)) (r .position) × (r .state ≡ stateFrom (now (event .entry))) ⌝ }
+{
+    if event[1] == 3 {
+        put_head(output, at, PURCHASING_RESTOCK_MAP, event);
+        copy_two(output, at + 6, event, QUANTITY);
+        return Front {
+            position: at + 8,
+            state: RESTOCK_STATE,
+        };
+    }
+    put_head(output, at, PURCHASING_MAP, event);
+    Front {
+        position: at + 6,
+        state: LAMP_STATE,
+    }
+}
+
+// Hour, kind, lamp and origin.
+fn put_for_maintenance(output: &mut [u8], at: usize, event: &[u8]) -> usize
+    requires { ⌜ (eventRefusal (now event) ≡ 0) × (at + length (eventView Maintenance (eventOf (now event))) ≤ length (now output)) ⌝ }
+    ensures { λ r. ⌜ Puts at (eventView Maintenance (eventOf (now (event .entry)))) (now (output .entry)) (now (output .exit)) r ⌝ }
+{
+    if event[1] == 3 {
+        put_head(output, at, MAINTENANCE_RESTOCK_MAP, event);
+        return at + 6;
+    }
+    put_head(output, at, MAINTENANCE_MAP, event);
+    copy_lamp(output, at + 6, event);
+    output[at + 24] = event[ORIGIN];
+    at + 25
+}
+
+// What every view begins with: its map, the hour and the kind.
+fn put_head(output: &mut [u8], at: usize, map: u8, event: &[u8])
+    requires { ⌜ (8 ≤ length (now event)) × (at + 6 ≤ length (now output)) ⌝ }
+    ensures { λ _. ⌜ now (output .exit) ≡ write at (headOf map (now (event .entry))) (now (output .entry)) ⌝ }
+{
+    output[at] = map;
+    copy_four(output, at + 1, event, HOUR);
+    output[at + 5] = event[1];
+}
+
+// Copies the fourteen bytes of a state.
+fn copy_state(output: &mut [u8], at: usize, event: &[u8], from: usize)
+    requires { ⌜ (at + 14 ≤ length (now output)) × (from + 14 ≤ length (now event)) ⌝ }
+    ensures { λ _. ⌜ now (output .exit) ≡ write at (part (now (event .entry)) from 14) (now (output .entry)) ⌝ }
+{
+    copy_two(output, at, event, from);
+    copy_four(output, at + 2, event, from + 2);
+    copy_four(output, at + 6, event, from + 6);
+    copy_four(output, at + 10, event, from + 10);
+}
+
+// Copies the eighteen bytes of the lamp.
+fn copy_lamp(output: &mut [u8], at: usize, event: &[u8])
+    requires { ⌜ (at + 18 ≤ length (now output)) × (27 ≤ length (now event)) ⌝ }
+    ensures { λ _. ⌜ now (output .exit) ≡ write at (part (now (event .entry)) 9 18) (now (output .entry)) ⌝ }
+{
+    copy_four(output, at, event, LAMP);
+    copy_four(output, at + 4, event, LAMP + 4);
+    copy_four(output, at + 8, event, LAMP + 8);
+    copy_four(output, at + 12, event, LAMP + 12);
+    copy_two(output, at + 16, event, LAMP + 16);
+}
