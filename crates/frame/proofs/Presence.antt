@@ -1,8 +1,8 @@
 -- Which fields the table of kinds gives a kind.
 use mathlib.Core.Path.{_≡_, refl, sym}
-use Prim.Native.Nat.{ℕ, zero, suc, _+_, _/_, _<_}
+use Prim.Native.Nat.{ℕ, zero, suc, _+_, _/_, _≤_, _<_}
 use native.Mathlib.Omega.{arith}
-use mathlib.Core.Bool.{Bool, true, false, cond}
+use mathlib.Core.Bool.{Bool, true, false, cond, not}
 use lib.Dec.{leb}
 use lib.ListN.{List·getD-eq-default}
 use borrow.Author.Tests.{lt-leb}
@@ -42,6 +42,25 @@ lamp-kinds (suc (suc (suc (suc zero)))) = refl
 lamp-kinds (suc (suc (suc (suc (suc zero))))) = refl
 lamp-kinds (suc (suc (suc (suc (suc (suc zero)))))) = refl
 lamp-kinds (suc (suc (suc (suc (suc (suc (suc kind))))))) = sym (lt-leb (suc (suc (suc (suc (suc (suc (suc kind))))))) 2 (omega arith))
+
+-- what the table gives the kinds of events: all an hour, and lamp and origin or a quantity
+pub record EventFields (kind its-map : ℕ) (own : Bool) : Type 0 where
+  pub map : mapOfKind kind ≡ its-map
+  pub hour : hasHour kind ≡ true
+  pub lamp : hasLamp kind ≡ own
+  pub origin : hasOrigin kind ≡ own
+  pub quantity : hasQuantity kind ≡ not own
+
+pub lamp-fields : (kind : ℕ) → kind ≤ 2 → EventFields kind 63 true
+unfolding mapOfKind hasHour hasLamp hasOrigin hasQuantity
+lamp-fields zero h = record { map = refl; hour = refl; lamp = refl; origin = refl; quantity = refl }
+lamp-fields (suc zero) h = record { map = refl; hour = refl; lamp = refl; origin = refl; quantity = refl }
+lamp-fields (suc (suc zero)) h = record { map = refl; hour = refl; lamp = refl; origin = refl; quantity = refl }
+lamp-fields (suc (suc (suc kind))) h = absurd (omega arith)
+
+pub restock-fields : (kind : ℕ) → kind ≡ 3 → EventFields kind 79 false
+unfolding mapOfKind hasHour hasLamp hasOrigin hasQuantity
+restock-fields kind e = record { map = rw e; hour = rw e; lamp = rw e; origin = rw e; quantity = rw e }
 
 -- an hour stands in the map of a kind
 pub hour-stands : (kind : ℕ) {map : ℕ} → mapOfKind kind ≡ map → odd (map / 8) ≡ true → hasHour kind ≡ true

@@ -20,24 +20,24 @@ drop-past zero (x ∷ s) h = absurd (omega arith)
 drop-past (suc n) [] h = refl
 drop-past (suc n) (x ∷ s) h = drop-past n s (omega arith)
 
+-- a number and the one behind it come to 0 where both are 0
+pub both-zero : (n m : ℕ) → cond (eqb n 0) m n ≡ 0 → (n ≡ 0) × (m ≡ 0)
+both-zero n m = go (ℕ-discrete n 0)
+  where
+    go : Dec (n ≡ 0) → cond (eqb n 0) m n ≡ 0 → (n ≡ 0) × (m ≡ 0)
+    go (yes e) z = (e, rw (eq-eqb n 0 e) at z)
+    go (no d) z = absurd (d (rw (ne-eqb n 0 d) at z))
+
 -- where no number is given other than 0
 module _ {A : Type 0} (f : A → ℕ) where
-  pub first-none : (xs : List A) → firstNumber f xs ≡ 0 → (x : A) → x ∈ xs → f x ≡ 0
-  unfolding firstNumber
-  first-none [] z x m = absurd (List·Memᴰ·not-nil m)
-  first-none (y ∷ ys) z x m = go (ℕ-discrete (f y) 0) (λ k. first-none ys k x)
-    where
-      go : Dec (f y ≡ 0) → (firstNumber f ys ≡ 0 → x ∈ ys → f x ≡ 0) → f x ≡ 0
-      go (yes e) rest = ⊎-elim (λ (d : x ≡ y). ap f d ∙ e) (rest (rw (eq-eqb (f y) 0 e) at z)) (List·Memᴰ·cases-cons m)
-      go (no d) rest = absurd (d (rw (ne-eqb (f y) 0 d) at z))
-
   pub first-cons : (x : A) (xs : List A) → firstNumber f (x ∷ xs) ≡ 0 → (f x ≡ 0) × (firstNumber f xs ≡ 0)
   unfolding firstNumber
-  first-cons x xs z = go (ℕ-discrete (f x) 0)
-    where
-      go : Dec (f x ≡ 0) → (f x ≡ 0) × (firstNumber f xs ≡ 0)
-      go (yes e) = (e, rw (eq-eqb (f x) 0 e) at z)
-      go (no d) = absurd (d (rw (ne-eqb (f x) 0 d) at z))
+  first-cons x xs z = both-zero (f x) (firstNumber f xs) z
+
+  pub first-none : (xs : List A) → firstNumber f xs ≡ 0 → (x : A) → x ∈ xs → f x ≡ 0
+  first-none [] z x m = absurd (List·Memᴰ·not-nil m)
+  first-none (y ∷ ys) z x m =
+      let (here, rest) = first-cons y ys z in ⊎-elim (λ (d : x ≡ y). ap f d ∙ here) (first-none ys rest x) (List·Memᴰ·cases-cons m)
 
   pub first-below : (bound : ℕ) → 0 < bound → ((x : A) → f x < bound) → (xs : List A) → firstNumber f xs < bound
   unfolding firstNumber
@@ -54,13 +54,9 @@ module _ {A : Type 0} (f : A → ℕ) where
   none-first (cons {a = x} e a) = rw (eq-eqb (f x) 0 e) (none-first a)
 
   pub none-refused : (xs : List A) → firstNumber f xs ≡ 0 → beforeFirst (isRefused f) xs ≡ xs
-  unfolding firstNumber beforeFirst
+  unfolding beforeFirst
   none-refused [] z = refl
-  none-refused (y ∷ ys) z = go (ℕ-discrete (f y) 0) (none-refused ys)
-    where
-      go : Dec (f y ≡ 0) → (firstNumber f ys ≡ 0 → beforeFirst (isRefused f) ys ≡ ys) → beforeFirst (isRefused f) (y ∷ ys) ≡ y ∷ ys
-      go (yes e) rest = rw (eq-eqb (f y) 0 e) (ap (_∷_ y) (rest (rw (eq-eqb (f y) 0 e) at z)))
-      go (no d) rest = absurd (d (rw (ne-eqb (f y) 0 d) at z))
+  none-refused (y ∷ ys) z = let (here, rest) = first-cons y ys z in rw (eq-eqb (f y) 0 here) (ap (_∷_ y) (none-refused ys rest))
 
 -- where a piece's end stands
 pub record Between (at end size : ℕ) : Type 0 where

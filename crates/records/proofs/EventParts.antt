@@ -1,16 +1,17 @@
 -- Where in the bytes of an event that is taken its fields stand.
-use mathlib.Core.Path.{_≡_, refl, sym, _∙_, ap}
+use mathlib.Core.Path.{_≡_, sym, _∙_, ap}
 use mathlib.Core.Bool.{true, cond}
 use mathlib.Core.List.{List, [], _∷_, _++_}
-use Prim.Native.Nat.{ℕ, zero, suc, _+_, _≤_, _<_}
+use Prim.Native.Nat.{ℕ, _+_, _≤_, _<_}
 use native.Mathlib.Omega.{arith}
-use native.Mathlib.Decide.{ℕ-discrete, decLt}
+use native.Mathlib.Decide.{decLt}
 use lib.Dec.{leb, eqb}
 use lib.ListN.{length, drop, getD, length-take, length-drop}
 use lib.Seq.{take-at}
-use borrow.Author.Tests.{eq-eqb, ne-eqb, eqb-true, leb-true, lt-leb}
+use borrow.Author.Tests.{eq-eqb, eqb-true, leb-true, lt-leb}
 use Rattle.lists.specs.Lists.{joined}
 use Rattle.lists.proofs.BoolLaws.{and-left, and-right}
+use Rattle.lists.proofs.PieceLaws.{both-zero}
 use Rattle.buffer.specs.Slice.{Bytes, part}
 use Rattle.buffer.specs.Number.{bytesOf}
 use Rattle.buffer.proofs.Lent.{bytes-take, bytes-part}
@@ -26,20 +27,13 @@ use Rattle.frame.specs.declared.Frame.{Frame}
 use Rattle.frame.specs.declared.Form.the-variants.{Good}
 use Rattle.frame.proofs.FormNumbers.{form-passed}
 use Rattle.frame.proofs.Laws.{one-to-one}
+use Rattle.frame.proofs.Presence.{lamp-fields, restock-fields}
 use Rattle.frame.proofs.Sizes.{whole-some}
 use Rattle.memory.specs.Layout.{stateSize}
 use Rattle.memory.specs.Codec.{stateBytes}
 use Rattle.memory.proofs.FromBytes.{state-again}
 use Rattle.memory.proofs.RoundTrips.{byte-back}
 use Rattle.records.specs.Events.{mostGateways, latestHour, frameIn, stateIn, isEvent, frameRefusal, eventRefusal, eventOf}
-
--- a number and one behind it come to 0 where both are
-both-zero : (n m : ℕ) → cond (eqb n 0) m n ≡ 0 → (n ≡ 0) × (m ≡ 0)
-both-zero n m = go (ℕ-discrete n 0)
-  where
-    go : Dec (n ≡ 0) → cond (eqb n 0) m n ≡ 0 → (n ≡ 0) × (m ≡ 0)
-    go (yes e) z = (e, rw (eq-eqb n 0 e) at z)
-    go (no d) z = absurd (d (rw (ne-eqb n 0 d) at z))
 
 -- what an event keeps to that is not refused
 pub record TakenEvent (s : List ℕ) : Type 0 where
@@ -97,21 +91,10 @@ pub data Parts (s : List ℕ) : Type 0 where
   withLamp : LampParts s → Parts s
   restock : RestockParts s → Parts s
 
--- the maps of the kinds without a sense
+-- the map of a frame without a sense
 pub plain-map : (f : Frame) → senseNumber (f .sense) ≡ 0 → mapOf f ≡ mapOfKind (kindNumber (f .message .kind))
 unfolding mapOf
 plain-map f e = rw e
-
-pub lamp-map : (kind : ℕ) → kind ≤ 2 → mapOfKind kind ≡ 63
-unfolding mapOfKind
-lamp-map zero h = refl
-lamp-map (suc zero) h = refl
-lamp-map (suc (suc zero)) h = refl
-lamp-map (suc (suc (suc kind))) h = absurd (omega arith)
-
-pub restock-map : (kind : ℕ) → kind ≡ 3 → mapOfKind kind ≡ 79
-unfolding mapOfKind
-restock-map kind e = rw e
 
 -- a frame's bytes by its map
 module _ (f : Frame) where
@@ -170,7 +153,7 @@ module _ (s : List ℕ) (bytes : Bytes s) (t : TakenEvent s) where
   lamp-parts : kindNumber (f .message .kind) ≤ 2 → LampParts s
   unfolding eventOf part bytesOf wholeLength
   lamp-parts k =
-      let is = lamp-written f (plain-map f (t .sense) ∙ lamp-map (kindNumber (f .message .kind)) k) in
+      let is = lamp-written f (plain-map f (t .sense) ∙ lamp-fields (kindNumber (f .message .kind)) k .map) in
       let map : getD s 0 0 ≡ 63 = sym first ∙ ap (λ (l : List ℕ). getD l 0 0) is in
       let whole : wholeLength (getD s 0 0) ≡ 27 = ap wholeLength map in
       let number : kindNumber (f .message .kind) ≡ getD s 1 0 =
@@ -189,7 +172,7 @@ module _ (s : List ℕ) (bytes : Bytes s) (t : TakenEvent s) where
   restock-parts : kindNumber (f .message .kind) ≡ 3 → RestockParts s
   unfolding eventOf part bytesOf wholeLength
   restock-parts k =
-      let is = restock-written f (plain-map f (t .sense) ∙ restock-map (kindNumber (f .message .kind)) k) in
+      let is = restock-written f (plain-map f (t .sense) ∙ restock-fields (kindNumber (f .message .kind)) k .map) in
       let map : getD s 0 0 ≡ 79 = sym first ∙ ap (λ (l : List ℕ). getD l 0 0) is in
       let whole : wholeLength (getD s 0 0) ≡ 10 = ap wholeLength map in
       let number : kindNumber (f .message .kind) ≡ getD s 1 0 =

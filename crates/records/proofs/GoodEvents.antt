@@ -1,6 +1,6 @@
 -- An event that is good by its bytes at their places is one that is written, and so is taken.
 use mathlib.Core.Path.{_≡_, refl, sym, _∙_, ap, ap₂}
-use mathlib.Core.Bool.{Bool, true, false, not, _||_}
+use mathlib.Core.Bool.{Bool, true, false, not}
 use mathlib.Core.List.{List, _∷_, _++_, append-nil}
 use Prim.Native.Nat.{ℕ, zero, suc, _+_, _-_, _≤_, _<_}
 use native.Mathlib.Omega.{arith}
@@ -22,12 +22,14 @@ use Rattle.model.specs.declared.Message.{Message}
 use Rattle.frame.specs.Layout.{wholeLength}
 use Rattle.frame.specs.Kinds.{hasHour, hasLamp}
 use Rattle.frame.specs.Writing.{allBetween, lampFits, gatewaysAgree, wellFormed}
+use Rattle.frame.proofs.Accepted.{kind-back}
+use Rattle.frame.proofs.Presence.{EventFields, lamp-fields, restock-fields, own-fields}
 use Rattle.memory.specs.Codec.{stateBytes, stateOf}
 use Rattle.memory.specs.Validity.{frameIf}
 use Rattle.memory.proofs.FromBytes.{byte-next, number-next, number-fits, state-again}
 use Rattle.records.specs.Events.{mostGateways, latestHour, Event, eventLength, eventRefusal, eventOf}
 use Rattle.records.specs.inside.Finding.{eventAt, foundAt, goodGateways, goodWithLamp, goodRestock}
-use Rattle.records.proofs.EventParts.{lamp-written, restock-written, plain-map, lamp-map, restock-map}
+use Rattle.records.proofs.EventParts.{lamp-written, restock-written, plain-map}
 use Rattle.records.proofs.WrittenEvents.{Recordable, eventBytes, event-taken, message-read}
 
 -- the branches of the code: a test that fails, and one that passes
@@ -155,24 +157,20 @@ module _ (bytes : List ℕ) (at n : ℕ) (inside : at + n ≤ length bytes) (som
       let last : end ≡ pieceEnd eventLength bytes at = ee ∙ sym behind in
       rw taken (λ i. record { number = 0; kind = same i; end = last i })
 
--- the kinds with a lamp, made of their numbers
+-- a kind with a lamp, made of its number and its origin
 record LampKind (n origin : ℕ) : Type 0 where
   number : kindNumber (kindOf n origin 0) ≡ n
   its-origin : originOf (kindOf n origin 0) ≡ origin
   no-quantity : quantityOf (kindOf n origin 0) ≡ 0
-  hour : hasHour n ≡ true
-  lamp : hasLamp n ≡ true
 
 lamp-kind : (n origin : ℕ) → n ≤ 2 → LampKind n origin
-unfolding hasHour hasLamp
-lamp-kind zero origin h = record { number = refl; its-origin = refl; no-quantity = refl; hour = refl; lamp = refl }
-lamp-kind (suc zero) origin h = record { number = refl; its-origin = refl; no-quantity = refl; hour = refl; lamp = refl }
-lamp-kind (suc (suc zero)) origin h = record { number = refl; its-origin = refl; no-quantity = refl; hour = refl; lamp = refl }
-lamp-kind (suc (suc (suc n))) origin h = absurd (omega arith)
-
-or-true : (b : Bool) → (b || true) ≡ true
-or-true true = refl
-or-true false = refl
+lamp-kind n origin h =
+    let fields = lamp-fields n h in
+    record {
+      number = kind-back n origin 0 (omega arith);
+      its-origin = own-fields .origin n origin 0 ∙ rw (fields .origin);
+      no-quantity = own-fields .quantity n origin 0 ∙ rw (fields .quantity);
+    }
 
 -- a Failure, Request or Delivery
 module _ (s : List ℕ) (b : Bytes s) (long : length s ≡ 41) (g : goodWithLamp s ≡ true) where
@@ -209,6 +207,9 @@ module _ (s : List ℕ) (b : Bytes s) (long : length s ≡ 41) (g : goodWithLamp
   is-kind : LampKind (getD s 1 0) (getD s 8 0)
   is-kind = lamp-kind (getD s 1 0) (getD s 8 0) (tests .kind)
 
+  its-fields : EventFields (getD s 1 0) 63 true
+  its-fields = lamp-fields (getD s 1 0) (tests .kind)
+
   -- its bytes, one behind the other
   abbrev fields : List ℕ
   fields =
@@ -230,7 +231,7 @@ module _ (s : List ℕ) (b : Bytes s) (long : length s ≡ 41) (g : goodWithLamp
   joined-fields : eventBytes lampEvent ≡ 63 ∷ fields
   unfolding eventBytes bytesOf
   joined-fields =
-      let map = plain-map (frameIf false (lampEvent .message)) refl ∙ lamp-map (kindNumber k) (rw (is-kind .number) (tests .kind)) in
+      let map = plain-map (frameIf false (lampEvent .message)) refl ∙ lamp-fields (kindNumber k) (rw (is-kind .number) (tests .kind)) .map in
       let state = state-again (part s 27 14) (length-part s 27 14 (omega arith)) (bytes-part s 27 14 b) in
       ap (λ (l : List ℕ). l ++ stateBytes (lampEvent .state)) (lamp-written (frameIf false (lampEvent .message)) map)
       ∙ rw (is-kind .number, is-kind .its-origin, append-nil (part s 9 18), state)
@@ -246,7 +247,7 @@ module _ (s : List ℕ) (b : Bytes s) (long : length s ≡ 41) (g : goodWithLamp
       let few = t .kind in
       record {
         kind = rw number (omega arith);
-        form = rw (number, is-kind .hour, is-kind .lamp, t .lamp, t .gateways .agree);
+        form = rw (number, its-fields .hour, its-fields .lamp, t .lamp, t .gateways .agree);
         ranged = record {
           hour = number-fits s 4 4 b (omega arith);
           from = b 2;
@@ -309,16 +310,16 @@ module _ (s : List ℕ) (b : Bytes s) (long : length s ≡ 24) (g : goodRestock 
       ∙ sym (part-cons s 0 23 (omega arith))
       ∙ part-whole s 24 (omega arith)
 
-  restock-fields : eventBytes restockEvent ≡ 79 ∷ restockFields
+  restock-joined : eventBytes restockEvent ≡ 79 ∷ restockFields
   unfolding eventBytes bytesOf
-  restock-fields =
-      let map = plain-map (frameIf false (restockEvent .message)) refl ∙ restock-map 3 refl in
+  restock-joined =
+      let map = plain-map (frameIf false (restockEvent .message)) refl ∙ restock-fields 3 refl .map in
       let state = state-again (part s 10 14) (length-part s 10 14 (omega arith)) (bytes-part s 10 14 b) in
       ap (λ (l : List ℕ). l ++ stateBytes (restockEvent .state)) (restock-written (frameIf false (restockEvent .message)) map)
       ∙ rw (restock-tests .kind, state)
 
   restock-bytes : eventBytes restockEvent ≡ s
-  restock-bytes = restock-fields ∙ restock-are
+  restock-bytes = restock-joined ∙ restock-are
 
   restock-recordable : Recordable (restockEvent .message)
   unfolding wellFormed lampFits allBetween hasHour hasLamp

@@ -18,7 +18,6 @@ use rules::gateways_agree;
 ghost use mathlib.Core.Path.{_≡_};
 ghost use Prim.Native.Nat.{_<_, _≤_};
 ghost use lib.ListN.{length};
-ghost use Rattle.model.specs.Messages.{kindNumber};
 ghost use Rattle.frame.specs.Reasons.{formIn, formNumber};
 ghost use Rattle.records.specs.Events.{isEvent, frameRefusal};
 ghost use Rattle.records.specs.inside.Finding.{foundAt, lengthOfKind, goodWithLamp, goodRestock, goodGateways};
@@ -89,10 +88,14 @@ fn event_read(bytes: &[u8], at: usize) -> Found
     if left < STATE_SIZE {
         return refused(11, at);
     }
+    let frame = reading.frame;
+    let message = frame.message;
+    let kind = message.kind;
+    let behind = end + STATE_SIZE;
     Found {
         number: 0,
-        kind: kind_read(reading),
-        end: end + STATE_SIZE,
+        kind: kind_number(kind),
+        end: behind,
     }
 }
 
@@ -138,15 +141,6 @@ fn is_event(frame: Frame) -> bool
         return false;
     }
     kind_number(kind) <= 3
-}
-
-fn kind_read(reading: Reading) -> u8
-    ensures { λ r. ⌜ r ≡ kindNumber (reading .frame .message .kind) ⌝ }
-{
-    let frame = reading.frame;
-    let message = frame.message;
-    let kind = message.kind;
-    kind_number(kind)
 }
 
 // The whole length of an event of that kind, which is 0 to 3.

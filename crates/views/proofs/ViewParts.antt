@@ -1,8 +1,8 @@
 -- What a reader gets of an event, as parts of the event's bytes.
-use mathlib.Core.Path.{_≡_, refl, sym, _∙_, ap}
-use mathlib.Core.Bool.{Bool, true, false, cond, not}
+use mathlib.Core.Path.{_≡_, sym, _∙_, ap}
+use mathlib.Core.Bool.{cond}
 use mathlib.Core.List.{List, [], _∷_, _++_, append-assoc, append-nil}
-use Prim.Native.Nat.{ℕ, zero, suc, _+_, _≤_, _<_}
+use Prim.Native.Nat.{ℕ, _+_, _≤_, _<_}
 use native.Mathlib.Omega.{arith}
 use native.Mathlib.Decide.{ℕ-discrete}
 use lib.Dec.{eqb}
@@ -18,7 +18,7 @@ use Rattle.buffer.proofs.Numbers.{one-byte}
 use Rattle.buffer.proofs.Standing.{part-add}
 use Rattle.buffer.proofs.Writes.{length-part, length-write, part-cons, part-nil, write-join, set-write, write-snoc}
 use Rattle.model.specs.Messages.{kindNumber, originOf, quantityOf}
-use Rattle.frame.specs.Kinds.{hasOrigin, hasLamp, hasQuantity}
+use Rattle.frame.proofs.Presence.{lamp-fields, restock-fields}
 use Rattle.memory.specs.Codec.{stateBytes}
 use Rattle.records.specs.Events.{Event, eventRefusal, eventOf}
 use Rattle.records.proofs.EventParts.{LampParts, RestockParts, Parts, withLamp, restock, event-taken, parts}
@@ -28,23 +28,6 @@ use Rattle.views.specs.inside.Parts.{lengthFor, viewLength, headOf, fron
 use Rattle.views.specs.declared.Reader.{Reader}
 use Rattle.views.specs.declared.Reader.the-variants.{Purchasing, Maintenance}
 
--- which fields a kind has: lamp and origin, or a quantity
-record HasFields (kind : ℕ) (own : Bool) : Type 0 where
-  lamp : hasLamp kind ≡ own
-  origin : hasOrigin kind ≡ own
-  quantity : hasQuantity kind ≡ not own
-
-restock-kind : (kind : ℕ) → kind ≡ 3 → HasFields kind false
-unfolding hasLamp hasOrigin hasQuantity
-restock-kind kind e = record { lamp = rw e; origin = rw e; quantity = rw e }
-
-lamp-kind : (kind : ℕ) → kind ≤ 2 → HasFields kind true
-unfolding hasLamp hasOrigin hasQuantity
-lamp-kind zero h = record { lamp = refl; origin = refl; quantity = refl }
-lamp-kind (suc zero) h = record { lamp = refl; origin = refl; quantity = refl }
-lamp-kind (suc (suc zero)) h = record { lamp = refl; origin = refl; quantity = refl }
-lamp-kind (suc (suc (suc kind))) h = absurd (omega arith)
-
 -- by values: each view's bytes
 module _ (e : Event) where
   abbrev number : ℕ
@@ -52,21 +35,21 @@ module _ (e : Event) where
 
   purchasing-of-lamp : number ≤ 2 → eventView Purchasing e ≡ 123 ∷ (bytesOf 4 (e .message .hour) ++ (bytesOf 1 number ++ stateBytes (e .state)))
   unfolding seen fieldBytes placeBytes viewMap placesBytes joined stateBytes
-  purchasing-of-lamp h = rw (lamp-kind number h .quantity, append-nil)
+  purchasing-of-lamp h = rw (lamp-fields number h .quantity, append-nil)
 
   purchasing-of-restock : number ≡ 3 → eventView Purchasing e ≡ 127 ∷ (bytesOf 4 (e .message .hour) ++ (bytesOf 1 number ++ (bytesOf 2 (quantityOf
       (e .message .kind)) ++ stateBytes (e .state))))
   unfolding seen fieldBytes placeBytes viewMap placesBytes joined stateBytes
-  purchasing-of-restock h = rw (restock-kind number h .quantity, append-nil)
+  purchasing-of-restock h = rw (restock-fields number h .quantity, append-nil)
 
   maintenance-of-lamp : number ≤ 2 → eventView Maintenance e ≡ 15 ∷ (bytesOf 4 (e .message .hour) ++ (bytesOf 1 number ++ (e .message .lamp
       ++ bytesOf 1 (originOf (e .message .kind)))))
   unfolding seen fieldBytes placeBytes viewMap placesBytes joined
-  maintenance-of-lamp h = rw (lamp-kind number h .lamp, lamp-kind number h .origin, append-nil)
+  maintenance-of-lamp h = rw (lamp-fields number h .lamp, lamp-fields number h .origin, append-nil)
 
   maintenance-of-restock : number ≡ 3 → eventView Maintenance e ≡ 3 ∷ (bytesOf 4 (e .message .hour) ++ bytesOf 1 number)
   unfolding seen fieldBytes placeBytes viewMap placesBytes joined
-  maintenance-of-restock h = rw (restock-kind number h .lamp, restock-kind number h .origin, append-nil)
+  maintenance-of-restock h = rw (restock-fields number h .lamp, restock-fields number h .origin, append-nil)
 
 -- the front of a view, with what follows
 head-with : (map : ℕ) (s body : List ℕ) → headOf map s ++ body ≡ map ∷ (part s 4 4 ++ (getD s 1 0 ∷ body))

@@ -40,11 +40,11 @@ refused-requires-2 c κs = search needs
 returns-2 : tie.Need-returns-2
 returns-2 c = search at-state
 
-kind-read-requires : tie.Need-kind-read-requires
-kind-read-requires c κs = search needs
+add-behind : tie.Need-add-behind
+add-behind c = search needs
 
-add-t7 : tie.Need-add-t7
-add-t7 c = search needs
+kind-number-requires : tie.Need-kind-number-requires
+kind-number-requires c κs = search needs
 
 returns-3 : tie.Need-returns-3
 returns-3 c = search at-event
@@ -64,6 +64,6 @@ event-read-spec =
     returns
     refused-requires-2
     returns-2
-    kind-read-requires
-    add-t7
+    add-behind
+    kind-number-requires
     returns-3)
