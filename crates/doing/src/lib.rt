@@ -6,14 +6,7 @@ use model::State;
 use model::event::Reply;
 ghost use mathlib.Core.Path.{_≡_};
 ghost use mathlib.Core.List.{[]};
-ghost use Rattle.model.specs.Doing.{after, counted, shelved, notPast, reply, requestHours, replyWith, replyTo};
-
-// The hours from a message to the one that it sends.
-const REQUEST_HOURS: u32 = 1;
-
-const DELIVERY_HOURS: u32 = 24;
-
-const LIFE_HOURS: u32 = 43800;
+ghost use Rattle.model.specs.Doing.{after, counted, shelved, notPast, reply, replyWith, replyTo};
 
 // The state after a message of that kind: every kind, in every state.
 pub fn state_after(state: State, kind: Kind) -> State
@@ -49,18 +42,19 @@ pub fn reply_to(site: Site, state: State, message: Message) -> Reply
     ensures { λ r. ⌜ r ≡ replyTo site state message ⌝ }
 {
     let kind = message.kind;
+    let hours = site.hours;
     match kind {
         Kind::Failure { origin: _ } => request_for(site, message, site.own),
         Kind::Request { origin } => {
             if 0 < state.stock {
                 let delivery = Kind::Delivery { origin };
-                return sending(site, message, DELIVERY_HOURS, origin, delivery);
+                return sending(site, message, hours.delivery, origin, delivery);
             }
             request_for(site, message, origin)
         }
         Kind::Delivery { origin: _ } => {
             let failure = Kind::Failure { origin: site.own };
-            sending(site, message, LIFE_HOURS, site.own, failure)
+            sending(site, message, hours.life, site.own, failure)
         }
         Kind::Restock { quantity: _ } => silent(message),
         Kind::Start => silent(message),
@@ -71,10 +65,11 @@ pub fn reply_to(site: Site, state: State, message: Message) -> Reply
 
 // The Request to the supplier for that origin.
 fn request_for(site: Site, cause: Message, origin: u8) -> Reply
-    ensures { λ r. ⌜ r ≡ replyWith cause (notPast (site .last) (reply site cause requestHours (site .supplier) (Kind.Request origin))) ⌝ }
+    ensures { λ r. ⌜ r ≡ replyWith cause (notPast (site .last) (reply site cause (site .hours .request) (site .supplier) (Kind.Request origin))) ⌝ }
 {
     let request = Kind::Request { origin };
-    sending(site, cause, REQUEST_HOURS, site.supplier, request)
+    let hours = site.hours;
+    sending(site, cause, hours.request, site.supplier, request)
 }
 
 // The shelf with the quantity added, which stops at its largest value.

@@ -10,7 +10,7 @@ use Rattle.frame.proofs.Branches.{lamp-map}
 use Rattle.frame.proofs.Presence.{lamp-kinds, hour-stands}
 use Rattle.lists.specs.Lists.{_∈_}
 use Rattle.model.specs.Messages.{kindNumber, originOf, quantityOf}
-use Rattle.model.specs.Doing.{after, counted, notPast, reply, sent, sentFor, requestHours, deliveryHours, lifeHours}
+use Rattle.model.specs.Doing.{after, counted, notPast, reply, sent, sentFor}
 use Rattle.model.specs.declared.Kind.{Kind}
 use Rattle.model.specs.declared.Kind.the-variants.{Failure, Request, Delivery, Restock, Start, Lvt, Update}
 use Rattle.model.specs.declared.Message.{Message}
@@ -104,15 +104,15 @@ module _ (s : Settings) (v : ValidSettings s) {cancel : Bool} (m : Message) (goo
       origin e = rw e at (good .storable .origin)
 
       by-kind : (kind : Kind) → m .kind ≡ kind → (x : Message) → x ∈ sentFor (siteOf s) before m kind → GoodSent s (record { message = x; cancel = again })
-      by-kind (Failure origin′) e = reply-good s v m good (few e (omega arith)) again requestHours (s .supplier) (Request (s .own)) (omega
+      by-kind (Failure origin′) e = reply-good s v m good (few e (omega arith)) again _ (s .supplier) (Request (s .own)) (omega
           arith) refl (v .supplier) (v .own) refl
       by-kind (Request origin′) e =
           either (ltb 0 (before .stock))
-          (reply-good s v m good (few e (omega arith)) again deliveryHours origin′ (Delivery origin′) (omega arith) (eq-eqb origin′ origin′
+          (reply-good s v m good (few e (omega arith)) again _ origin′ (Delivery origin′) (omega arith) (eq-eqb origin′ origin′
           refl) (origin e) (origin e) refl)
-          (reply-good s v m good (few e (omega arith)) again requestHours (s .supplier) (Request origin′) (omega arith) refl (v .supplier) (origin e) refl)
+          (reply-good s v m good (few e (omega arith)) again _ (s .supplier) (Request origin′) (omega arith) refl (v .supplier) (origin e) refl)
       by-kind (Delivery origin′) e =
-          reply-good s v m good (few e (omega arith)) again lifeHours (s .own) (Failure (s .own)) (omega arith) (rw (eq-eqb (s .own)
+          reply-good s v m good (few e (omega arith)) again _ (s .own) (Failure (s .own)) (omega arith) (rw (eq-eqb (s .own)
           (s .own) refl)) (v .own) (v .own) refl
       by-kind (Restock quantity) e = λ x n. absurd (List·Memᴰ·not-nil n)
       by-kind Start e = λ x n. absurd (List·Memᴰ·not-nil n)

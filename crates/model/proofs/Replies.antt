@@ -3,7 +3,7 @@ use mathlib.Core.Path.{_≡_, _∙_, subst⁻¹}
 use Prim.Native.Nat.{ℕ, _+_, _-_, _≤_, _<_}
 use mathlib.Core.List.{[], _∷_}
 use borrow.Author.Tests.{lt-ltb, le-ltb, le-leb, lt-leb}
-use Rattle.model.specs.Doing.{after, counted, shelved, notPast, reply, sent, sentFor, requestHours, deliveryHours, replyWith, replyTo}
+use Rattle.model.specs.Doing.{after, counted, shelved, notPast, reply, sent, sentFor, replyWith, replyTo}
 use Rattle.model.specs.declared.event.Reply.{Reply}
 use Rattle.model.specs.declared.Kind.{Kind}
 use Rattle.model.specs.declared.Message.{Message}
@@ -72,10 +72,10 @@ module _ (site : Site) (s : State) (m : Message) {r : Reply} where
   unfolding sent
   of-kind kind e g = subst⁻¹ (λ (k : Kind). r ≡ replyWith m (sentFor site s m k)) e g
 
-  pub with-stock : (origin : ℕ) → m .kind ≡ Kind.Request origin → 0 < s .stock → r ≡ replyWith m (notPast (site .last) (reply site m deliveryHours origin
+  pub with-stock : (origin : ℕ) → m .kind ≡ Kind.Request origin → 0 < s .stock → r ≡ replyWith m (notPast (site .last) (reply site m (site .hours .delivery) origin
       (Kind.Delivery origin))) → r ≡ replyTo site s m
   with-stock origin e h g = of-kind (Kind.Request origin) e (rw (lt-ltb 0 (s .stock) h) g)
 
-  pub without-stock : (origin : ℕ) → m .kind ≡ Kind.Request origin → s .stock ≤ 0 → r ≡ replyWith m (notPast (site .last) (reply site m requestHours
+  pub without-stock : (origin : ℕ) → m .kind ≡ Kind.Request origin → s .stock ≤ 0 → r ≡ replyWith m (notPast (site .last) (reply site m (site .hours .request)
       (site .supplier) (Kind.Request origin))) → r ≡ replyTo site s m
   without-stock origin e h g = of-kind (Kind.Request origin) e (rw (le-ltb 0 (s .stock) h) g)

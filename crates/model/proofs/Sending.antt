@@ -4,11 +4,11 @@ use Prim.Native.Nat.{ℕ, _+_, _≤_, _<_}
 use native.Mathlib.Omega.{arith}
 use mathlib.Core.List.{List, [], _∷_}
 use mathlib.Core.Bool.{Bool, true, false, cond}
-use lib.Dec.{leb, ltb, lit<}
+use lib.Dec.{leb, ltb}
 use lib.ListN.{length}
 use borrow.Author.Tests.{leb-true}
-use Rattle.model.specs.Doing.{notPast, reply, sent, sentFor, requestHours, deliveryHours, replyWith, replyTo, sentBy}
-use Rattle.model.specs.Claims.{SendingLaws}
+use Rattle.model.specs.Doing.{notPast, reply, sent, sentFor, replyWith, replyTo, sentBy}
+use Rattle.model.specs.Claims.{AtLeastOne, SendingLaws}
 use Rattle.model.specs.declared.Kind.{Kind}
 use Rattle.model.specs.declared.Kind.the-variants.{Failure, Request, Delivery, Restock, Start, Lvt, Update}
 use Rattle.model.specs.declared.Message.{Message}
@@ -19,14 +19,14 @@ use Rattle.model.specs.declared.event.Reply.{Reply}
 -- at most one message, and what holds of it
 data Sends (site : Site) (m : Message) : List Message → Type 0 where
   nothing : Sends site m []
-  one : (x : Message) → m .hour < x .hour → x .hour ≤ site .last → x .from ≡ site .own → Sends site m (x ∷ [])
+  one : (x : Message) → (AtLeastOne (site .hours) → m .hour < x .hour) → x .hour ≤ site .last → x .from ≡ site .own → Sends site m (x ∷ [])
 
 module _ (site : Site) (m : Message) where
-  replies : (hours to : ℕ) (kind : Kind) → 0 < hours → Sends site m (notPast (site .last) (reply site m hours to kind))
+  replies : (hours to : ℕ) (kind : Kind) → (AtLeastOne (site .hours) → 0 < hours) → Sends site m (notPast (site .last) (reply site m hours to kind))
   replies hours to kind h = timely (leb (m .hour + hours) (site .last)) refl
     where
       timely : (b : Bool) → leb (m .hour + hours) (site .last) ≡ b → Sends site m (cond b (reply site m hours to kind ∷ []) [])
-      timely true e = one (reply site m hours to kind) (omega arith) (leb-true (m .hour + hours) (site .last) e) refl
+      timely true e = one (reply site m hours to kind) (λ p. omega (arith, h p)) (leb-true (m .hour + hours) (site .last) e) refl
       timely false e = nothing
 
   either : (b : Bool) {u v : List Message} → Sends site m u → Sends site m v → Sends site m (cond b u v)
@@ -34,10 +34,12 @@ module _ (site : Site) (m : Message) where
   either false s t = t
 
   sends-for : (s : State) (kind : Kind) → Sends site m (sentFor site s m kind)
-  sends-for s (Failure origin) = replies _ _ _ (lit< tt)
-  sends-for s (Request origin) = either (ltb 0 (s .stock)) (replies deliveryHours origin (Delivery origin) (lit< tt)) (replies requestHours
-      (site .supplier) (Request origin) (lit< tt))
-  sends-for s (Delivery origin) = replies _ _ _ (lit< tt)
+  sends-for s (Failure origin) = replies _ _ _ (λ p. omega (arith, p .request))
+  sends-for s (Request origin) =
+      either (ltb 0 (s .stock))
+      (replies (site .hours .delivery) origin (Delivery origin) (λ p. omega (arith, p .delivery)))
+      (replies (site .hours .request) (site .supplier) (Request origin) (λ p. omega (arith, p .request)))
+  sends-for s (Delivery origin) = replies _ _ _ (λ p. omega (arith, p .life))
   sends-for s (Restock quantity) = nothing
   sends-for s Start = nothing
   sends-for s Lvt = nothing
@@ -47,9 +49,9 @@ module _ (site : Site) (m : Message) where
   at-most-one nothing = omega arith
   at-most-one (one x h k f) = omega arith
 
-  told : {l : List Message} → Sends site m l → (x : Message) → l ≡ x ∷ [] → (m .hour < x .hour) × (x .hour ≤ site .last) × (x .from ≡ site .own)
+  told : {l : List Message} → Sends site m l → (x : Message) → l ≡ x ∷ [] → (AtLeastOne (site .hours) → m .hour < x .hour) × (x .hour ≤ site .last) × (x .from ≡ site .own)
   told nothing x e = absurd (let z : _≡_ {A = ℕ} 0 1 = cc in omega arith)
-  told (one y h k f) x e = let same : y ≡ x = cc in (rw same at h, rw same at k, rw same at f)
+  told (one y h k f) x e = let same : y ≡ x = cc in (λ p. rw same at (h p), rw same at k, rw same at f)
 
 pub sending : (site : Site) (s : State) (m : Message) → SendingLaws site s m
 unfolding sent
@@ -57,7 +59,7 @@ sending site s m =
     let sends = sends-for site m s (m .kind) in
     record {
       one = at-most-one site m sends;
-      later = λ x e. told site m sends x e .0;
+      later = λ p x e. told site m sends x e .0 p;
       inside = λ x e. told site m sends x e .1;
       source = λ x e. told site m sends x e .2;
     }

@@ -8,6 +8,7 @@ use Rattle.model.specs.EventOrder.{key, compared}
 use Rattle.model.specs.declared.Kind.the-variants.{Failure, Request, Delivery, Restock}
 use Rattle.model.specs.declared.Message.{Message}
 use Rattle.model.specs.declared.State.{State}
+use Rattle.model.specs.declared.LeadTimes.{LeadTimes}
 use Rattle.model.specs.declared.Site.{Site}
 use Rattle.model.specs.declared.order.Comparison.{Comparison}
 use Rattle.model.specs.declared.order.Comparison.the-variants.{Before, Same, After}
@@ -36,9 +37,15 @@ pub record HoursAndKinds (a b : Message) : Type 0 where
   pub restockDelivery : {q i : ℕ} → a .hour ≡ b .hour → a .kind ≡ Restock q → b .kind ≡ Delivery i → compared (key a) (key b) ≡ Before
   pub requestDelivery : {i j : ℕ} → a .hour ≡ b .hour → a .kind ≡ Request i → b .kind ≡ Delivery j → compared (key a) (key b) ≡ Before
 
--- at most one message is sent, from this gateway, later than its cause and not past the last hour
+-- each of the hours is at least 1
+pub record AtLeastOne (hours : LeadTimes) : Type 0 where
+  pub request : 1 ≤ hours .request
+  pub delivery : 1 ≤ hours .delivery
+  pub life : 1 ≤ hours .life
+
+-- at most one message is sent, from this gateway, not past the last hour and, where each of its hours is at least 1, later than its cause
 pub record SendingLaws (site : Site) (s : State) (m : Message) : Type 0 where
   pub one : length (sent site s m) ≤ 1
-  pub later : (x : Message) → sent site s m ≡ x ∷ [] → m .hour < x .hour
+  pub later : AtLeastOne (site .hours) → (x : Message) → sent site s m ≡ x ∷ [] → m .hour < x .hour
   pub inside : (x : Message) → sent site s m ≡ x ∷ [] → x .hour ≤ site .last
   pub source : (x : Message) → sent site s m ≡ x ∷ [] → x .from ≡ site .own

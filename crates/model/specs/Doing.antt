@@ -10,16 +10,6 @@ use Rattle.model.specs.declared.State.{State}
 use Rattle.model.specs.declared.Site.{Site}
 use Rattle.model.specs.declared.event.Reply.{Reply}
 
--- the hours from a message to the one that it sends: to a Request, to a Delivery, to the next Failure
-abbrev pub requestHours : ℕ
-requestHours = 1
-
-abbrev pub deliveryHours : ℕ
-deliveryHours = 24
-
-abbrev pub lifeHours : ℕ
-lifeHours = 43800
-
 -- a counter with one more; it stops at 4,294,967,295
 abbrev pub counted : ℕ → ℕ
 counted n = min (n + 1) 4294967295
@@ -57,14 +47,14 @@ notPast last m = cond (leb (m .hour) last) (m ∷ []) []
 -- what doing m, of that kind, in that state sends: at most one message
 abbrev pub sentFor : Site → State → Message → Kind → List Message
 -- Failure: a Request to the supplier, origin this gateway
-sentFor site s m (Failure origin) = notPast (site .last) (reply site m requestHours (site .supplier) (Request (site .own)))
+sentFor site s m (Failure origin) = notPast (site .last) (reply site m (site .hours .request) (site .supplier) (Request (site .own)))
 -- Request: with stock, a Delivery to the origin; without, a Request to the supplier, same origin
 sentFor site s m (Request origin) =
     cond (ltb 0 (s .stock))
-    (notPast (site .last) (reply site m deliveryHours origin (Delivery origin)))
-    (notPast (site .last) (reply site m requestHours (site .supplier) (Request origin)))
+    (notPast (site .last) (reply site m (site .hours .delivery) origin (Delivery origin)))
+    (notPast (site .last) (reply site m (site .hours .request) (site .supplier) (Request origin)))
 -- Delivery: a Failure to itself
-sentFor site s m (Delivery origin) = notPast (site .last) (reply site m lifeHours (site .own) (Failure (site .own)))
+sentFor site s m (Delivery origin) = notPast (site .last) (reply site m (site .hours .life) (site .own) (Failure (site .own)))
 -- Restock sends nothing, and neither does what is no event
 sentFor site s m (Restock quantity) = []
 sentFor site s m Start = []

@@ -34,11 +34,19 @@ pub struct State {
     pub short: u32,
 }
 
-// Where a message is done: the gateway's own number, its supplier and the forecast's last hour.
+// The lead times of a gateway: the hours from a message that it does to the Request, the Delivery or the next Failure that it sends.
+pub struct LeadTimes {
+    pub request: u32,
+    pub delivery: u32,
+    pub life: u32,
+}
+
+// Where a message is done: the gateway's own number, its supplier, the forecast's last hour and the gateway's lead times.
 pub struct Site {
     pub own: u8,
     pub supplier: u8,
     pub last: u32,
+    pub hours: LeadTimes,
 }
 
 // The kind's number.

@@ -10,7 +10,7 @@ use borrow.Author.Tests.{leb-true}
 use Rattle.lists.specs.Lists.{All, nil, cons, joined}
 use Rattle.lists.proofs.ListLaws.{all-append}
 use Rattle.model.specs.Messages.{kindNumber, originOf, quantityOf}
-use Rattle.model.specs.Doing.{notPast, reply, sent, sentFor, requestHours, deliveryHours, lifeHours}
+use Rattle.model.specs.Doing.{notPast, reply, sent, sentFor}
 use Rattle.model.specs.declared.Kind.{Kind}
 use Rattle.model.specs.declared.Kind.the-variants.{Failure, Request, Delivery, Restock, Start, Lvt, Update}
 use Rattle.model.specs.declared.Message.{Message}
@@ -75,12 +75,12 @@ module _ (s : Settings) (fit : SettingsFit s) (m : Message) (fits : MessageFits 
   sent-cancelled before = by (m .kind) (fits .origin)
     where
       by : (kind : Kind) → originOf kind < 256 → All Cancelled (sentFor (siteOf s) before m kind)
-      by (Failure origin) h = reply-fits requestHours (s .supplier) (Request (s .own)) (omega arith) (fit .supplier) (fit .own) refl
+      by (Failure origin) h = reply-fits _ (s .supplier) (Request (s .own)) (omega arith) (fit .supplier) (fit .own) refl
       by (Request origin) h =
           either (ltb 0 (before .stock))
-          (reply-fits deliveryHours origin (Delivery origin) (omega arith) h h refl)
-          (reply-fits requestHours (s .supplier) (Request origin) (omega arith) (fit .supplier) h refl)
-      by (Delivery origin) h = reply-fits lifeHours (s .own) (Failure (s .own)) (omega arith) (fit .own) (fit .own) refl
+          (reply-fits _ origin (Delivery origin) (omega arith) h h refl)
+          (reply-fits _ (s .supplier) (Request origin) (omega arith) (fit .supplier) h refl)
+      by (Delivery origin) h = reply-fits _ (s .own) (Failure (s .own)) (omega arith) (fit .own) (fit .own) refl
       by (Restock quantity) h = nil
       by Start h = nil
       by Lvt h = nil
@@ -99,13 +99,13 @@ unfolding sent
 sent-few site before m = by (m .kind)
   where
     by : (kind : Kind) → length (sentFor site before m kind) ≤ 1
-    by (Failure origin) = few-not-past (site .last) (reply site m requestHours (site .supplier) (Request (site .own)))
+    by (Failure origin) = few-not-past (site .last) (reply site m (site .hours .request) (site .supplier) (Request (site .own)))
     by (Request origin) =
-        let delivery = reply site m deliveryHours origin (Delivery origin) in
-        let request = reply site m requestHours (site .supplier) (Request origin) in
+        let delivery = reply site m (site .hours .delivery) origin (Delivery origin) in
+        let request = reply site m (site .hours .request) (site .supplier) (Request origin) in
         few-of (ltb 0 (before .stock)) (notPast (site .last) delivery) (notPast (site .last) request) (few-not-past (site .last) delivery)
         (few-not-past (site .last) request)
-    by (Delivery origin) = few-not-past (site .last) (reply site m lifeHours (site .own) (Failure (site .own)))
+    by (Delivery origin) = few-not-past (site .last) (reply site m (site .hours .life) (site .own) (Failure (site .own)))
     by (Restock quantity) = omega arith
     by Start = omega arith
     by Lvt = omega arith

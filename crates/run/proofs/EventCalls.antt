@@ -15,7 +15,7 @@ use Rattle.model.specs.Messages.{originOf}
 use Rattle.model.specs.declared.Message.{Message}
 use Rattle.model.specs.declared.State.{State}
 use Rattle.model.specs.declared.Site.{Site}
-use Rattle.memory.specs.Records.{Gateway, siteOf}
+use Rattle.memory.specs.Records.{Gateway, siteOf, usualHours}
 use Rattle.memory.specs.Validity.{isPending, isProcessed, isWaiting, equal, later}
 use Rattle.memory.specs.declared.Entry.{Entry}
 use Rattle.memory.specs.declared.Sent.{Sent}
@@ -127,7 +127,7 @@ module _ (n last : ℕ) (setups : ℕ → SetUpInput) (i : ℕ) where
 
   module _ (c : List Message) (g : Gateway) (st : Stands c g) where
     site : siteOf (g .settings) ≡ siteAt n last setups i
-    site = λ k. record { own = st .own k; supplier = st .supplier k; last = st .until k }
+    site = λ k. record { own = st .own k; supplier = st .supplier k; last = st .until k; hours = usualHours }
 
     sends-all : SendsAll n last setups i
     sends-all =

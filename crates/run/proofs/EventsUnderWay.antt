@@ -8,7 +8,7 @@ use mathlib.Core.Logic.{⊎-elim}
 use lib.Dec.{ltb, leb}
 use Rattle.lists.specs.Lists.{_∈_, any, withoutFirst, All, nil, cons, Insert, here, there}
 use Rattle.lists.proofs.ListLaws.{all-left, all-right}
-use Rattle.model.specs.Doing.{sent, sentFor, notPast, reply, requestHours, deliveryHours, lifeHours}
+use Rattle.model.specs.Doing.{sent, sentFor, notPast, reply}
 use Rattle.model.specs.Messages.{kindNumber}
 use Rattle.model.specs.declared.Message.{Message}
 use Rattle.model.specs.declared.State.{State}
@@ -153,14 +153,14 @@ event-if last x e = by-case (leb (x .hour) last)
     by-case false = nil
 
 events-for : (z : Site) (s : State) (m : Message) (kind : Kind) → All IsEvent (sentFor z s m kind)
-events-for z s m (Failure origin) = event-if (z .last) (reply z m requestHours (z .supplier) (Request (z .own))) refl
+events-for z s m (Failure origin) = event-if (z .last) (reply z m (z .hours .request) (z .supplier) (Request (z .own))) refl
 events-for z s m (Request origin) = by-stock (ltb 0 (s .stock))
   where
-    by-stock : (b : Bool) → All IsEvent (cond b (notPast (z .last) (reply z m deliveryHours origin (Delivery origin))) (notPast (z .last)
-        (reply z m requestHours (z .supplier) (Request origin))))
-    by-stock true = event-if (z .last) (reply z m deliveryHours origin (Delivery origin)) refl
-    by-stock false = event-if (z .last) (reply z m requestHours (z .supplier) (Request origin)) refl
-events-for z s m (Delivery origin) = event-if (z .last) (reply z m lifeHours (z .own) (Failure (z .own))) refl
+    by-stock : (b : Bool) → All IsEvent (cond b (notPast (z .last) (reply z m (z .hours .delivery) origin (Delivery origin))) (notPast (z .last)
+        (reply z m (z .hours .request) (z .supplier) (Request origin))))
+    by-stock true = event-if (z .last) (reply z m (z .hours .delivery) origin (Delivery origin)) refl
+    by-stock false = event-if (z .last) (reply z m (z .hours .request) (z .supplier) (Request origin)) refl
+events-for z s m (Delivery origin) = event-if (z .last) (reply z m (z .hours .life) (z .own) (Failure (z .own))) refl
 events-for z s m (Restock quantity) = nil
 events-for z s m Start = nil
 events-for z s m Lvt = nil

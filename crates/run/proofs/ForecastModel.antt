@@ -9,7 +9,7 @@ use lib.ListN.{length}
 use borrow.Author.Tests.{ltb-true, leb-true, eqb-true, lt-ltb}
 use Rattle.lists.specs.Lists.{All, nil, cons}
 use Rattle.lists.proofs.ListLaws.{all-map}
-use Rattle.model.specs.Doing.{after, sent, sentFor, notPast, reply, requestHours, deliveryHours, lifeHours}
+use Rattle.model.specs.Doing.{after, sent, sentFor, notPast, reply}
 use Rattle.model.specs.Messages.{originOf}
 use Rattle.model.specs.declared.Kind.{Kind}
 use Rattle.model.specs.declared.Kind.the-variants.{Failure, Request, Delivery, Restock, Start, Lvt, Update}
@@ -17,9 +17,11 @@ use Rattle.model.specs.EventOrder.{key}
 use Rattle.model.specs.declared.Message.{Message}
 use Rattle.model.specs.declared.State.{State}
 use Rattle.model.specs.declared.Site.{Site}
+use Rattle.model.specs.Claims.{AtLeastOne}
 use Rattle.model.proofs.Ordered.{key-injective}
 use Rattle.model.proofs.Sending.{sending}
 use Rattle.frame.specs.Limits.{nothingDue}
+use Rattle.memory.specs.Records.{usualHours}
 use Rattle.lists.proofs.BoolLaws.{and-left, and-right, and-both}
 use Rattle.gateway.specs.SettingUp.{cutFrames, queued}
 use Rattle.gateway.specs.Working.{pendingOf}
@@ -73,10 +75,14 @@ all-of-one [] h f = nil
 all-of-one (x ∷ []) h f = cons (f x refl) nil
 all-of-one (x ∷ y ∷ xs) h f = absurd (omega arith)
 
+-- the lead times of every gateway are at least an hour
+pub usual-timely : AtLeastOne usualHours
+usual-timely = record { request = omega arith; delivery = omega arith; life = omega arith }
+
 module _ (n last : ℕ) (setups : ℕ → SetUpInput) where
   -- where gateway i does its messages
   abbrev pub siteAt : ℕ → Site
-  siteAt i = record { own = i; supplier = setups i .opening .supplier; last = last }
+  siteAt i = record { own = i; supplier = setups i .opening .supplier; last = last; hours = usualHours }
 
   -- a message to one of the gateways, of an hour
   abbrev pub deliverable : Message → Bool
@@ -126,7 +132,7 @@ module _ (n last : ℕ) (setups : ℕ → SetUpInput) where
 
   pub sends-later : (i : ℕ) (s : State) (m : Message) → All (λ y. first (key m) < first (key y)) (sendsAt i s m)
   unfolding first key
-  sends-later i s m = sends-all i s m (λ x e. sending (siteAt i) s m .later x e)
+  sends-later i s m = sends-all i s m (λ x e. sending (siteAt i) s m .later usual-timely x e)
 
   pub sends-due : (i : ℕ) (s : State) (m : Message) → All (λ y. first (key y) < nothingDue) (sendsAt i s m)
   unfolding first key
@@ -174,10 +180,10 @@ module _ (n last : ℕ) (setups : ℕ → SetUpInput) where
     sent-for s m (Failure origin) h = replied m _ _ _ supplied
     sent-for s m (Request origin) h = by-stock (ltb 0 (s .stock))
       where
-        by-stock : (b : Bool) → All (λ x. deliverable x ≡ true) (cond b (notPast last (reply (siteAt i) m deliveryHours origin (Delivery
-            origin))) (notPast last (reply (siteAt i) m requestHours (setups i .opening .supplier) (Request origin))))
-        by-stock true = replied m deliveryHours origin (Delivery origin) h
-        by-stock false = replied m requestHours (setups i .opening .supplier) (Request origin) supplied
+        by-stock : (b : Bool) → All (λ x. deliverable x ≡ true) (cond b (notPast last (reply (siteAt i) m (siteAt i .hours .delivery) origin (Delivery
+            origin))) (notPast last (reply (siteAt i) m (siteAt i .hours .request) (setups i .opening .supplier) (Request origin))))
+        by-stock true = replied m _ origin (Delivery origin) h
+        by-stock false = replied m _ (setups i .opening .supplier) (Request origin) supplied
     sent-for s m (Delivery origin) h = replied m _ _ _ here
     sent-for s m (Restock quantity) h = nil
     sent-for s m Start h = nil
@@ -197,14 +203,14 @@ module _ (n last : ℕ) (setups : ℕ → SetUpInput) where
         timely false = nil
 
     origins-for : (s : State) (m : Message) (kind : Kind) → originOf kind < n → All (λ x. originOf (x .kind) < n) (sentFor (siteAt i) s m kind)
-    origins-for s m (Failure origin) h = not-past (reply (siteAt i) m requestHours (setups i .opening .supplier) (Request i)) here
+    origins-for s m (Failure origin) h = not-past (reply (siteAt i) m (siteAt i .hours .request) (setups i .opening .supplier) (Request i)) here
     origins-for s m (Request origin) h = by-stock (ltb 0 (s .stock))
       where
-        by-stock : (b : Bool) → All (λ x. originOf (x .kind) < n) (cond b (notPast last (reply (siteAt i) m deliveryHours origin (Delivery
-            origin))) (notPast last (reply (siteAt i) m requestHours (setups i .opening .supplier) (Request origin))))
-        by-stock true = not-past (reply (siteAt i) m deliveryHours origin (Delivery origin)) h
-        by-stock false = not-past (reply (siteAt i) m requestHours (setups i .opening .supplier) (Request origin)) h
-    origins-for s m (Delivery origin) h = not-past (reply (siteAt i) m lifeHours i (Failure i)) here
+        by-stock : (b : Bool) → All (λ x. originOf (x .kind) < n) (cond b (notPast last (reply (siteAt i) m (siteAt i .hours .delivery) origin (Delivery
+            origin))) (notPast last (reply (siteAt i) m (siteAt i .hours .request) (setups i .opening .supplier) (Request origin))))
+        by-stock true = not-past (reply (siteAt i) m (siteAt i .hours .delivery) origin (Delivery origin)) h
+        by-stock false = not-past (reply (siteAt i) m (siteAt i .hours .request) (setups i .opening .supplier) (Request origin)) h
+    origins-for s m (Delivery origin) h = not-past (reply (siteAt i) m (siteAt i .hours .life) i (Failure i)) here
     origins-for s m (Restock quantity) h = nil
     origins-for s m Start h = nil
     origins-for s m Lvt h = nil

@@ -24,13 +24,13 @@ use Rattle.event_steps.specs.Models.{Model, NotLater, stateAfter, sentBy}
 use Rattle.event_steps.specs.SingleQueue as Theory
 use Rattle.event_steps.proofs.OrderLaws.{order-refl, order-antisym, message-eq}
 use Rattle.event_steps.proofs.QueueLaws.{first-taken, first-least, queue-ends}
-use Rattle.memory.specs.Records.{siteOf}
+use Rattle.memory.specs.Records.{siteOf, usualHours}
 use Rattle.gateway.specs.SettingUp.{settingsOf}
 use Rattle.gateway.specs.Committing.{recordFor}
 use Rattle.run.specs.Forecast.{SetUpInput}
 use Rattle.run.specs.SingleQueue.{Queue, openingQueue, earliest, others, doOne, stepOn, steps, turnsFor, wholeRecord}
 use Rattle.run.proofs.EventOrders.{keys-agree}
-use Rattle.run.proofs.ForecastModel.{forecastModel, siteAt, sendsAt, sends-all-sent, sends-origins}
+use Rattle.run.proofs.ForecastModel.{forecastModel, siteAt, sendsAt, sends-all-sent, sends-origins, usual-timely}
 use Rattle.run.proofs.SavedStates.{stateAt}
 
 -- equal lists but for their order: first of them, and the others
@@ -138,7 +138,7 @@ module _ (n last : ℕ) (setups : ℕ → SetUpInput) where
 
   module _ (hours : last < nothingDue) (settled : (i : ℕ) → i < n → Settled i) where
     site-is : (i : ℕ) → i < n → siteOf (settingsOf (setups i .opening)) ≡ siteAt n last setups i
-    site-is i h = let s = settled i h in λ k. record { own = s .own k; supplier = setups i .opening .supplier; last = s .until k }
+    site-is i h = let s = settled i h in λ k. record { own = s .own k; supplier = setups i .opening .supplier; last = s .until k; hours = usualHours }
 
     -- what is sent there is what the model sends
     sends-same : (m : Message) → Inside m → (s : State) → sent (siteOf (settingsOf (setups (m .to) .opening))) s m ≡ sendsAt n last setups (m .to) s m
@@ -244,7 +244,7 @@ module _ (n last : ℕ) (setups : ℕ → SetUpInput) where
     sends-weight m h s =
         rw (site-is (m .to) (h .to))
         (let z = siteAt n last setups (m .to) in
-        sent-weight m (sent z s m) (sending z s m .one) (λ x e. (sending z s m .later x e, sending z s m .inside x e)))
+        sent-weight m (sent z s m) (sending z s m .one) (λ x e. (sending z s m .later usual-timely x e, sending z s m .inside x e)))
 
     step-falls : (q : Queue) (x : Message) (k : List Message) → All Inside (x ∷ k) → suc (turnsFor last (stepOn setups q (x ∷ k) .list)) ≤ turnsFor last (x ∷ k)
     unfolding stepOn doOne weight

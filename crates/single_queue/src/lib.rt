@@ -4,6 +4,7 @@ use decoding::read_entry;
 use doing::reply_to;
 use doing::state_after;
 use encoding::write_state;
+use entries::site_of;
 use lines::Ends;
 use lines::append;
 use lines::enter_list;
@@ -12,8 +13,8 @@ use lines::put_plain;
 use memory::HEADER_SIZE;
 use memory::QUEUE_SIZE;
 use memory::STATE_SIZE;
+use memory::Settings;
 use model::Message;
-use model::Site;
 use model::State;
 use model::event::Reply;
 ghost use mathlib.Core.Path.{_≡_};
@@ -158,12 +159,15 @@ fn state_for(machine: Machine, message: Message) -> State {
 
 // What a message sends by the lamp model, at the gateway that it is to. Supplier of both is gateway 1, and the last hour is 100.
 fn reply_at(state: State, message: Message) -> Reply {
-    let site = Site {
+    let settings = Settings {
+        n: 2,
         own: message.to,
         supplier: 1,
         last: 100,
+        q: 512,
+        u: 512,
     };
-    reply_to(site, state, message)
+    reply_to(site_of(settings), state, message)
 }
 
 // Puts a message's frame and the state after it at the end of a record.
