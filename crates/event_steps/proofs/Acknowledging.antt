@@ -2,11 +2,11 @@
 use mathlib.Core.List.{List, _++_}
 use mathlib.Core.Path.{_≡_, refl, ap, _∙_}
 use mathlib.Core.Logic.{_≢_}
-use Prim.Native.Nat.{ℕ, _+_}
+use Prim.Native.Nat.{ℕ, _+_, _≤_}
 use native.Mathlib.Omega.{arith}
 use Rattle.lists.specs.Lists.{All, count}
 use Rattle.lists.proofs.ListLaws.{all-image, count-insert, count-inserts, count-none, matches-other}
-use Rattle.event_steps.specs.Models.{Model}
+use Rattle.event_steps.specs.Models.{Model, ModelLaws}
 use Rattle.event_steps.specs.Gateways.{Event, plain, cancel, message, Gateway, Network, history}
 use Rattle.event_steps.specs.EventSteps.{EventStep, does, undoes, takes, takesAcknowledgment, commits}
 use Rattle.event_steps.proofs.OrderLaws.{event-eq}
@@ -45,18 +45,24 @@ module _ (M : Model) where
 
   -- What another gateway sent stays as unsettled as it was.
   pub settled-elsewhere :
+      ModelLaws M →
       {i time : ℕ} {g g′ : Gateway Message} {n n′ : Network Message} {sent : List Message} →
       EventStep M i time g n sent g′ n′ →
+      i ≤ last →
       (e : Event Message) →
       from (message e) ≢ i →
       unsettled e n′ ≡ unsettled e n
   unfolding unsettled message
-  settled-elsewhere {i} {g = g} (does m take first out under) e k =
-      omega (arith, count-inserts (event-eq M) e under, none-elsewhere i (all-image plain (sent-from M i (history g) m)) e k)
-  settled-elsewhere {i} {g = g} (undoes m {older = older} x under here no-later latest back out under′) e k =
-      omega (arith, count-inserts (event-eq M) e under′, none-elsewhere i (all-image cancel (sent-from M i (older ++ g .committed) m)) e k)
-  settled-elsewhere (takes x under ack here taking) e k =
+  settled-elsewhere laws {i} {g = g} (does m take first out under) inside e k =
+      omega (arith, count-inserts (event-eq M) e under, none-elsewhere i (all-image plain (sent-from M laws i inside (history g) m)) e k)
+  settled-elsewhere laws {i} {g = g} (undoes m {older = older} x under here no-later latest back out under′) inside e k =
+      omega (
+        arith,
+        count-inserts (event-eq M) e under′,
+        none-elsewhere i (all-image cancel (sent-from M laws i inside (older ++ g .committed) m)) e k,
+      )
+  settled-elsewhere laws (takes x under ack here taking) inside e k =
       omega (arith, count-insert (event-eq M) e under, count-insert (event-eq M) e ack)
-  settled-elsewhere {i} (takesAcknowledgment x ack here out) e k =
+  settled-elsewhere laws {i} (takesAcknowledgment x ack here out) inside e k =
       omega (arith, count-insert (event-eq M) e ack, matches-other (event-eq M) {a = e} {b = x} (λ p. k (ap (λ y. from (message y)) p ∙ here)))
-  settled-elsewhere (commits m first due) e k = refl
+  settled-elsewhere laws (commits m first due) inside e k = refl

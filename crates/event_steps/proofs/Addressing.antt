@@ -2,10 +2,11 @@
 use mathlib.Core.List.{List, _∷_, map}
 use mathlib.Core.Path.{_≡_, refl, ap, subst}
 use Prim.Native.Nat.{ℕ, _≤_, _<_}
+use lib.ListN.{length}
 use native.Mathlib.Omega.{arith}
 use Rattle.lists.specs.Lists.{All, cons}
 use Rattle.lists.proofs.ListLaws.{all-insert, all-inserts, all-image, all-taken, all-rest, all-both, all-tail, all-head}
-use Rattle.event_steps.specs.Models.{Model, hour, sentBy}
+use Rattle.event_steps.specs.Models.{Model, ModelLaws, hour, sentBy}
 use Rattle.event_steps.specs.Gateways.{Event, plain, cancel, message, Gateway, Network, history}
 use Rattle.event_steps.specs.EventSteps.{EventStep, does, undoes, takes, takesAcknowledgment, commits, Taking, becomesPending}
 use Rattle.event_steps.specs.EventSteps.{meetsCancel, strikesOut, waits}
@@ -34,45 +35,45 @@ module _ (M : Model) where
     pub events-between : All Between (n .events)
     pub acknowledgments-between : All Between (n .acknowledgments)
 
-  -- What is sent goes from the sender to a gateway, and is due.
-  pub sent-from : (i : ℕ) (h : List Message) (m : Message) → All (λ y. from y ≡ i) (sentBy M i h m)
-  unfolding sentBy
-  sent-from i h m = M .sends-from i _ m
+  module _ (laws : ModelLaws M) (i : ℕ) (inside : i ≤ last) (h : List Message) (m : Message) where
+    -- What gateway i sends is at most one message, goes from it to a gateway, and is due later than its cause.
+    pub sent-one : length (sentBy M i h m) ≤ 1
+    unfolding sentBy
+    sent-one = laws .sends-one i inside _ m
 
-  pub sent-later : (i : ℕ) (h : List Message) (m : Message) → All (λ y. hour M m < hour M y) (sentBy M i h m)
-  unfolding sentBy hour
-  sent-later i h m = M .sends-later i _ m
+    pub sent-from : All (λ y. from y ≡ i) (sentBy M i h m)
+    unfolding sentBy
+    sent-from = laws .sends-from i inside _ m
 
-  pub sent-due : (i : ℕ) (h : List Message) (m : Message) → All (λ y. hour M y < never) (sentBy M i h m)
-  unfolding sentBy hour
-  sent-due i h m = M .sends-due i _ m
+    pub sent-later : All (λ y. hour M m < hour M y) (sentBy M i h m)
+    unfolding sentBy hour
+    sent-later = laws .sends-later i inside _ m
 
-  pub sent-inside : (i : ℕ) (h : List Message) (m : Message) → All (λ y. to y ≤ last) (sentBy M i h m)
-  unfolding sentBy
-  sent-inside i h m = M .sends-inside i _ m
+    pub sent-due : All (λ y. hour M y < never) (sentBy M i h m)
+    unfolding sentBy hour
+    sent-due = laws .sends-due i inside _ m
 
-  -- The same of the events that carry or cancel it.
-  pub sent-between :
-      (c : Message → Event Message) →
-      ((y : Message) → message (c y) ≡ y) →
-      (i : ℕ) (h : List Message) (m : Message) →
-      i ≤ last →
-      All Between (map c (sentBy M i h m))
-  sent-between c e i h m k =
-      all-image
-      c
-      (all-both
-      between
-      (sent-inside i h m)
-      (all-both {r = λ y. (from y ≡ i) × (hour M y < never)} (λ y a b. (a, b)) (sent-from i h m) (sent-due i h m)))
-    where
-      between : (y : Message) → to y ≤ last → (from y ≡ i) × (hour M y < never) → Between (c y)
-      between y a b =
-          record {
-            to-one = omega (arith, ap to (e y));
-            from-one = omega (arith, ap from (e y));
-            due = omega (arith, ap (hour M) (e y));
-          }
+    pub sent-inside : All (λ y. to y ≤ last) (sentBy M i h m)
+    unfolding sentBy
+    sent-inside = laws .sends-inside i inside _ m
+
+    -- The events that carry or cancel it are between gateways and due.
+    pub sent-between : (c : Message → Event Message) → ((y : Message) → message (c y) ≡ y) → All Between (map c (sentBy M i h m))
+    sent-between c e =
+        all-image
+        c
+        (all-both
+        between
+        sent-inside
+        (all-both {r = λ y. (from y ≡ i) × (hour M y < never)} (λ y a b. (a, b)) sent-from sent-due))
+      where
+        between : (y : Message) → to y ≤ last → (from y ≡ i) × (hour M y < never) → Between (c y)
+        between y a b =
+            record {
+              to-one = omega (arith, ap to (e y));
+              from-one = omega (arith, ap from (e y));
+              due = omega (arith, ap (hour M) (e y));
+            }
 
   addressed-taking :
       {i time : ℕ} {g g′ : Gateway Message} {e : Event Message} →
@@ -114,27 +115,28 @@ module _ (M : Model) where
       }
 
   pub carried-step :
+      ModelLaws M →
       {i time : ℕ} {g g′ : Gateway Message} {n n′ : Network Message} {sent : List Message} →
       EventStep M i time g n sent g′ n′ →
       i ≤ last →
       Carried n →
       Carried n′
   unfolding message
-  carried-step {i} (does m take first out under) k c =
+  carried-step laws {i} (does m take first out under) k c =
       record {
-        events-between = all-inserts under (sent-between plain (λ y. refl) i _ m k) (c .events-between);
+        events-between = all-inserts under (sent-between laws i k _ m plain (λ y. refl)) (c .events-between);
         acknowledgments-between = c .acknowledgments-between;
       }
-  carried-step {i} (undoes m e under here no-later latest back out under′) k c =
+  carried-step laws {i} (undoes m e under here no-later latest back out under′) k c =
       record {
-        events-between = all-inserts under′ (sent-between cancel (λ y. refl) i _ m k) (c .events-between);
+        events-between = all-inserts under′ (sent-between laws i k _ m cancel (λ y. refl)) (c .events-between);
         acknowledgments-between = c .acknowledgments-between;
       }
-  carried-step (takes e under ack here taking) k c =
+  carried-step laws (takes e under ack here taking) k c =
       record {
         events-between = all-rest under (c .events-between);
         acknowledgments-between = all-insert ack (all-taken under (c .events-between)) (c .acknowledgments-between);
       }
-  carried-step (takesAcknowledgment e ack here out) k c =
+  carried-step laws (takesAcknowledgment e ack here out) k c =
       record { events-between = c .events-between; acknowledgments-between = all-rest ack (c .acknowledgments-between) }
-  carried-step (commits m first due) k c = c
+  carried-step laws (commits m first due) k c = c

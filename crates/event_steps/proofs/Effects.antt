@@ -6,7 +6,7 @@ use Prim.Native.Nat.{ℕ, _≤_}
 use native.Mathlib.Omega.{arith}
 use Rattle.lists.specs.Lists.{All, nil, Inserts, unchanged}
 use Rattle.lists.proofs.ListLaws.{all-insert, all-taken, all-rest, all-map}
-use Rattle.event_steps.specs.Models.{Model, hour, sentBy}
+use Rattle.event_steps.specs.Models.{Model, ModelLaws, hour, sentBy}
 use Rattle.event_steps.specs.Gateways.{Event, plain, cancel, message, Gateway, Network, Data, history}
 use Rattle.event_steps.specs.EventSteps.{EventStep, does, undoes, takes, takesAcknowledgment, commits, Taking, becomesPending}
 use Rattle.event_steps.specs.EventSteps.{meetsCancel, strikesOut, waits}
@@ -70,37 +70,39 @@ module _ (M : Model) where
       }
 
   -- What is sent by m is later than it, and so than what bounds m.
-  sent-late : (t i : ℕ) (h : List Message) (m : Message) → t ≤ hour M m → All (λ y. t ≤ hour M y) (sentBy M i h m)
-  sent-late t i h m k = all-map (λ y l. omega arith) (sent-later M i h m)
+  sent-late : ModelLaws M → (t i : ℕ) → i ≤ last → (h : List Message) (m : Message) → t ≤ hour M m → All (λ y. t ≤ hour M y) (sentBy M i h m)
+  sent-late laws t i inside h m k = all-map (λ y l. omega arith) (sent-later M laws i inside h m)
 
   pub effect :
+      ModelLaws M →
       {agreed : ℕ → ℕ} (d : Data Message) (i : ℕ) {time : ℕ} {sent : List Message} {g : Gateway Message} {n : Network Message} →
+      i ≤ last →
       Sound M agreed d →
       EventStep M i time (d .gateways i) (d .network) sent g n →
       Effect d i sent g
   unfolding message
-  effect d i s (does m {out = out} take first put under) =
+  effect laws d i inside s (does m {out = out} take first put under) =
       record {
         sense = plain;
         carries = λ y. refl;
         out = out;
         put-in = put;
         then-go = λ t a. a;
-        late = λ t u. sent-late t i (history (d .gateways i)) m (all-taken take (u .waiting .pending-from));
+        late = λ t u. sent-late laws t i inside (history (d .gateways i)) m (all-taken take (u .waiting .pending-from));
         comes =
             λ t u. record {
               pending-from = all-rest take (u .waiting .pending-from);
               waiting-from = u .waiting .waiting-from;
             };
       }
-  effect d i s (undoes m {older = older} {out = out} e under here no-later latest back put under′) =
+  effect laws d i inside s (undoes m {older = older} {out = out} e under here no-later latest back put under′) =
       record {
         sense = cancel;
         carries = λ y. refl;
         out = out;
         put-in = put;
         then-go = λ t a. a;
-        late = λ t u. sent-late t i (older ++ d .gateways i .committed) m (not-before t u);
+        late = λ t u. sent-late laws t i inside (older ++ d .gateways i .committed) m (not-before t u);
         comes =
             λ t u. record {
               pending-from = all-insert back (not-before t u) (u .waiting .pending-from);
@@ -110,14 +112,14 @@ module _ (M : Model) where
     where
       not-before : (t : ℕ) → Under d i t → t ≤ hour M m
       not-before t u = omega (arith, all-taken under (bounds-events M s (u .outstanding)), hour-order M (message e) m no-later)
-  effect d i {g = g} s (takes e under ack here taking) =
+  effect laws d i {g = g} inside s (takes e under ack here taking) =
       quiet
       d
       i
       g
       (λ t a. subst (λ l. All (λ e. t ≤ hour M (message e)) l) (sym (taking-outstanding M taking)) a)
       (λ t u. taking-comes t taking (all-taken under (bounds-events M s (u .outstanding))) (u .waiting))
-  effect d i {g = g} s (takesAcknowledgment e ack here out) =
+  effect laws d i {g = g} inside s (takesAcknowledgment e ack here out) =
       quiet d i g (λ t a. all-rest out a) (λ t u. record { pending-from = u .waiting .pending-from; waiting-from = u .waiting .waiting-from })
-  effect d i {g = g} s (commits m first due) =
+  effect laws d i {g = g} inside s (commits m first due) =
       quiet d i g (λ t a. a) (λ t u. record { pending-from = u .waiting .pending-from; waiting-from = u .waiting .waiting-from })

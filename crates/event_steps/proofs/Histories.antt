@@ -5,7 +5,7 @@ use Prim.Native.Nat.{ℕ, _≤_}
 use native.Mathlib.Omega.{arith}
 use Rattle.lists.specs.Lists.{All, Insert}
 use Rattle.lists.proofs.ListLaws.{all-map, all-count, count-all, count-none, found}
-use Rattle.event_steps.specs.Models.{Model, hour}
+use Rattle.event_steps.specs.Models.{Model, ModelLaws, hour}
 use Rattle.event_steps.specs.Gateways.{Event, plain, cancel, message, Gateway, Data, history}
 use Rattle.event_steps.specs.SingleQueue.{singleHistory, EarlierPart}
 use Rattle.event_steps.proofs.OrderLaws.{message-eq, event-eq}
@@ -79,7 +79,7 @@ module _ (M : Model) where
       accounts =
           record {
             sorted = λ i. s .ordered i .sorted;
-            here = λ i. all-map (λ m h. h .to-here) (s .addressed i .done);
+            here = λ i inside. all-map (λ m h. h .to-here) (s .addressed i inside .done);
             balance =
                 λ x inside h.
                 let w = b .waiting-from (to x) inside in
@@ -94,27 +94,34 @@ module _ (M : Model) where
           }
 
       -- Below t they are the single queue's.
-      pub same-below : (i : ℕ) → i ≤ last → (a c : List Message) → Below M t (history (d .gateways i)) a → Below M t (singleHistory M i) c → a ≡ c
-      same-below = unique M accounts (queue-accounts M t) t (omega arith)
+      pub same-below :
+          ModelLaws M →
+          (i : ℕ) →
+          i ≤ last →
+          (a c : List Message) →
+          Below M t (history (d .gateways i)) a →
+          Below M t (singleHistory M i) c →
+          a ≡ c
+      same-below laws = unique M laws accounts (queue-accounts M laws t) t (omega arith)
 
     -- What is committed is a beginning.
-    pub committed-beginning : (i : ℕ) → i ≤ last → Bounds (agreed i) d → EarlierPart (d .gateways i .committed) (singleHistory M i)
+    pub committed-beginning : ModelLaws M → (i : ℕ) → i ≤ last → Bounds (agreed i) d → EarlierPart (d .gateways i .committed) (singleHistory M i)
     unfolding history
-    committed-beginning i inside b =
+    committed-beginning laws i inside b =
         let mine = below M (agreed i) (history (d .gateways i)) in
         let its = below M (agreed i) (singleHistory M i) in
         let p = below-beginning M (d .gateways i .processed) (d .gateways i .committed) (s .ordered i .below) (mine .1) in
         let q = below-rest M (its .1) in (
           q .0 ++ p .0,
-          q .1 ∙ ap (λ l. q .0 ++ l) (sym (same-below b i inside (mine .0) (its .0) (mine .1) (its .1)) ∙ p .1) ∙ sym (append-assoc (q .0)
+          q .1 ∙ ap (λ l. q .0 ++ l) (sym (same-below b laws i inside (mine .0) (its .0) (mine .1) (its .1)) ∙ p .1) ∙ sym (append-assoc (q .0)
               (p .0) (d .gateways i .committed)),
         )
 
     -- Where t is above every hour the histories are the single queue's whole histories.
-    pub history-whole : (t : ℕ) → never ≤ t → Bounds t d → (i : ℕ) → i ≤ last → history (d .gateways i) ≡ singleHistory M i
-    history-whole t above b i inside =
+    pub history-whole : ModelLaws M → (t : ℕ) → never ≤ t → Bounds t d → (i : ℕ) → i ≤ last → history (d .gateways i) ≡ singleHistory M i
+    history-whole laws t above b i inside =
         let mine = below M t (history (d .gateways i)) in
         let its = below M t (singleHistory M i) in
-        sym (below-whole M (all-map (λ m h. omega arith) (s .addressed i .done)) (mine .1))
-        ∙ same-below b i inside (mine .0) (its .0) (mine .1) (its .1)
-        ∙ below-whole M (all-map (λ m h. omega arith) (queue-due M i)) (its .1)
+        sym (below-whole M (all-map (λ m h. omega arith) (s .addressed i inside .done)) (mine .1))
+        ∙ same-below b laws i inside (mine .0) (its .0) (mine .1) (its .1)
+        ∙ below-whole M (all-map (λ m h. omega arith) (queue-due M laws i)) (its .1)

@@ -7,7 +7,7 @@ use Rattle.lists.specs.Lists.{All, nil}
 use Rattle.lists.specs.Families.{change, sum}
 use Rattle.lists.proofs.ListLaws.{all-every, all-both, count-nil}
 use Rattle.lists.proofs.FamilyLaws.{Changed, at, off, change?, change-each, sum-agree, sum-constant, sum-change}
-use Rattle.event_steps.specs.Models.{Model, hour}
+use Rattle.event_steps.specs.Models.{Model, ModelLaws, hour}
 use Rattle.event_steps.specs.Gateways.{Event, plain, cancel, message, Gateway, Network, Data, history, after, openingData}
 use Rattle.event_steps.specs.EventSteps.{EventStep}
 use Rattle.event_steps.proofs.OrderLaws.{empty, message-eq, event-eq}
@@ -36,7 +36,7 @@ module _ (M : Model) where
 
   pub record Sound (agreed : ℕ → ℕ) (d : Data Message) : Type 0 where
     pub ordered : (i : ℕ) → Ordered M (agreed i) (d .gateways i)
-    pub addressed : (i : ℕ) → Addressed M i (d .gateways i)
+    pub addressed : (i : ℕ) → i ≤ last → Addressed M i (d .gateways i)
     pub carried : Carried M (d .network)
     pub settled : Settled d
     pub conserved : Conserved d
@@ -51,12 +51,12 @@ module _ (M : Model) where
         conserved = o .conserved;
       }
 
-  pub sound-opening : Sound (λ i. 0) (openingData M)
+  pub sound-opening : ModelLaws M → Sound (λ i. 0) (openingData M)
   unfolding openingData history Settled Conserved unsettled sentOf held sentIn hour
-  sound-opening =
+  sound-opening laws =
       record {
         ordered = λ i. record { sorted = empty; up-to = all-every (λ q. nil) (opening i); below = nil };
-        addressed = λ i. record { done = nil; queued = here i; kept = nil };
+        addressed = λ i inside. record { done = nil; queued = here i inside; kept = nil };
         carried = record { events-between = nil; acknowledgments-between = nil };
         settled = λ e. omega (arith, count-nil (event-eq M) e);
         conserved =
@@ -70,10 +70,10 @@ module _ (M : Model) where
             );
       }
     where
-      here : (i : ℕ) → All (Here M i) (opening i)
-      here i = all-both (λ y a b. record { to-here = a; due = b }) (M .opening-here i) (M .opening-due i)
+      here : (i : ℕ) → i ≤ last → All (Here M i) (opening i)
+      here i inside = all-both (λ y a b. record { to-here = a; due = b }) (laws .opening-here i inside) (laws .opening-due i inside)
 
-  module _ (agreed : ℕ → ℕ) (d : Data Message) (i : ℕ) {sent : List Message} {g : Gateway Message} {n : Network Message} (inside : i ≤ last)
+  module _ (laws : ModelLaws M) (agreed : ℕ → ℕ) (d : Data Message) (i : ℕ) {sent : List Message} {g : Gateway Message} {n : Network Message} (inside : i ≤ last)
       (step : EventStep M i (agreed i) (d .gateways i) (d .network) sent g n) where
     settled-step : Settled d → Settled (after i g n d)
     unfolding Settled after
@@ -90,7 +90,7 @@ module _ (M : Model) where
             )
         go (off p q) =
             omega
-            (arith, s e, settled-elsewhere M step e (λ r. p (sym r)), ap (λ f. eventCount M e (f .outstanding)) q)
+            (arith, s e, settled-elsewhere M laws step inside e (λ r. p (sym r)), ap (λ f. eventCount M e (f .outstanding)) q)
 
     conserved-step : Conserved d → Conserved (after i g n d)
     unfolding Conserved after sentOf made
@@ -131,8 +131,15 @@ module _ (M : Model) where
     sound-step o =
         record {
           ordered = change-each (λ k f. Ordered M (agreed k) f) i g (d .gateways) (ordered-step M step (o .ordered i)) (o .ordered);
-          addressed = change-each (λ k f. Addressed M k f) i g (d .gateways) (addressed-step M step (o .carried) (o .addressed i)) (o .addressed);
-          carried = carried-step M step inside (o .carried);
+          addressed =
+              change-each
+              (λ k f. k ≤ last → Addressed M k f)
+              i
+              g
+              (d .gateways)
+              (λ l. addressed-step M step (o .carried) (o .addressed i l))
+              (o .addressed);
+          carried = carried-step M laws step inside (o .carried);
           settled = settled-step (o .settled);
           conserved = conserved-step (o .conserved);
         }

@@ -11,11 +11,11 @@ use Rattle.lists.specs.Lists.{All, nil, cons, Insert, here, there}
 use Rattle.lists.specs.Families.{change, sum, together}
 use Rattle.lists.proofs.ListLaws.{all-append, all-insert, all-taken, all-rest, all-map, all-both, all-every, count-nil, count-none, count-append, matches-other}
 use Rattle.lists.proofs.FamilyLaws.{together-all, Changed, at, off, change?, sum-agree, sum-constant, change-each, sum-change}
-use Rattle.event_steps.specs.Models.{Model, hour, NotLater, sentBy}
+use Rattle.event_steps.specs.Models.{Model, ModelLaws, hour, NotLater, sentBy}
 use Rattle.event_steps.specs.SingleQueue.{isNotLater, Queue, earliest, others, openingQueue, doNext, next, steps, measure, singleHistory}
 use Rattle.event_steps.proofs.OrderLaws.{Compared, sooner, later, compared, Sorted, empty, newest, order-refl, order-trans, order-hour, message-eq}
 use Rattle.event_steps.proofs.EventCounts.{times, times-cons, times-insert}
-use Rattle.event_steps.proofs.Addressing.{sent-later, sent-inside, sent-due}
+use Rattle.event_steps.proofs.Addressing.{sent-one, sent-later, sent-inside, sent-due}
 use Rattle.event_steps.proofs.Conservation.{sentIn, sent-cons}
 use Rattle.event_steps.proofs.Uniqueness.{Accounts}
 
@@ -56,8 +56,44 @@ module _ (M : Model) where
         to x ≤ last →
         times M x (opening (to x)) + sum (suc last) (λ j. times M x (sentIn M j (q .done j))) ≡ times M x (q .done (to x)) + times M x (q .list)
 
+  -- The measure of a list with a message more, and of two lists.
+  measure-insert : {m : Message} {l k : List Message} → Insert m l k → measure M k ≡ (never - hour M m) + measure M l
+  unfolding measure
+  measure-insert here = refl
+  measure-insert (there i) = omega (arith, measure-insert i)
+
+  measure-append : (l k : List Message) → measure M (l ++ k) ≡ measure M l + measure M k
+  unfolding measure
+  measure-append [] k = omega arith
+  measure-append (m ∷ l) k = omega (arith, measure-append l k)
+
+  -- At most one message, later than m, weighs less than m.
+  measure-later :
+      (m : Message) (l : List Message) →
+      hour M m < never →
+      length l ≤ 1 →
+      All (λ y. hour M m < hour M y) l →
+      All (λ y. hour M y < never) l →
+      measure M l < never - hour M m
+  unfolding measure
+  measure-later m [] d n a b = omega arith
+  measure-later m (y ∷ []) d n (cons h a) (cons k b) = omega arith
+  measure-later m (y ∷ (z ∷ l)) d n a b = absurd (omega arith)
+
+  measure-none : (l : List Message) → All (λ y. hour M y < never) l → measure M l ≤ 0 → l ≡ []
+  unfolding measure
+  measure-none [] a e = refl
+  measure-none (m ∷ l) (cons h a) e = absurd (omega arith)
+
+module _ (M : Model) (laws : ModelLaws M) where
+  open Model M using (Message, to, last, never, opening)
+
   module _ (m : Message) (rest list : List Message) (h : ℕ → List Message) (taken : Insert m rest list) (least : All (NotLater M m) rest) (k
-      : Kept (record { list = list; done = h })) where
+      : Kept M (record { list = list; done = h })) where
+    -- m is addressed to one of the gateways.
+    to-gateway : to m ≤ last
+    to-gateway = all-taken taken (k .inside)
+
     sent : List Message
     sent = sentBy M (to m) (h (to m)) m
 
@@ -69,7 +105,7 @@ module _ (M : Model) where
     unfolding sent
     up-to-next i d a b =
         all-append
-        (all-map (λ y l. all-map (λ p c. order-trans M p m y c (order-hour M m y l)) a) (sent-later M (to m) (h (to m)) m))
+        (all-map (λ y l. all-map (λ p c. order-trans M p m y c (order-hour M m y l)) a) (sent-later M laws (to m) to-gateway (h (to m)) m))
         b
 
     balance-next : (x : Message) → to x ≤ last → times M x (opening (to x)) + sum (suc last) (λ j. times M x (sentIn M j (change (to m) (m ∷
@@ -79,7 +115,7 @@ module _ (M : Model) where
       where
         total : sum (suc last) (λ j. times M x (sentIn M j (change (to m) (m ∷ h (to m)) h j))) + times M x (sentIn M (to m) (h (to m))) ≡
             sum (suc last) (λ j. times M x (sentIn M j (h j))) + times M x (sentIn M (to m) (m ∷ h (to m)))
-        total = sum-change (suc last) (to m) (m ∷ h (to m)) h (λ j d. times M x (sentIn M j d)) (omega (arith, all-taken taken (k .inside)))
+        total = sum-change (suc last) (to m) (m ∷ h (to m)) h (λ j d. times M x (sentIn M j d)) (omega (arith, to-gateway))
 
         go : Changed (to m) (m ∷ h (to m)) h (to x) → times M x (opening (to x)) + sum (suc last) (λ j. times M x (sentIn M j (change (to m)
             (m ∷ h (to m)) h j))) ≡ times M x (change (to m) (m ∷ h (to m)) h (to x)) + times M x (sentBy M (to m) (h (to m)) m ++ rest)
@@ -107,7 +143,7 @@ module _ (M : Model) where
               matches-other (message-eq M) {a = x} {b = m} (λ e. p (sym (ap to e))),
             )
 
-    kept-do : Kept (doNext M m rest h)
+    kept-do : Kept M (doNext M m rest h)
     unfolding doNext sent
     kept-do =
         record {
@@ -130,101 +166,78 @@ module _ (M : Model) where
               (up-to-next (to m) (m ∷ h (to m)) (cons (order-refl M m) (up-to-m (to m))) (all-both (λ y a b. cons a b) least (all-rest taken
               (k .up-to (to m)))))
               (λ i. up-to-next i (h i) (up-to-m i) (all-rest taken (k .up-to i)));
-          inside = all-append (sent-inside M (to m) (h (to m)) m) (all-rest taken (k .inside));
-          due = all-append (sent-due M (to m) (h (to m)) m) (all-rest taken (k .due));
+          inside = all-append (sent-inside M laws (to m) to-gateway (h (to m)) m) (all-rest taken (k .inside));
+          due = all-append (sent-due M laws (to m) to-gateway (h (to m)) m) (all-rest taken (k .due));
           balance = balance-next;
         }
-
-  -- The measure of a list with a message more, and of two lists.
-  measure-insert : {m : Message} {l k : List Message} → Insert m l k → measure M k ≡ (never - hour M m) + measure M l
-  unfolding measure
-  measure-insert here = refl
-  measure-insert (there i) = omega (arith, measure-insert i)
-
-  measure-append : (l k : List Message) → measure M (l ++ k) ≡ measure M l + measure M k
-  unfolding measure
-  measure-append [] k = omega arith
-  measure-append (m ∷ l) k = omega (arith, measure-append l k)
-
-  -- At most one message, later than m, weighs less than m.
-  measure-later :
-      (m : Message) (l : List Message) →
-      hour M m < never →
-      length l ≤ 1 →
-      All (λ y. hour M m < hour M y) l →
-      All (λ y. hour M y < never) l →
-      measure M l < never - hour M m
-  unfolding measure
-  measure-later m [] d n a b = omega arith
-  measure-later m (y ∷ []) d n (cons h a) (cons k b) = omega arith
-  measure-later m (y ∷ (z ∷ l)) d n a b = absurd (omega arith)
-
-  sent-one : (i : ℕ) (h : List Message) (m : Message) → length (sentBy M i h m) ≤ 1
-  unfolding sentBy
-  sent-one i h m = M .sends-one i _ m
 
   measure-do :
       (m : Message) (rest list : List Message) (h : ℕ → List Message) →
       Insert m rest list →
+      to m ≤ last →
       hour M m < never →
       measure M (doNext M m rest h .list) < measure M list
   unfolding doNext
-  measure-do m rest list h taken d =
+  measure-do m rest list h taken inside d =
+      let sent = sentBy M (to m) (h (to m)) m in
       omega (
         arith,
-        measure-insert taken,
-        measure-append (sentBy M (to m) (h (to m)) m) rest,
-        measure-later m (sentBy M (to m) (h (to m)) m) d (sent-one (to m) (h (to m)) m) (sent-later M (to m) (h (to m)) m) (sent-due M (to m) (h (to m)) m),
+        measure-insert M taken,
+        measure-append M sent rest,
+        measure-later
+            M
+            m
+            sent
+            d
+            (sent-one M laws (to m) inside (h (to m)) m)
+            (sent-later M laws (to m) inside (h (to m)) m)
+            (sent-due M laws (to m) inside (h (to m)) m),
       )
 
-  kept-next : (l : List Message) (h : ℕ → List Message) → Kept (record { list = l; done = h }) → Kept (next M l h)
+  kept-next : (l : List Message) (h : ℕ → List Message) → Kept M (record { list = l; done = h }) → Kept M (next M l h)
   unfolding next
   kept-next [] h k = k
-  kept-next (m ∷ l) h k = kept-do (earliest M m l) (others M m l) (m ∷ l) h (first-taken m l) (first-least m l) k
+  kept-next (m ∷ l) h k = kept-do (earliest M m l) (others M m l) (m ∷ l) h (first-taken M m l) (first-least M m l) k
 
-  measure-next : (l : List Message) (h : ℕ → List Message) (n : ℕ) → Kept (record { list = l; done = h }) → measure M l ≤ suc n → measure M
+  measure-next : (l : List Message) (h : ℕ → List Message) (n : ℕ) → Kept M (record { list = l; done = h }) → measure M l ≤ suc n → measure M
       (next M l h .list) ≤ n
   unfolding next measure
   measure-next [] h n k e = omega arith
   measure-next (m ∷ l) h n k e =
+      let taken = first-taken M m l in
       omega
-      (arith, measure-do (earliest M m l) (others M m l) (m ∷ l) h (first-taken m l) (all-taken (first-taken m l) (k .due)))
+      (arith, measure-do (earliest M m l) (others M m l) (m ∷ l) h taken (all-taken taken (k .inside)) (all-taken taken (k .due)))
 
-  kept-steps : (n : ℕ) (q : Queue Message) → Kept q → Kept (steps M n q)
+  kept-steps : (n : ℕ) (q : Queue Message) → Kept M q → Kept M (steps M n q)
   unfolding steps
   kept-steps zero q k = k
   kept-steps (suc n) q k = kept-steps n (next M (q .list) (q .done)) (kept-next (q .list) (q .done) k)
 
-  measure-steps : (n : ℕ) (q : Queue Message) → Kept q → measure M (q .list) ≤ n → measure M (steps M n q .list) ≤ 0
+  measure-steps : (n : ℕ) (q : Queue Message) → Kept M q → measure M (q .list) ≤ n → measure M (steps M n q .list) ≤ 0
   unfolding steps
   measure-steps zero q k e = e
   measure-steps (suc n) q k e =
       measure-steps n (next M (q .list) (q .done)) (kept-next (q .list) (q .done) k) (measure-next (q .list) (q .done) n k e)
 
-  measure-none : (l : List Message) → All (λ y. hour M y < never) l → measure M l ≤ 0 → l ≡ []
-  unfolding measure
-  measure-none [] a e = refl
-  measure-none (m ∷ l) (cons h a) e = absurd (omega arith)
-
   -- All opening lists together hold what the addressee's holds.
-  opening-elsewhere : (x : Message) (i : ℕ) → to x ≢ i → times M x (opening i) ≡ 0
-  opening-elsewhere x i e = count-none (message-eq M) x (M .opening-here i) e
+  opening-elsewhere : (x : Message) (i : ℕ) → i ≤ last → to x ≢ i → times M x (opening i) ≡ 0
+  opening-elsewhere x i inside e = count-none (message-eq M) x (laws .opening-here i inside) e
 
-  together-none : (x : Message) (n : ℕ) → n ≤ to x → times M x (together n opening) ≡ 0
+  together-none : (x : Message) (n : ℕ) → n ≤ suc last → n ≤ to x → times M x (together n opening) ≡ 0
   unfolding together
-  together-none x zero e = count-nil (message-eq M) x
-  together-none x (suc n) e =
+  together-none x zero inside e = count-nil (message-eq M) x
+  together-none x (suc n) inside e =
       omega (
         arith,
         count-append (message-eq M) x (together n opening) (opening n),
-        together-none x n (omega arith),
-        opening-elsewhere x n (omega arith),
+        together-none x n (omega arith) (omega arith),
+        opening-elsewhere x n (omega arith) (omega arith),
       )
 
-  together-times : (x : Message) (n : ℕ) → to x < n → times M x (together n opening) ≡ times M x (opening (to x))
+  together-times : (x : Message) (n : ℕ) → n ≤ suc last → to x < n → times M x (together n opening) ≡ times M x (opening (to x))
   unfolding together
-  together-times x zero e = absurd (omega arith)
-  together-times x (suc n) e = go (ℕ-discrete (to x) n) (together-times x n)
+  together-times x zero inside e = absurd (omega arith)
+  together-times x (suc n) inside e = go (ℕ-discrete (to x) n) (together-times x n (omega arith))
     where
       go : Dec (to x ≡ n) → (to x < n → times M x (together n opening) ≡ times M x (opening (to x))) → times M x (together n opening ++
           opening n) ≡ times M x (opening (to x))
@@ -232,7 +245,7 @@ module _ (M : Model) where
           omega (
             arith,
             count-append (message-eq M) x (together n opening) (opening n),
-            together-none x n (omega arith),
+            together-none x n (omega arith) (omega arith),
             ap (λ i. times M x (opening i)) p,
           )
       go (no p) ih =
@@ -240,10 +253,10 @@ module _ (M : Model) where
             arith,
             count-append (message-eq M) x (together n opening) (opening n),
             ih (omega arith),
-            opening-elsewhere x n p,
+            opening-elsewhere x n (omega arith) p,
           )
 
-  kept-opening : Kept (openingQueue M)
+  kept-opening : Kept M (openingQueue M)
   unfolding openingQueue sentIn hour
   kept-opening =
       record {
@@ -251,12 +264,12 @@ module _ (M : Model) where
         here = λ i. nil;
         done-due = λ i. nil;
         up-to = λ i. all-every (λ y. nil) _;
-        inside = together-all (suc last) opening (λ i e. all-map (λ y p. omega arith) (M .opening-here i));
-        due = together-all (suc last) opening (λ i e. M .opening-due i);
+        inside = together-all (suc last) opening (λ i e. all-map (λ y p. omega arith) (laws .opening-here i (omega arith)));
+        due = together-all (suc last) opening (λ i e. laws .opening-due i (omega arith));
         balance =
             λ x e. omega (
               arith,
-              together-times x (suc last) (omega arith),
+              together-times x (suc last) (omega arith) (omega arith),
               count-nil (message-eq M) x,
               sum-agree (suc last) (λ k. times M x []) (λ k. 0) (λ k l. count-nil (message-eq M) x),
               sum-constant (suc last) 0,
@@ -267,14 +280,14 @@ module _ (M : Model) where
   final : Queue Message
   final = steps M (measure M (openingQueue M .list)) (openingQueue M)
 
-  final-kept : Kept final
+  final-kept : Kept M final
   unfolding final
   final-kept = kept-steps (measure M (openingQueue M .list)) (openingQueue M) kept-opening
 
   -- The single queue ends: nothing is left in its list.
   pub queue-ends : steps M (measure M (openingQueue M .list)) (openingQueue M) .list ≡ []
   unfolding final
-  queue-ends = measure-none _ (final-kept .due) (measure-steps (measure M (openingQueue M .list)) (openingQueue M) kept-opening (omega arith))
+  queue-ends = measure-none M _ (final-kept .due) (measure-steps (measure M (openingQueue M .list)) (openingQueue M) kept-opening (omega arith))
 
   -- So its histories account for every message.
   pub queue-accounts : (t : ℕ) → Accounts M t (singleHistory M)
@@ -282,7 +295,7 @@ module _ (M : Model) where
   queue-accounts t =
       record {
         sorted = final-kept .sorted;
-        here = final-kept .here;
+        here = λ i inside. final-kept .here i;
         balance =
             λ x inside e. omega
             (arith, final-kept .balance x inside, ap (times M x) queue-ends, count-nil (message-eq M) x);

@@ -9,7 +9,7 @@ use Rattle.lists.specs.Lists.{All, nil, cons}
 use Rattle.lists.specs.Families.{sum}
 use Rattle.lists.proofs.ListLaws.{all-map, count-none, matches-other}
 use Rattle.lists.proofs.FamilyLaws.{sum-agree}
-use Rattle.event_steps.specs.Models.{Model, hour}
+use Rattle.event_steps.specs.Models.{Model, ModelLaws, hour}
 use Rattle.event_steps.proofs.OrderLaws.{Sorted, newest, sorted-unique, hour-order, message-eq}
 use Rattle.event_steps.proofs.EventCounts.{times, times-cons}
 use Rattle.event_steps.proofs.Addressing.{sent-later}
@@ -61,19 +61,21 @@ module _ (M : Model) where
 
   -- What a history sent up to hour t, its events below t sent.
   below-sent :
+      ModelLaws M →
       (i : ℕ) {t : ℕ} {h b : List Message} →
+      i ≤ last →
       Below t h b →
       (x : Message) →
       hour M x ≤ t →
       times M x (sentIn M i b) ≡ times M x (sentIn M i h)
-  below-sent i ends x k = refl
-  below-sent i (keeps e) x k = refl
-  below-sent i (drops {m = m} {h = h} e r) x k =
+  below-sent laws i inside ends x k = refl
+  below-sent laws i inside (keeps e) x k = refl
+  below-sent laws i inside (drops {m = m} {h = h} e r) x k =
       omega (
         arith,
-        below-sent i r x k,
+        below-sent laws i inside r x k,
         sent-cons M i x m h,
-        count-none (message-eq M) x (sent-later M i h m) (λ l. omega arith),
+        count-none (message-eq M) x (sent-later M laws i inside h m) (λ l. omega arith),
       )
 
   -- A beginning that lies below t is a beginning of what is below t.
@@ -97,14 +99,14 @@ module _ (M : Model) where
   -- it was there at first or was sent as often as it was done.
   pub record Accounts (t : ℕ) (h : ℕ → List Message) : Type 0 where
     pub sorted : (i : ℕ) → Sorted M (h i)
-    pub here : (i : ℕ) → All (λ m. to m ≡ i) (h i)
+    pub here : (i : ℕ) → i ≤ last → All (λ m. to m ≡ i) (h i)
     pub balance :
         (x : Message) →
         to x ≤ last →
         hour M x < t →
         times M x (opening (to x)) + sum (suc last) (λ j. times M x (sentIn M j (h j))) ≡ times M x (h (to x))
 
-  module _ {G : ℕ} {h k : ℕ → List Message} (a : Accounts G h) (c : Accounts G k) where
+  module _ (laws : ModelLaws M) {G : ℕ} {h k : ℕ → List Message} (a : Accounts G h) (c : Accounts G k) where
     -- Below t they agree.
     abbrev pub Agree : ℕ → Type 0
     Agree t = (i : ℕ) → i ≤ last → (b d : List Message) → Below t (h i) b → Below t (k i) d → b ≡ d
@@ -121,10 +123,13 @@ module _ (M : Model) where
         (suc last)
         (λ j. times M x (sentIn M j (h j)))
         (λ j. times M x (sentIn M j (k j)))
-        (λ j inside.
+        (λ j fits.
+        let inside : j ≤ last = omega arith in
         let b = below t (h j) in
         let d = below t (k j) in
-        sym (below-sent j (b .1) x l) ∙ ap (λ z. times M x (sentIn M j z)) (agree j (omega arith) (b .0) (d .0) (b .1) (d .1)) ∙ below-sent j (d .1) x l)
+        sym (below-sent laws j inside (b .1) x l)
+        ∙ ap (λ z. times M x (sentIn M j z)) (agree j inside (b .0) (d .0) (b .1) (d .1))
+        ∙ below-sent laws j inside (d .1) x l)
 
     -- Below t they have the same of each message if it is so for messages that have an hour below t and are addressed there.
     same-parts :
@@ -138,7 +143,7 @@ module _ (M : Model) where
         go x (yes l) (yes f) =
             below-count p x l ∙ subst (λ (j : ℕ). times M x (h j) ≡ times M x (k j)) f (e x (omega arith) l) ∙ sym (below-count q x l)
         go x (yes l) (no f) =
-            count-none (message-eq M) x (below-any p (a .here i)) f ∙ sym (count-none (message-eq M) x (below-any q (c .here i)) f)
+            count-none (message-eq M) x (below-any p (a .here i inside)) f ∙ sym (count-none (message-eq M) x (below-any q (c .here i inside)) f)
         go x (no l) f =
             count-none (message-eq M) x (below-early p (a .sorted i)) l ∙ sym (count-none (message-eq M) x (below-early q (c .sorted i)) l)
 

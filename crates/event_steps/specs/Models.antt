@@ -34,18 +34,21 @@ pub record Model : Type 1 where
   pub sends : ℕ → State → Message → List Message
   -- Messages with equal keys are equal.
   pub key-injective : (x y : Message) → key x ≡ key y → x ≡ y
-  -- Openings are addressed to their gateway and have an hour.
-  pub opening-here : (i : ℕ) → All (λ y. to y ≡ i) (opening i)
-  pub opening-due : (i : ℕ) → All (λ y. first (key y) < never) (opening i)
-  -- At most one message is sent. It goes from the gateway that sends it to one of the gateways, and is due later than its cause.
-  pub sends-one : (i : ℕ) (s : State) (m : Message) → length (sends i s m) ≤ 1
-  pub sends-from : (i : ℕ) (s : State) (m : Message) → All (λ y. from y ≡ i) (sends i s m)
-  pub sends-inside : (i : ℕ) (s : State) (m : Message) → All (λ y. to y ≤ last) (sends i s m)
-  pub sends-later : (i : ℕ) (s : State) (m : Message) → All (λ y. first (key m) < first (key y)) (sends i s m)
-  pub sends-due : (i : ℕ) (s : State) (m : Message) → All (λ y. first (key y) < never) (sends i s m)
 
 module _ (M : Model) where
-  open Model M using (Message, State, key, start, step, sends)
+  open Model M using (Message, State, key, from, to, last, never, start, opening, step, sends)
+
+  -- What is asked of a model: of the gateways 0 to `last`, and of no other number.
+  pub record ModelLaws : Type 0 where
+    -- Openings are addressed to their gateway and have an hour.
+    pub opening-here : (i : ℕ) → i ≤ last → All (λ y. to y ≡ i) (opening i)
+    pub opening-due : (i : ℕ) → i ≤ last → All (λ y. first (key y) < never) (opening i)
+    -- At most one message is sent. It goes from the gateway that sends it to one of the gateways, and is due later than its cause.
+    pub sends-one : (i : ℕ) → i ≤ last → (s : State) (m : Message) → length (sends i s m) ≤ 1
+    pub sends-from : (i : ℕ) → i ≤ last → (s : State) (m : Message) → All (λ y. from y ≡ i) (sends i s m)
+    pub sends-inside : (i : ℕ) → i ≤ last → (s : State) (m : Message) → All (λ y. to y ≤ last) (sends i s m)
+    pub sends-later : (i : ℕ) → i ≤ last → (s : State) (m : Message) → All (λ y. first (key m) < first (key y)) (sends i s m)
+    pub sends-due : (i : ℕ) → i ≤ last → (s : State) (m : Message) → All (λ y. first (key y) < never) (sends i s m)
 
   -- A message's hour.
   unfoldable pub hour : Message → ℕ

@@ -6,13 +6,13 @@ use Rattle.memory.specs.Records.{Gateway}
 use Rattle.memory.specs.Codec.{decode}
 use Rattle.gateway.specs.Claims.{SoundBytes}
 use Rattle.gateway.proofs.Maintaining.{Proper}
-use Rattle.event_steps.specs.Models.{Model}
+use Rattle.event_steps.specs.Models.{Model, ModelLaws}
 use Rattle.timewarp.specs.Worlds as Worlds
 use Rattle.timewarp.proofs.Joined.{Good, good}
 use Rattle.run.specs.Forecast.{SetUpInput}
 use Rattle.run.specs.World.{World}
 use Rattle.run.proofs.FigureGraph.{figureGraph}
-use Rattle.run.proofs.ForecastModel.{forecastModel}
+use Rattle.run.proofs.ForecastModel.{forecastModel, forecastLaws}
 use Rattle.run.proofs.EventCalls.{Stands}
 use Rattle.run.proofs.EventWorlds.{settingOf, Sees}
 use Rattle.run.proofs.RoundChains.{setting}
@@ -61,9 +61,12 @@ module _ (n : ℕ) (some : 1 ≤ n) (last : ℕ) (setups : ℕ → SetUpInput) w
     pub both : Both w′ world
 
   module _ {w : World} {t : Worlds.World forecastSetting} (b : Both w t) where
-    -- the invariants of the theory
+    -- the model's laws and the invariants of the theory
+    pub model-laws : ModelLaws model
+    model-laws = forecastLaws n last setups some (λ i h. b .stands i h .settled)
+
     pub good-world : Good forecastSetting t
-    good-world = good forecastSetting (b .beside .reached)
+    good-world = good forecastSetting model-laws (b .beside .reached)
 
     module _ (i : ℕ) (h : i < n) where
       -- what the memory of gateway i holds

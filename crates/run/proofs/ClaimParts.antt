@@ -15,7 +15,7 @@ use Rattle.memory.specs.Soundness.{sound}
 use Rattle.gateway.specs.Committing.{commit}
 use Rattle.gateway.specs.Working.{pendingOf}
 use Rattle.gateway.specs.Calls.{committed}
-use Rattle.event_steps.specs.Models.{hour, first}
+use Rattle.event_steps.specs.Models.{ModelLaws, hour, first}
 use Rattle.event_steps.specs.Gateways.{Event, message, Gateway as View, Network}
 use Rattle.event_steps.specs.SingleQueue as Theory
 use Rattle.round_steps.specs.Arcs.{Graph}
@@ -56,12 +56,12 @@ module _ (n last : ℕ) (setups : ℕ → SetUpInput) (G : Graph) (same : G .las
     pub records : (i : ℕ) → i < n → w .records i ≡ historyRecord n last setups i (done i)
     pub ledgers : (i : ℕ) → i < n → Follows n last setups (decode (w .memories i) .queue) (w .ledgers i)
 
-  module _ (w : World) (t : Worlds.World S) (b : Beside w t) where
+  module _ (laws : ModelLaws (forecastModel n last setups)) (w : World) (t : Worlds.World S) (b : Beside w t) where
     -- each committed record is a beginning of the single queue's
     pub beginning-part : (i : ℕ) → i < n → wholeRecord n last setups i ≡ historyRecord n last setups i (Theory.singleHistory (forecastModel
         n last setups) i) → Beginning (w .records i) (wholeRecord n last setups i)
     beginning-part i h whole =
-        let r = claim-holds S (b .reached) .beginning i (omega arith) in
+        let r = claim-holds S laws (b .reached) .beginning i (omega arith) in
         record-begins n last setups i (b .done i) (w .records i) (b .records i h) whole (r .0) (r .1 ∙ ap (λ (g : View Message). r .0 ++
         g .committed) (b .views i h))
 
@@ -69,7 +69,7 @@ module _ (n last : ℕ) (setups : ℕ → SetUpInput) (G : Graph) (same : G .las
     pub waiting-part : (i j : ℕ) → i < n → j < n → (m : Message) → m ∈ waiting (w .ledgers j) → agreed w i ≤ m .hour
     unfolding hour first key
     waiting-part i j h k m d =
-        let r = claim-holds S (b .reached) in
+        let r = claim-holds S laws (b .reached) in
         waiting-have n last setups (decode (w .memories j) .queue) (w .ledgers j) (b .ledgers j k)
         (subst (λ (x : ℕ). All (λ y. x ≤ y .hour) (pendingOf (decode (w .memories j) .queue))) (b .times i h)
         (subst (λ (g : View Message). All (λ (y : Message). t .rounds .agreed i ≤ y .hour) (g .pending)) (b .views j k) (r .bound-pending i
@@ -84,7 +84,7 @@ module _ (n last : ℕ) (setups : ℕ → SetUpInput) (G : Graph) (same : G .las
     pub underWay-part : (i : ℕ) → i < n → (c : Carried) → c ∈ w .underWay → kindIn (c .frame) < 4 → agreed w i ≤ reading (c .frame) .frame .message .hour
     unfolding hour first key
     underWay-part i h c d small =
-        let r = claim-holds S (b .reached) in
+        let r = claim-holds S laws (b .reached) in
         bound-seen (λ m. agreed w i ≤ m .hour) (w .underWay)
         (subst (λ (x : ℕ). All (λ (e : Event Message). x ≤ message e .hour) (seenIn eventOf (w .underWay))) (b .times i h)
         (subst (λ (k : Network Message). All (λ (e : Event Message). t .rounds .agreed i ≤ message e .hour) (k .events)) (b .network)
@@ -103,6 +103,6 @@ module _ (n last : ℕ) (setups : ℕ → SetUpInput) (G : Graph) (same : G .las
     whole-part i h whole due nothing =
         let v = b .views i h in
         let left = nothing-to-commit (length (nothing .0)) (decode (w .memories i)) (sym (commit-number (w .memories i) (nothing .0) (b .is-sound i h)) ∙ nothing .1) in
-        let all = claim-holds S (b .reached) .whole i (omega arith) (omega (arith, b .times i h))
+        let all = claim-holds S laws (b .reached) .whole i (omega arith) (omega (arith, b .times i h))
         (λ m newer e. omega (arith, left m newer (ap (λ (g : View Message). g .processed) (sym v) ∙ e), b .times i h, b .gateway-times i h)) in
         b .records i h ∙ ap (historyRecord n last setups i) (ap (λ (g : View Message). g .committed) (sym v) ∙ all) ∙ sym whole

@@ -15,15 +15,17 @@ use Rattle.model.specs.Messages.{originOf}
 use Rattle.model.specs.declared.Message.{Message}
 use Rattle.model.specs.declared.State.{State}
 use Rattle.model.specs.declared.Site.{Site}
-use Rattle.memory.specs.Records.{Gateway, siteOf, usualHours}
+use Rattle.memory.specs.Records.{Gateway, siteOf}
 use Rattle.memory.specs.Validity.{isPending, isProcessed, isWaiting, equal, later}
 use Rattle.memory.specs.declared.Entry.{Entry}
 use Rattle.memory.specs.declared.Sent.{Sent}
 use Rattle.memory.specs.declared.Round.{Round}
+use Rattle.memory.specs.declared.Settings.{Settings}
 use Rattle.memory.proofs.EventLaws.{equal-same, not-later-self}
 use Rattle.memory.proofs.Validated.{Valid, MayStand, first-of}
 use Rattle.lists.proofs.BoolLaws.{and-left, and-right}
 use Rattle.gateway.specs.Effects.{withQueue, withState, withRound, withOutstanding, noted, sentOne, sentAll}
+use Rattle.gateway.specs.SettingUp.{settingsOf}
 use Rattle.gateway.specs.Undoing.{processedOf, pendingEntry, undone, restored, sentBack, rolledBack}
 use Rattle.gateway.specs.Working.{pendingOf, processedNext, done}
 use Rattle.lists.specs.Lists.{beforeFirst, fromFirst}
@@ -35,7 +37,7 @@ use Rattle.event_steps.specs.EventSteps.{does, takes, takesAcknowledgment, comm
 use Rattle.timewarp.proofs.CallChains.{insert-append}
 use Rattle.run.specs.Forecast.{SetUpInput}
 use Rattle.run.proofs.EventOrders.{not-later-keys, later-keys}
-use Rattle.run.proofs.ForecastModel.{forecastModel, siteAt, sendsAt, sends-all-sent}
+use Rattle.run.proofs.ForecastModel.{forecastModel, siteAt, Settled, sendsAt, sends-all-sent}
 use Rattle.run.proofs.QueueViews.{eventIf, eventFor, doneAfter, waitingOf, viewOf, done-append, done-history, pending-append}
 use Rattle.run.proofs.QueueViews.{waiting-append, undone-done, undone-waiting, Marked, marked, pending, processed, waiting}
 use Rattle.run.proofs.SavedStates.{stateAt, Saved, saved-front, saved-back, saved-join, saved-state, saved-restored, saved-undone, saved-more}
@@ -93,18 +95,28 @@ pub ascending-right : {A : Type 0} {R : A → A → Type 0} (us : List A) {vs : 
 ascending-right [] a = a
 ascending-right (u ∷ us) (more f a) = ascending-right us a
 
+-- gateway i of the forecast, which has committed c
+pub record Stands (n last : ℕ) (setups : ℕ → SetUpInput) (i : ℕ) (c : List Message) (g : Gateway) : Type 0 where
+  -- its settings are those that it was set up with, and are the forecast's
+  pub settings : g .settings ≡ settingsOf (setups i .opening)
+  pub settled : Settled n last setups i
+  pub valid : Valid g
+  pub saved : Saved n last setups i c (g .queue) (g .state)
+
+-- its number, how many gateways there are, and the last hour
+module _ {n last : ℕ} {setups : ℕ → SetUpInput} {i : ℕ} {c : List Message} {g : Gateway} (st : Stands n last setups i c g) where
+  pub own-is : g .settings .own ≡ i
+  own-is = ap (λ (s : Settings). s .own) (st .settings) ∙ st .settled .own
+
+  pub count-is : g .settings .n ≡ n
+  count-is = ap (λ (s : Settings). s .n) (st .settings) ∙ st .settled .count
+
+  pub until-is : g .settings .last ≡ last
+  until-is = ap (λ (s : Settings). s .last) (st .settings) ∙ st .settled .until
+
 module _ (n last : ℕ) (setups : ℕ → SetUpInput) (i : ℕ) where
   abbrev model : Model
   model = forecastModel n last setups
-
-  -- gateway i of the forecast, which has committed c
-  pub record Stands (c : List Message) (g : Gateway) : Type 0 where
-    pub own : g .settings .own ≡ i
-    pub count : g .settings .n ≡ n
-    pub until : g .settings .last ≡ last
-    pub supplier : g .settings .supplier ≡ setups i .opening .supplier
-    pub valid : Valid g
-    pub saved : Saved n last setups i c (g .queue) (g .state)
 
   -- the gateway's view changes in steps
   abbrev pub Moves : ℕ → List Message → Gateway → List (Event Message) → List (Event Message) → List Message → List Message → Gateway → List
@@ -125,20 +137,20 @@ module _ (n last : ℕ) (setups : ℕ → SetUpInput) (i : ℕ) where
     chain-to : {g h k : View Message} → k ≡ h → Chain model i time g m s h m′ → Chain model i time g m s k m′
     chain-to {g} e c = subst (λ x. Chain model i time g m s x m′) (sym e) c
 
-  module _ (c : List Message) (g : Gateway) (st : Stands c g) where
-    site : siteOf (g .settings) ≡ siteAt n last setups i
-    site = λ k. record { own = st .own k; supplier = st .supplier k; last = st .until k; hours = usualHours }
+  module _ (c : List Message) (g : Gateway) (st : Stands n last setups i c g) where
+    site : siteOf (g .settings) ≡ siteAt setups i
+    site = ap siteOf (st .settings)
 
     sends-all : SendsAll n last setups i
     sends-all =
         let s = st .valid .settings in
         sends-all-sent n last setups i
-        (omega (arith, s .own, st .own, st .count))
-        (omega (arith, s .supplier, st .supplier, st .count))
-        (omega (arith, s .last, st .until))
+        (omega (arith, s .own, own-is st, count-is st))
+        (st .settled)
+        (omega (arith, s .last, until-is st))
 
     origins : (x : Entry) → x ∈ g .queue → originOf (x .message .kind) < n
-    origins x k = omega (arith, st .valid .entries x k .message .origin, st .count)
+    origins x k = omega (arith, st .valid .entries x k .message .origin, count-is st)
 
     -- doing the earliest pending message
     pub did : (m : Message) → done m g .gateway ≡

@@ -34,7 +34,7 @@ use Rattle.timewarp.specs.Worlds.{World}
 use Rattle.run.specs.Forecast.{SetUpInput}
 use Rattle.run.specs.Ledger as Ledger
 use Rattle.run.specs.World.{Carried, isFrame, takenBySense}
-use Rattle.run.proofs.EventCalls.{Stands, notedAll, plainBack, plain-saved, cancelBack, cancel-saved}
+use Rattle.run.proofs.EventCalls.{Stands, own-is, count-is, until-is, notedAll, plainBack, plain-saved, cancelBack, cancel-saved}
 use Rattle.run.proofs.EventsUnderWay.{IsEvent}
 use Rattle.run.proofs.AcceptedFrames.{outcomeOf, acknowledgmentSense, Accepted, plain-taken, cancel-taken, acknowledgment-taken}
 use Rattle.run.proofs.AcceptedFrames.{start-taken, lvt-taken, update-taken}
@@ -62,7 +62,7 @@ module _ (n last : ℕ) (setups : ℕ → SetUpInput) (G : Graph) (same : G .las
 
   -- the settings are those of the forecast
   settled : {f : Frame} → EventFrame (g .settings .n) (g .settings .last) f → EventFrame n last f
-  settled e = same-limits (st .count) (st .until) e
+  settled e = same-limits (count-is st) (until-is st) e
 
   plain-back-frames : (t : Bool) → any (isCancelOf m) (g .queue) ≡ t → All (EventFrame n last) (framesFor true (plainBack n last setups i c g st m))
   unfolding plainBack
@@ -173,16 +173,16 @@ module _ (n last : ℕ) (setups : ℕ → SetUpInput) (G : Graph) (same : G .las
     })
 
     addressed : (b : Bool) → reading frame .frame .sense ≡ acknowledgmentSense b → m .from ≡ i
-    addressed true s = in-sense s .passes .here ∙ st .own
-    addressed false s = in-sense s .passes .here ∙ st .own
+    addressed true s = in-sense s .passes .here ∙ own-is st
+    addressed false s = in-sense s .passes .here ∙ own-is st
 
     pub taken-goes : (room : ℕ) {o : Outcome} → Accepted room (reading frame .frame) g o → Kept (g .settings) (o .gateway) → TakeGoes o
     taken-goes room (plain-taken s k small due enough) kept =
         let t = accepted-good (g .settings) false m (omega arith) (in-sense s) in
-        plain-take s k small (t .here ∙ st .own) due (t .good) kept
+        plain-take s k small (t .here ∙ own-is st) due (t .good) kept
     taken-goes room (cancel-taken s due enough) kept =
         let t = accepted-good (g .settings) true m (omega arith) (in-sense s) in
-        cancel-take s (sensed-kind m Cancel (omega arith) (in-sense s .form)) (t .here ∙ st .own) (t .good) kept
+        cancel-take s (sensed-kind m Cancel (omega arith) (in-sense s .form)) (t .here ∙ own-is st) (t .good) kept
     taken-goes room (acknowledgment-taken b s out) kept = acknowledgment-take b s (addressed b s) out kept
     taken-goes room (start-taken s k number) kept = absurd (omega (arith, ap kindNumber k))
     taken-goes room (lvt-taken s k due number) kept = absurd (omega (arith, ap kindNumber k))

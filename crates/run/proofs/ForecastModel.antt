@@ -1,5 +1,5 @@
 -- The model of a forecast: the lamp model at N gateways, as the abstract theory knows a model.
-use mathlib.Core.Path.{_≡_, refl}
+use mathlib.Core.Path.{_≡_, refl, _∙_}
 use Prim.Native.Nat.{ℕ, _+_, _-_, _≤_, _<_}
 use native.Mathlib.Omega.{arith}
 use mathlib.Core.Bool.{Bool, true, false, cond, _&&_}
@@ -21,11 +21,11 @@ use Rattle.model.specs.Claims.{AtLeastOne}
 use Rattle.model.proofs.Ordered.{key-injective}
 use Rattle.model.proofs.Sending.{sending}
 use Rattle.frame.specs.Limits.{nothingDue}
-use Rattle.memory.specs.Records.{usualHours}
 use Rattle.lists.proofs.BoolLaws.{and-left, and-right, and-both}
-use Rattle.gateway.specs.SettingUp.{cutFrames, queued}
+use Rattle.memory.specs.Records.{siteOf, usualHours}
+use Rattle.gateway.specs.SettingUp.{settingsOf, cutFrames, queued}
 use Rattle.gateway.specs.Working.{pendingOf}
-use Rattle.event_steps.specs.Models.{Model, first}
+use Rattle.event_steps.specs.Models.{Model, ModelLaws, first}
 use Rattle.run.specs.Forecast.{SetUpInput}
 
 -- the elements that pass the test
@@ -79,10 +79,17 @@ all-of-one (x ∷ y ∷ xs) h f = absurd (omega arith)
 pub usual-timely : AtLeastOne usualHours
 usual-timely = record { request = omega arith; delivery = omega arith; life = omega arith }
 
+-- where gateway i does its messages
+abbrev pub siteAt : (ℕ → SetUpInput) → ℕ → Site
+siteAt setups i = siteOf (settingsOf (setups i .opening))
+
 module _ (n last : ℕ) (setups : ℕ → SetUpInput) where
-  -- where gateway i does its messages
-  abbrev pub siteAt : ℕ → Site
-  siteAt i = record { own = i; supplier = setups i .opening .supplier; last = last; hours = usualHours }
+  -- the settings of gateway i are the forecast's
+  pub record Settled (i : ℕ) : Type 0 where
+    pub own : setups i .opening .own ≡ i
+    pub count : setups i .opening .n ≡ n
+    pub until : setups i .opening .last ≡ last
+    pub supplied : setups i .opening .supplier < n
 
   -- a message to one of the gateways, of an hour
   abbrev pub deliverable : Message → Bool
@@ -98,43 +105,43 @@ module _ (n last : ℕ) (setups : ℕ → SetUpInput) where
 
   -- what doing m at gateway i sends
   unfoldable pub sendsAt : ℕ → State → Message → List Message
-  sendsAt i s m = passing deliverable (sent (siteAt i) s m)
+  sendsAt i s m = passing deliverable (sent (siteAt setups i) s m)
 
   -- what is proved of each message that is sent
-  sends-all : (i : ℕ) (s : State) (m : Message) {p : Message → Type 0} → ((x : Message) → sent (siteAt i) s m ≡ x ∷ [] → p x) → All p (sendsAt i s m)
+  sends-all : (i : ℕ) (s : State) (m : Message) {p : Message → Type 0} → ((x : Message) → sent (siteAt setups i) s m ≡ x ∷ [] → p x) → All p (sendsAt i s m)
   unfolding sendsAt
-  sends-all i s m f = passing-all deliverable (all-of-one (sent (siteAt i) s m) (sending (siteAt i) s m .one) f)
+  sends-all i s m f = passing-all deliverable (all-of-one (sent (siteAt setups i) s m) (sending (siteAt setups i) s m .one) f)
 
   sends-pass : (i : ℕ) (s : State) (m : Message) → All (λ x. deliverable x ≡ true) (sendsAt i s m)
   unfolding sendsAt
-  sends-pass i s m = passing-pass deliverable (sent (siteAt i) s m)
+  sends-pass i s m = passing-pass deliverable (sent (siteAt setups i) s m)
 
-  -- the model's laws
-  pub opening-here : (i : ℕ) → All (λ y. y .to ≡ i) (passing (openingHere i) (openingAt i))
+  -- what is asked of the model
+  opening-here : (i : ℕ) → All (λ y. y .to ≡ i) (passing (openingHere i) (openingAt i))
   opening-here i =
       all-map (λ y h. eqb-true (y .to) i (and-left (eqb (y .to) i) (ltb (y .hour) nothingDue) h)) (passing-pass (openingHere i) (openingAt i))
 
-  pub opening-due : (i : ℕ) → All (λ y. first (key y) < nothingDue) (passing (openingHere i) (openingAt i))
+  opening-due : (i : ℕ) → All (λ y. first (key y) < nothingDue) (passing (openingHere i) (openingAt i))
   unfolding first key
   opening-due i =
       all-map (λ y h. ltb-true (y .hour) nothingDue (and-right (eqb (y .to) i) (ltb (y .hour) nothingDue) h)) (passing-pass (openingHere i) (openingAt i))
 
-  pub sends-one : (i : ℕ) (s : State) (m : Message) → length (sendsAt i s m) ≤ 1
+  sends-one : (i : ℕ) (s : State) (m : Message) → length (sendsAt i s m) ≤ 1
   unfolding sendsAt
-  sends-one i s m = omega (arith, passing-length deliverable (sent (siteAt i) s m), sending (siteAt i) s m .one)
+  sends-one i s m = omega (arith, passing-length deliverable (sent (siteAt setups i) s m), sending (siteAt setups i) s m .one)
 
-  pub sends-from : (i : ℕ) (s : State) (m : Message) → All (λ y. y .from ≡ i) (sendsAt i s m)
-  sends-from i s m = sends-all i s m (λ x e. sending (siteAt i) s m .source x e)
+  sends-from : (i : ℕ) → Settled i → (s : State) (m : Message) → All (λ y. y .from ≡ i) (sendsAt i s m)
+  sends-from i settled s m = sends-all i s m (λ x e. sending (siteAt setups i) s m .source x e ∙ settled .own)
 
-  pub sends-inside : (i : ℕ) (s : State) (m : Message) → All (λ y. y .to ≤ n - 1) (sendsAt i s m)
+  sends-inside : (i : ℕ) (s : State) (m : Message) → All (λ y. y .to ≤ n - 1) (sendsAt i s m)
   sends-inside i s m =
       all-map (λ y h. omega (arith, ltb-true (y .to) n (and-left (ltb (y .to) n) (ltb (y .hour) nothingDue) h))) (sends-pass i s m)
 
-  pub sends-later : (i : ℕ) (s : State) (m : Message) → All (λ y. first (key m) < first (key y)) (sendsAt i s m)
+  sends-later : (i : ℕ) (s : State) (m : Message) → All (λ y. first (key m) < first (key y)) (sendsAt i s m)
   unfolding first key
-  sends-later i s m = sends-all i s m (λ x e. sending (siteAt i) s m .later usual-timely x e)
+  sends-later i s m = sends-all i s m (λ x e. sending (siteAt setups i) s m .later usual-timely x e)
 
-  pub sends-due : (i : ℕ) (s : State) (m : Message) → All (λ y. first (key y) < nothingDue) (sendsAt i s m)
+  sends-due : (i : ℕ) (s : State) (m : Message) → All (λ y. first (key y) < nothingDue) (sendsAt i s m)
   unfolding first key
   sends-due i s m =
       all-map (λ y h. ltb-true (y .hour) nothingDue (and-right (ltb (y .to) n) (ltb (y .hour) nothingDue) h)) (sends-pass i s m)
@@ -154,63 +161,76 @@ module _ (n last : ℕ) (setups : ℕ → SetUpInput) where
     step = λ i s m. after s (m .kind);
     sends = sendsAt;
     key-injective = key-injective;
-    opening-here = opening-here;
-    opening-due = opening-due;
-    sends-one = sends-one;
-    sends-from = sends-from;
-    sends-inside = sends-inside;
-    sends-later = sends-later;
-    sends-due = sends-due;
   }
 
-  -- at a gateway below N, with its supplier and the message's origin below N, nothing that the lamp model sends is left out
-  module _ (i : ℕ) (here : i < n) (supplied : setups i .opening .supplier < n) (hours : last < nothingDue) where
-    replied : (m : Message) (extra to : ℕ) (kind : Kind) → to < n → All (λ x. deliverable x ≡ true) (notPast last (reply (siteAt i) m extra to kind))
-    replied m extra to kind h = timely (leb (m .hour + extra) last) refl
+  -- its laws, where every gateway's settings are the forecast's
+  pub forecastLaws : 1 ≤ n → ((i : ℕ) → i < n → Settled i) → ModelLaws forecastModel
+  forecastLaws some settled =
+      record {
+        opening-here = λ i inside. opening-here i;
+        opening-due = λ i inside. opening-due i;
+        sends-one = λ i inside. sends-one i;
+        sends-from = λ i inside. sends-from i (settled i (omega arith));
+        sends-inside = λ i inside. sends-inside i;
+        sends-later = λ i inside. sends-later i;
+        sends-due = λ i inside. sends-due i;
+      }
+
+  -- at a gateway below N, with the message's origin below N, nothing that the lamp model sends is left out
+  module _ (i : ℕ) (here : i < n) (settled : Settled i) (hours : last < nothingDue) where
+    abbrev site : Site
+    site = siteAt setups i
+
+    own-here : site .own < n
+    own-here = omega (arith, settled .own)
+
+    replied : (m : Message) (extra to : ℕ) (kind : Kind) → to < n → All (λ x. deliverable x ≡ true) (notPast (site .last) (reply site m extra to kind))
+    replied m extra to kind h = timely (leb (m .hour + extra) (site .last)) refl
       where
-        timely : (b : Bool) → leb (m .hour + extra) last ≡ b → All (λ x. deliverable x ≡ true) (cond b (reply (siteAt i) m extra to kind ∷ []) [])
+        timely : (b : Bool) → leb (m .hour + extra) (site .last) ≡ b → All (λ x. deliverable x ≡ true) (cond b (reply site m extra to kind ∷ []) [])
         timely true e =
             cons (and-both (ltb to n) (ltb (m .hour + extra) nothingDue) (lt-ltb to n h) (lt-ltb (m .hour + extra) nothingDue (omega (
               arith,
-              leb-true (m .hour + extra) last e,
+              leb-true (m .hour + extra) (site .last) e,
+              settled .until,
             )))) nil
         timely false e = nil
 
-    sent-for : (s : State) (m : Message) (kind : Kind) → originOf kind < n → All (λ x. deliverable x ≡ true) (sentFor (siteAt i) s m kind)
-    sent-for s m (Failure origin) h = replied m _ _ _ supplied
+    sent-for : (s : State) (m : Message) (kind : Kind) → originOf kind < n → All (λ x. deliverable x ≡ true) (sentFor site s m kind)
+    sent-for s m (Failure origin) h = replied m _ _ _ (settled .supplied)
     sent-for s m (Request origin) h = by-stock (ltb 0 (s .stock))
       where
-        by-stock : (b : Bool) → All (λ x. deliverable x ≡ true) (cond b (notPast last (reply (siteAt i) m (siteAt i .hours .delivery) origin (Delivery
-            origin))) (notPast last (reply (siteAt i) m (siteAt i .hours .request) (setups i .opening .supplier) (Request origin))))
+        by-stock : (b : Bool) → All (λ x. deliverable x ≡ true) (cond b (notPast (site .last) (reply site m (site .hours .delivery) origin (Delivery
+            origin))) (notPast (site .last) (reply site m (site .hours .request) (site .supplier) (Request origin))))
         by-stock true = replied m _ origin (Delivery origin) h
-        by-stock false = replied m _ (setups i .opening .supplier) (Request origin) supplied
-    sent-for s m (Delivery origin) h = replied m _ _ _ here
+        by-stock false = replied m _ (site .supplier) (Request origin) (settled .supplied)
+    sent-for s m (Delivery origin) h = replied m _ _ _ own-here
     sent-for s m (Restock quantity) h = nil
     sent-for s m Start h = nil
     sent-for s m Lvt h = nil
     sent-for s m Update h = nil
 
-    pub sends-all-sent : (s : State) (m : Message) → originOf (m .kind) < n → sendsAt i s m ≡ sent (siteAt i) s m
+    pub sends-all-sent : (s : State) (m : Message) → originOf (m .kind) < n → sendsAt i s m ≡ sent site s m
     unfolding sendsAt sent
     sends-all-sent s m h = passing-same deliverable (sent-for s m (m .kind) h)
 
     -- the origin of what is sent is a gateway too
-    not-past : {p : Message → Type 0} (x : Message) → p x → All p (notPast last x)
-    not-past {p} x h = timely (leb (x .hour) last)
+    not-past : {p : Message → Type 0} (x : Message) → p x → All p (notPast (site .last) x)
+    not-past {p} x h = timely (leb (x .hour) (site .last))
       where
         timely : (b : Bool) → All p (cond b (x ∷ []) [])
         timely true = cons h nil
         timely false = nil
 
-    origins-for : (s : State) (m : Message) (kind : Kind) → originOf kind < n → All (λ x. originOf (x .kind) < n) (sentFor (siteAt i) s m kind)
-    origins-for s m (Failure origin) h = not-past (reply (siteAt i) m (siteAt i .hours .request) (setups i .opening .supplier) (Request i)) here
+    origins-for : (s : State) (m : Message) (kind : Kind) → originOf kind < n → All (λ x. originOf (x .kind) < n) (sentFor site s m kind)
+    origins-for s m (Failure origin) h = not-past (reply site m (site .hours .request) (site .supplier) (Request (site .own))) own-here
     origins-for s m (Request origin) h = by-stock (ltb 0 (s .stock))
       where
-        by-stock : (b : Bool) → All (λ x. originOf (x .kind) < n) (cond b (notPast last (reply (siteAt i) m (siteAt i .hours .delivery) origin (Delivery
-            origin))) (notPast last (reply (siteAt i) m (siteAt i .hours .request) (setups i .opening .supplier) (Request origin))))
-        by-stock true = not-past (reply (siteAt i) m (siteAt i .hours .delivery) origin (Delivery origin)) h
-        by-stock false = not-past (reply (siteAt i) m (siteAt i .hours .request) (setups i .opening .supplier) (Request origin)) h
-    origins-for s m (Delivery origin) h = not-past (reply (siteAt i) m (siteAt i .hours .life) i (Failure i)) here
+        by-stock : (b : Bool) → All (λ x. originOf (x .kind) < n) (cond b (notPast (site .last) (reply site m (site .hours .delivery) origin (Delivery
+            origin))) (notPast (site .last) (reply site m (site .hours .request) (site .supplier) (Request origin))))
+        by-stock true = not-past (reply site m (site .hours .delivery) origin (Delivery origin)) h
+        by-stock false = not-past (reply site m (site .hours .request) (site .supplier) (Request origin)) h
+    origins-for s m (Delivery origin) h = not-past (reply site m (site .hours .life) (site .own) (Failure (site .own))) own-here
     origins-for s m (Restock quantity) h = nil
     origins-for s m Start h = nil
     origins-for s m Lvt h = nil

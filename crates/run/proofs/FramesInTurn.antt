@@ -51,7 +51,8 @@ use Rattle.run.proofs.RoundsUnderWay.{roundOf, roundsIn}
 use Rattle.run.proofs.AcceptedFrames.{outcomeOf}
 use Rattle.run.proofs.AcceptedCalls.{call-number}
 use Rattle.run.proofs.PassingFrames.{Passing, passing-form}
-use Rattle.run.proofs.BothWorlds.{Both, forecastSetting, gatewaysIn}
+use Rattle.run.proofs.EventCalls.{own-is, count-is, until-is}
+use Rattle.run.proofs.BothWorlds.{Both, forecastSetting, gatewaysIn, model-laws}
 
 -- refused only for want of room
 abbrev pub OnlyRoom : ℕ → Type 0
@@ -140,7 +141,7 @@ module _ (n : ℕ) (some : 1 ≤ n) (last : ℕ) (setups : ℕ → SetUpInput) {
     event-in-time : (e : Event Message) → eventOf f ≡ e ∷ [] → g .agreed ≤ message e .hour
     unfolding hour first key
     event-in-time e is =
-        let r = claim-holds (forecastSetting n some last setups) (b .beside .reached) .bound-events i (omega arith) in
+        let r = claim-holds (forecastSetting n some last setups) (model-laws n some last setups b) (b .beside .reached) .bound-events i (omega arith) in
         let a = seen-have eventOf (w .underWay) (subst (λ (k : Network Message). All (λ (x : Event Message). t .rounds .agreed i ≤ message
         x .hour) (k .events)) (b .beside .network) r) c under in
         omega (arith, only e (subst (All (λ (x : Event Message). t .rounds .agreed i ≤ message x .hour)) is a), time-is)
@@ -153,7 +154,7 @@ module _ (n : ℕ) (some : 1 ≤ n) (last : ℕ) (setups : ℕ → SetUpInput) {
     acknowledgment-room : (x : Bool) → acknowledgedOf f ≡ eventIf x m ∷ [] → message (eventIf x m) .from ≡ i → OnlyRoom (takeAcknowledgment x m g .number)
     unfolding takeAcknowledgment
     acknowledgment-room x is from-here =
-        let r = claim-holds (forecastSetting n some last setups) (b .beside .reached) .acknowledged in
+        let r = claim-holds (forecastSetting n some last setups) (model-laws n some last setups b) (b .beside .reached) .acknowledged in
         let a = seen-have acknowledgedOf (w .underWay) (subst (λ (k : Network Message). All (IsOutstanding (forecastSetting n some last
         setups) t) (k .acknowledgments)) (b .beside .network) r) c under in
         let (rest, put) = only (eventIf x m) (subst (All (IsOutstanding (forecastSetting n some last setups) t)) is a) in
@@ -166,15 +167,15 @@ module _ (n : ℕ) (some : 1 ≤ n) (last : ℕ) (setups : ℕ → SetUpInput) {
     turns =
         rounds-have (w .underWay)
         (subst (All (InTurn (figureGraph n some) (t .rounds))) (sym (b .rounds .frames)) (claim-holds (forecastSetting n some last setups)
-        (b .beside .reached) .in-turn))
+        (model-laws n some last setups b) (b .beside .reached) .in-turn))
         c
         under
 
     heard-is : from (g .settings .n) (g .settings .own) ≡ figureGraph n some .from i
-    heard-is = ap (λ (x : ℕ). from x (g .settings .own)) (b .stands i inside .count) ∙ ap (from n) (b .stands i inside .own) ∙ sym (hears-is n some i inside)
+    heard-is = ap (λ (x : ℕ). from x (g .settings .own)) (count-is (b .stands i inside)) ∙ ap (from n) (own-is (b .stands i inside)) ∙ sym (hears-is n some i inside)
 
     told-is : to (g .settings .n) (g .settings .own) ≡ figureGraph n some .to i
-    told-is = ap (λ (x : ℕ). to x (g .settings .own)) (b .stands i inside .count) ∙ ap (to n) (b .stands i inside .own) ∙ sym (tells-is n some i inside)
+    told-is = ap (λ (x : ℕ). to x (g .settings .own)) (count-is (b .stands i inside)) ∙ ap (to n) (own-is (b .stands i inside)) ∙ sym (tells-is n some i inside)
 
     few-heard : length (figureGraph n some .from i) ≤ 2
     few-heard = subst (λ (l : List ℕ). length l ≤ 2) (sym (hears-is n some i inside)) (from-few n i inside .two)
@@ -223,7 +224,7 @@ module _ (n : ℕ) (some : 1 ≤ n) (last : ℕ) (setups : ℕ → SetUpInput) {
       where
         by-child : ChildOf (n - 1) k i → OnlyRoom (takeUpdate room k hour g .number)
         by-child (child h) =
-            let own = b .stands i inside .own in
+            let own = own-is (b .stands i inside) in
             rw (le-leb 1 (g .settings .own) (omega arith), eq-eqb k ((g .settings .own - 1) / 2) (omega arith)) (settled-room room g _)
         by-child (no-child h) = absurd (omega arith)
 
@@ -259,9 +260,9 @@ module _ (n : ℕ) (some : 1 ≤ n) (last : ℕ) (setups : ℕ → SetUpInput) {
     bytes-room =
         let p = passes in
         let st = b .stands i inside in
-        let own : eqb (addressee (f .sense) m) (g .settings .own) ≡ true = eq-eqb (addressee (f .sense) m) (g .settings .own) (here ∙ sym (st .own)) in
-        let numbers : numbersBelow (g .settings .n) m ≡ true = rw (st .count) (p .numbers) in
-        let hours : hourAllowed (g .settings .last) m ≡ true = rw (st .until) (p .hour) in
+        let own : eqb (addressee (f .sense) m) (g .settings .own) ≡ true = eq-eqb (addressee (f .sense) m) (g .settings .own) (here ∙ sym (own-is st)) in
+        let numbers : numbersBelow (g .settings .n) m ≡ true = rw (count-is st) (p .numbers) in
+        let hours : hourAllowed (g .settings .last) m ≡ true = rw (until-is st) (p .hour) in
         rw (passing-form (c .frame) p, own, numbers, hours) (by-sense (f .sense) refl (p .kind))
 
   -- the gateway that it is addressed to

@@ -20,7 +20,7 @@ use Rattle.run.proofs.RoundWorlds.{Alike}
 use Rattle.run.proofs.DueHours.{NoteDue}
 use Rattle.run.proofs.RoundOpening.{noRounds, alike-opening}
 use Rattle.run.proofs.OpeningQueues.{openingEntries, opening-saved}
-use Rattle.run.proofs.OpeningWorlds.{first, kept, lawful, memory-holds, opening-beside}
+use Rattle.run.proofs.OpeningWorlds.{first, kept, lawful, memory-holds, opening-beside, settled}
 use Rattle.run.proofs.BothWorlds.{Both, forecastSetting, model, gatewaysIn}
 
 module _ (n last : ℕ) (setups : ℕ → SetUpInput) (lent : ℕ → List ℕ) (forecast : Forecast n last setups lent) where
@@ -36,10 +36,8 @@ module _ (n last : ℕ) (setups : ℕ → SetUpInput) (lent : ℕ → List ℕ) 
     unfolding opened openingEntries stateAfter
     opening-stands =
         record {
-          own = forecast .numbers i h;
-          count = forecast .gateways i h;
-          until = forecast .oneLast i h;
-          supplier = refl;
+          settings = refl;
+          settled = settled n last setups lent forecast (figureGraph n some) refl i h;
           valid = valid-facts (first n last setups lent forecast (figureGraph n some) refl i h) (kept n last setups lent forecast
               (figureGraph n some) refl i h .proper .valid);
           saved = opening-saved n last setups i (lawful n last setups lent forecast (figureGraph n some) refl i h);

@@ -28,9 +28,9 @@ use Rattle.timewarp.specs.Worlds as Worlds
 use Rattle.run.specs.Forecast.{SetUpInput, Forecast}
 use Rattle.run.specs.SingleQueue.{openingMessages, openingQueue, steps, turnsFor, wholeRecord}
 use Rattle.run.specs.World.{openingWorld}
-use Rattle.run.proofs.ForecastModel.{forecastModel}
+use Rattle.run.proofs.ForecastModel.{forecastModel, Settled}
 use Rattle.run.proofs.QueueViews.{viewOf}
-use Rattle.run.proofs.SingleQueues.{historyRecord, Settled, steps-end, whole-record}
+use Rattle.run.proofs.SingleQueues.{historyRecord, steps-end, whole-record}
 use Rattle.run.proofs.Ledgers.{Follows}
 use Rattle.run.proofs.EventsUnderWay.{seenIn}
 use Rattle.run.proofs.EventWorlds.{settingOf}
@@ -113,6 +113,7 @@ module _ (n last : ℕ) (setups : ℕ → SetUpInput) (lent : ℕ → List ℕ) 
       let v = valid-facts (first i h) (kept i h .proper .valid) .settings in
       record {
         own = forecast .numbers i h;
+        count = forecast .gateways i h;
         until = forecast .oneLast i h;
         supplied = omega (arith, v .supplier, forecast .gateways i h);
       }
@@ -125,11 +126,11 @@ module _ (n last : ℕ) (setups : ℕ → SetUpInput) (lent : ℕ → List ℕ) 
 
   -- the whole record of the single queue is that of the theory's single queue
   pub single-queue : (i : ℕ) → wholeRecord n last setups i ≡ historyRecord n last setups i (Theory.singleHistory (forecastModel n last setups) i)
-  single-queue i = whole-record n last setups hours-end settled (opening-agrees n last setups (forecast .some) lawful) i
+  single-queue i = whole-record n last setups (forecast .some) hours-end settled (opening-agrees n last setups (forecast .some) lawful) i
 
   -- and that single queue ends
   pub queue-ends : steps setups (turnsFor last (openingQueue n setups .list)) (openingQueue n setups) .list ≡ []
   queue-ends =
-      steps-end n last setups hours-end settled (turnsFor last (openingQueue n setups .list)) (openingQueue n setups) (Theory.openingQueue
+      steps-end n last setups (forecast .some) hours-end settled (turnsFor last (openingQueue n setups .list)) (openingQueue n setups) (Theory.openingQueue
       (forecastModel n last setups))
       (opening-agrees n last setups (forecast .some) lawful) (omega arith)

@@ -19,7 +19,6 @@ use Rattle.frame.specs.Reasons.{reading}
 use Rattle.frame.specs.declared.Sense.the-variants.{Plain}
 use Rattle.memory.specs.Records.{Gateway}
 use Rattle.memory.specs.Codec.{decode}
-use Rattle.memory.specs.declared.Settings.{Settings}
 use Rattle.memory.proofs.Validated.{Valid, valid-facts}
 use Rattle.gateway.specs.Effects.{Outcome, withAgreed, withRound}
 use Rattle.gateway.specs.Rounds.{start}
@@ -33,7 +32,7 @@ use Rattle.run.specs.Forecast.{SetUpInput}
 use Rattle.run.specs.World.{World, Carried, Rounds, kindIn, framesIn, isFrame, takenBySense, afterStarting, afterTaking}
 use Rattle.run.proofs.QueueViews.{viewOf}
 use Rattle.run.proofs.LeastHours.{least-outstanding, least-queued}
-use Rattle.run.proofs.EventCalls.{Stands}
+use Rattle.run.proofs.EventCalls.{Stands, own-is, count-is, until-is}
 use Rattle.run.proofs.Ledgers.{Follows}
 use Rattle.run.proofs.OpeningWorlds.{agreed-read}
 use Rattle.run.proofs.HeldGateways.{Holds, call-held}
@@ -59,8 +58,8 @@ module _ (n : ℕ) (some : 1 ≤ n) (last : ℕ) (setups : ℕ → SetUpInput) {
   unfolding Worlds.leastOutstanding Worlds.leastWaiting hour
   called =
       record {
-        gateways = b .stands i h .count;
-        own = b .stands i h .own;
+        gateways = count-is (b .stands i h);
+        own = own-is (b .stands i h);
         outstanding = least-outstanding (gs i .outstanding) ∙ ap (Worlds.leastOutstanding (forecastSetting n some last setups)) (sym (b .beside .views i h));
         queued = least-queued (gs i .queue) ∙ ap (Worlds.leastWaiting (forecastSetting n some last setups)) (sym (b .beside .views i h));
       }
@@ -69,7 +68,7 @@ module _ (n : ℕ) (some : 1 ≤ n) (last : ℕ) (setups : ℕ → SetUpInput) {
   valid = valid-facts (gs i) (proper n some last setups b i h .valid)
 
   note-due : NoteDue (gs i .settings .last) (gs i .round)
-  note-due = subst (λ (x : ℕ). NoteDue x (gs i .round)) (sym (b .stands i h .until)) (b .notes i h)
+  note-due = subst (λ (x : ℕ). NoteDue x (gs i .round)) (sym (until-is (b .stands i h))) (b .notes i h)
 
   -- A call that changes only the round and the agreed time of gateway i.
   module _ (memory : List ℕ) (r : Outcome) (holds : Holds (gs i) memory (r .gateway)) (cs : List Carried) (c : Rounds)
@@ -101,12 +100,9 @@ module _ (n : ℕ) (some : 1 ≤ n) (last : ℕ) (setups : ℕ → SetUpInput) {
     stands-here : Stands n last setups i (b .beside .done i) (decode memory)
     stands-here =
         let s = b .stands i h in
-        let same : decode memory .settings ≡ gs i .settings = ap (λ (g : Gateway). g .settings) next in
         record {
-          own = ap (λ (x : Settings). x .own) same ∙ s .own;
-          count = ap (λ (x : Settings). x .n) same ∙ s .count;
-          until = ap (λ (x : Settings). x .last) same ∙ s .until;
-          supplier = ap (λ (x : Settings). x .supplier) same ∙ s .supplier;
+          settings = ap (λ (g : Gateway). g .settings) next ∙ s .settings;
+          settled = s .settled;
           valid = valid-facts (decode memory) (rw (holds .holds) (holds .kept .proper .valid));
           saved = rw next (s .saved);
         }
@@ -131,13 +127,13 @@ module _ (n : ℕ) (some : 1 ≤ n) (last : ℕ) (setups : ℕ → SetUpInput) {
     passing-after : All (λ x. Passing n last (x .frame)) cs
     passing-after =
         let st = b .stands i h in
-        all-map (λ x k. same-passing (st .count) (st .until) k)
-        (goes .passing (all-map (λ x k. same-passing (sym (st .count)) (sym (st .until)) k) (b .passing)))
+        all-map (λ x k. same-passing (count-is st) (until-is st) k)
+        (goes .passing (all-map (λ x k. same-passing (sym (count-is st)) (sym (until-is st)) k) (b .passing)))
 
     notes-at : (j : ℕ) → j < n → (x : Bool) → NoteDue last (decode (cond x memory (w .memories j)) .round)
     notes-at j k true =
         subst (λ (g : Gateway). NoteDue last (g .round)) (sym (holds .holds ∙ ap (λ (x : Outcome). x .gateway) (goes .comes-to)))
-        (subst (λ (x : ℕ). NoteDue x (goes .effect .gateway .round)) (b .stands i h .until) (goes .note))
+        (subst (λ (x : ℕ). NoteDue x (goes .effect .gateway .round)) (until-is (b .stands i h)) (goes .note))
     notes-at j k false = b .notes j k
 
     round-kept : Keeps n some last setups t after

@@ -16,21 +16,18 @@ use Rattle.model.specs.EventOrder.{key, compared}
 use Rattle.model.specs.Messages.{originOf}
 use Rattle.model.specs.declared.Message.{Message}
 use Rattle.model.specs.declared.State.{State}
-use Rattle.model.specs.declared.Site.{Site}
 use Rattle.model.proofs.Sending.{sending}
 use Rattle.frame.specs.Limits.{nothingDue}
 use Rattle.memory.specs.Validity.{later, isAfter}
-use Rattle.event_steps.specs.Models.{Model, NotLater, stateAfter, sentBy}
+use Rattle.event_steps.specs.Models.{Model, ModelLaws, NotLater, stateAfter, sentBy}
 use Rattle.event_steps.specs.SingleQueue as Theory
 use Rattle.event_steps.proofs.OrderLaws.{order-refl, order-antisym, message-eq}
 use Rattle.event_steps.proofs.QueueLaws.{first-taken, first-least, queue-ends}
-use Rattle.memory.specs.Records.{siteOf, usualHours}
-use Rattle.gateway.specs.SettingUp.{settingsOf}
 use Rattle.gateway.specs.Committing.{recordFor}
 use Rattle.run.specs.Forecast.{SetUpInput}
 use Rattle.run.specs.SingleQueue.{Queue, openingQueue, earliest, others, doOne, stepOn, steps, turnsFor, wholeRecord}
 use Rattle.run.proofs.EventOrders.{keys-agree}
-use Rattle.run.proofs.ForecastModel.{forecastModel, siteAt, sendsAt, sends-all-sent, sends-origins, usual-timely}
+use Rattle.run.proofs.ForecastModel.{forecastModel, usual-timely, siteAt, Settled, forecastLaws, sendsAt, sends-all-sent, sends-origins}
 use Rattle.run.proofs.SavedStates.{stateAt}
 
 -- equal lists but for their order: first of them, and the others
@@ -118,12 +115,6 @@ module _ (n last : ℕ) (setups : ℕ → SetUpInput) where
       let bytes = recordFor m (stateAt n last setups i (m ∷ (later ++ h))) in
       (r .0 ++ bytes, ap (λ k. k ++ bytes) (r .1) ∙ append-assoc (historyRecord i h) (r .0) bytes)
 
-  -- the settings of the forecast
-  pub record Settled (i : ℕ) : Type 0 where
-    pub own : setups i .opening .own ≡ i
-    pub until : setups i .opening .last ≡ last
-    pub supplied : setups i .opening .supplier < n
-
   -- a message between gateways of the forecast
   pub record Inside (m : Message) : Type 0 where
     pub to : m .to < n
@@ -136,27 +127,25 @@ module _ (n last : ℕ) (setups : ℕ → SetUpInput) where
     pub records : (i : ℕ) → q .records i ≡ historyRecord i (t .done i)
     pub inside : All Inside (q .list)
 
-  module _ (hours : last < nothingDue) (settled : (i : ℕ) → i < n → Settled i) where
-    site-is : (i : ℕ) → i < n → siteOf (settingsOf (setups i .opening)) ≡ siteAt n last setups i
-    site-is i h = let s = settled i h in λ k. record { own = s .own k; supplier = setups i .opening .supplier; last = s .until k; hours = usualHours }
+  module _ (some : 1 ≤ n) (hours : last < nothingDue) (settled : (i : ℕ) → i < n → Settled n last setups i) where
+    -- the model's laws
+    laws : ModelLaws model
+    laws = forecastLaws n last setups some settled
 
     -- what is sent there is what the model sends
-    sends-same : (m : Message) → Inside m → (s : State) → sent (siteOf (settingsOf (setups (m .to) .opening))) s m ≡ sendsAt n last setups (m .to) s m
-    sends-same m h s =
-        ap (λ (z : Site). sent z s m) (site-is (m .to) (h .to))
-        ∙ sym (sends-all-sent n last setups (m .to) (h .to) (settled (m .to) (h .to) .supplied) hours s m (h .origin))
+    sends-same : (m : Message) → Inside m → (s : State) → sent (siteAt setups (m .to)) s m ≡ sendsAt n last setups (m .to) s m
+    sends-same m h s = sym (sends-all-sent n last setups (m .to) (h .to) (settled (m .to) (h .to)) hours s m (h .origin))
 
     sends-inside : (m : Message) → Inside m → (s : State) → All Inside (sendsAt n last setups (m .to) s m)
     sends-inside m h s =
         all-both
         (λ x p q. record { to = omega (arith, p, h .to); origin = q })
-        (model .sends-inside (m .to) s m)
-        (sends-origins n last setups (m .to) (h .to) (settled (m .to) (h .to) .supplied) hours s m (h .origin))
+        (laws .sends-inside (m .to) (omega (arith, h .to)) s m)
+        (sends-origins n last setups (m .to) (h .to) (settled (m .to) (h .to)) hours s m (h .origin))
 
     module _ (m : Message) (h : Inside m) (rest rest′ : List Message) (alike : Alike model rest rest′) (q : Queue) (t : Theory.Queue
         Message) (a : Agree q t) (inside : All Inside rest) where
-      sends-eq : sent (siteOf (settingsOf (setups (m .to) .opening))) (q .states (m .to)) m ≡ sendsAt n last setups (m .to) (stateAt n last
-          setups (m .to) (t .done (m .to))) m
+      sends-eq : sent (siteAt setups (m .to)) (q .states (m .to)) m ≡ sendsAt n last setups (m .to) (stateAt n last setups (m .to) (t .done (m .to))) m
       sends-eq = sends-same m h (q .states (m .to)) ∙ ap (λ (s : State). sendsAt n last setups (m .to) s m) (a .states (m .to))
 
       state-after : (i : ℕ) (b : Bool) → eqb (m .to) i ≡ b → cond b (after (q .states (m .to)) (m .kind)) (q .states i) ≡ stateAt n last
@@ -184,7 +173,7 @@ module _ (n last : ℕ) (setups : ℕ → SetUpInput) where
           record {
             lists = λ x. omega (
               arith,
-              count-append (message-eq model) x rest (sent (siteOf (settingsOf (setups (m .to) .opening))) (q .states (m .to)) m),
+              count-append (message-eq model) x rest (sent (siteAt setups (m .to)) (q .states (m .to)) m),
               count-append (message-eq model) x (sendsAt n last setups (m .to) (stateAt n last setups (m .to) (t .done (m .to))) m) rest′,
               ap (count (message-eq model) x) sends-eq,
               alike x,
@@ -240,11 +229,11 @@ module _ (n last : ℕ) (setups : ℕ → SetUpInput) where
     sent-weight m (x ∷ []) h f = omega (arith, f x refl .0, f x refl .1)
     sent-weight m (x ∷ y ∷ l) h f = absurd (omega arith)
 
-    sends-weight : (m : Message) → Inside m → (s : State) → tally weight (sent (siteOf (settingsOf (setups (m .to) .opening))) s m) ≤ last - m .hour
+    sends-weight : (m : Message) → Inside m → (s : State) → tally weight (sent (siteAt setups (m .to)) s m) ≤ last - m .hour
     sends-weight m h s =
-        rw (site-is (m .to) (h .to))
-        (let z = siteAt n last setups (m .to) in
-        sent-weight m (sent z s m) (sending z s m .one) (λ x e. (sending z s m .later usual-timely x e, sending z s m .inside x e)))
+        let z = siteAt setups (m .to) in
+        sent-weight m (sent z s m) (sending z s m .one)
+        (λ x e. (sending z s m .later usual-timely x e, omega (arith, sending z s m .inside x e, settled (m .to) (h .to) .until)))
 
     step-falls : (q : Queue) (x : Message) (k : List Message) → All Inside (x ∷ k) → suc (turnsFor last (stepOn setups q (x ∷ k) .list)) ≤ turnsFor last (x ∷ k)
     unfolding stepOn doOne weight
@@ -253,9 +242,9 @@ module _ (n last : ℕ) (setups : ℕ → SetUpInput) where
         let inside : Inside e = subst Inside (sym (earliest-is x k)) (all-taken (first-taken model x k) c) in
         omega (
           arith,
-          turns-tally (others x k ++ sent (siteOf (settingsOf (setups (e .to) .opening))) (q .states (e .to)) e),
+          turns-tally (others x k ++ sent (siteAt setups (e .to)) (q .states (e .to)) e),
           turns-tally (x ∷ k),
-          tally-append weight (others x k) (sent (siteOf (settingsOf (setups (e .to) .opening))) (q .states (e .to)) e),
+          tally-append weight (others x k) (sent (siteAt setups (e .to)) (q .states (e .to)) e),
           sends-weight e inside (q .states (e .to)),
           tally-insert weight (first-taken model x k),
           ap weight (earliest-is x k),
@@ -315,4 +304,4 @@ module _ (n last : ℕ) (setups : ℕ → SetUpInput) where
         let turns = turnsFor last (q .list) in
         let b = steps-agree turns q t a in
         let e = list-ended (steps setups turns q) (Theory.steps model turns t) b (steps-end turns q t a (omega arith)) in
-        b .records i ∙ ap (historyRecord i) (ended-same turns (Theory.measure model (t .list)) i t e (queue-ends model))
+        b .records i ∙ ap (historyRecord i) (ended-same turns (Theory.measure model (t .list)) i t e (queue-ends model laws))

@@ -20,10 +20,8 @@ module _ (n last : ℕ) (setups : ℕ → SetUpInput) (i : ℕ) (c : List Messag
   pub still-stands : (c′ : List Message) (h : Gateway) → Kept (g .settings) h → Saved n last setups i c′ (h .queue) (h .state) → Stands n last setups i c′ h
   still-stands c′ h k v =
       record {
-        own = ap (λ s. s .own) (k .same) ∙ st .own;
-        count = ap (λ s. s .n) (k .same) ∙ st .count;
-        until = ap (λ s. s .last) (k .same) ∙ st .until;
-        supplier = ap (λ s. s .supplier) (k .same) ∙ st .supplier;
+        settings = k .same ∙ st .settings;
+        settled = st .settled;
         valid = valid-facts h (k .proper .valid);
         saved = v;
       }

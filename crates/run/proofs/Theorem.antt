@@ -14,7 +14,7 @@ use Rattle.run.proofs.FigureGraph.{figureGraph}
 use Rattle.run.proofs.ClaimParts.{beginning-part, whole-part, waiting-part, underWay-part}
 use Rattle.run.proofs.RoundClaims.{phase-open, rounds-hold, rounds-fewer}
 use Rattle.run.proofs.OpeningWorlds.{single-queue, queue-ends}
-use Rattle.run.proofs.BothWorlds.{Both, Keeps, forecastSetting, model, good-world}
+use Rattle.run.proofs.BothWorlds.{Both, Keeps, forecastSetting, model, model-laws, good-world}
 use Rattle.run.proofs.OpeningRelation.{opening-both}
 use Rattle.run.proofs.KeptRelation.{calls-keep, calls-after, allowed-parts}
 
@@ -54,15 +54,16 @@ module _ (n last : ℕ) (setups : ℕ → SetUpInput) (lent : ℕ → List ℕ) 
       let k = reached-both calls h in
       let w = afterCalls n first calls in
       let b = k .both .beside in
+      let laws = model-laws n some last setups (k .both) in
       let single = single-queue n last setups lent forecast (figureGraph n some) refl in
       record {
-        beginning = λ i l. beginning-part n last setups (figureGraph n some) refl w (k .world) b i l (single i);
-        whole = λ i l. whole-part n last setups (figureGraph n some) refl w (k .world) b i l (single i);
+        beginning = λ i l. beginning-part n last setups (figureGraph n some) refl laws w (k .world) b i l (single i);
+        whole = λ i l. whole-part n last setups (figureGraph n some) refl laws w (k .world) b i l (single i);
         soundMemories = k .both .bytes;
         neverFell = never-fell calls h;
-        boundWaiting = waiting-part n last setups (figureGraph n some) refl w (k .world) b;
+        boundWaiting = waiting-part n last setups (figureGraph n some) refl laws w (k .world) b;
         goodForms = λ c m. all-each (k .both .passing) c m .form;
-        boundUnderWay = underWay-part n last setups (figureGraph n some) refl w (k .world) b;
+        boundUnderWay = underWay-part n last setups (figureGraph n some) refl laws w (k .world) b;
         openRound = phase-open n some (model n some last setups) refl (k .both .rounds);
         rounds = rounds-hold n some (model n some last setups) refl (good-world n some last setups (k .both)) (k .both .rounds .counted);
         fewer = rounds-fewer n some (model n some last setups) refl (good-world n some last setups (k .both)) (k .both .rounds .counted);

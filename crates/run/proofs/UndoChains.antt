@@ -31,7 +31,7 @@ module _ (n last : ℕ) (setups : ℕ → SetUpInput) (i : ℕ) where
 
   -- the model sends at gateway i what the lamp model sends there
   abbrev pub SendsAll : Type 0
-  SendsAll = (s : State) (m : Message) → originOf (m .kind) < n → sendsAt n last setups i s m ≡ sent (siteAt n last setups i) s m
+  SendsAll = (s : State) (m : Message) → originOf (m .kind) < n → sendsAt n last setups i s m ≡ sent (siteAt setups i) s m
 
   module _ (sends-all : SendsAll) (time : ℕ) (e : Event Message) (here : message e .to ≡ i) where
     -- what may be undone for e: it is not earlier, and its origin is a gateway
@@ -41,12 +41,12 @@ module _ (n last : ℕ) (setups : ℕ → SetUpInput) (i : ℕ) where
 
     -- what undoing an event takes back is what doing it sent
     sent-back : (h : List Message) (x : Entry) → originOf (x .message .kind) < n → x .before ≡ stateAfter model i h
-        → sentBy model i h (x .message) ≡ sent (siteAt n last setups i) (x .before) (x .message)
+        → sentBy model i h (x .message) ≡ sent (siteAt setups i) (x .before) (x .message)
     unfolding sentBy
     sent-back h x o e = rw (← e) (sends-all (x .before) (x .message) o)
 
     abbrev backs : List Entry → List Message
-    backs rest = sentBack (siteAt n last setups i) (processedOf rest)
+    backs rest = sentBack (siteAt setups i) (processedOf rest)
 
     pub undo-chain : {c : List Message} {w : List Message} (rest : List Entry) (d p : List Message) {s : State} (o : List (Event Message))
         (v a : List (Event Message)) {others : List (Event Message)} →
@@ -75,10 +75,10 @@ module _ (n last : ℕ) (setups : ℕ → SetUpInput) (i : ℕ) where
             Chain model i time
             (gatewayOf c (doneAfter (x .message ∷ d) rest) (p ++ pendingOf rest) w o)
             (networkOf v a)
-            (backs rest ++ sent (siteAt n last setups i) (x .before) (x .message))
-            (gatewayOf c d (p ++ (x .message ∷ pendingOf (map undone rest))) w (o ++ map cancel (backs rest ++ sent (siteAt n last setups i)
+            (backs rest ++ sent (siteAt setups i) (x .before) (x .message))
+            (gatewayOf c d (p ++ (x .message ∷ pendingOf (map undone rest))) w (o ++ map cancel (backs rest ++ sent (siteAt setups i)
             (x .before) (x .message))))
-            (networkOf (v ++ map cancel (backs rest ++ sent (siteAt n last setups i) (x .before) (x .message))) a)
+            (networkOf (v ++ map cancel (backs rest ++ sent (siteAt setups i) (x .before) (x .message))) a)
         step e₀ ih =
             subst
             (λ t.

@@ -29,7 +29,7 @@ use Rattle.run.specs.Ledger as Ledger
 use Rattle.run.specs.Ledger.{didOne, didSome}
 use Rattle.run.specs.World.{Carried, carry}
 use Rattle.run.proofs.LocalChains.{led-join, lower-agreed}
-use Rattle.run.proofs.EventCalls.{Stands, notedAll, did, done-saved}
+use Rattle.run.proofs.EventCalls.{Stands, count-is, until-is, notedAll, did, done-saved}
 use Rattle.run.proofs.Ledgers.{Follows, did-follows}
 use Rattle.run.proofs.ReadableFrames.{EventFrame, same-limits, frames-hours, sent-frames}
 use Rattle.run.proofs.EventWorlds.{settingOf, Sees, GoesOn, networkIn, done-goes}
@@ -127,7 +127,7 @@ module _ (n last : ℕ) (setups : ℕ → SetUpInput) (G : Graph) (same : G .las
         ranged =
             p .ranged .queue (r .0) (r .1) .message;
       } in
-      all-map (λ f e. same-limits (st .count) (st .until) e)
+      all-map (λ f e. same-limits (count-is st) (until-is st) e)
       (sent-frames (g .settings) (v .settings) m (subst (Good (g .settings) (isWaiting (r .0))) (sym (r .2)) good) false (g .state))
 
   -- doing an event is work of one event
@@ -146,10 +146,8 @@ module _ (n last : ℕ) (setups : ℕ → SetUpInput) (G : Graph) (same : G .las
   done-stands g st m ms k p =
       let d = did n last setups i c g st m in
       record {
-        own = ap (λ (h : Gateway). h .settings .own) d ∙ st .own;
-        count = ap (λ (h : Gateway). h .settings .n) d ∙ st .count;
-        until = ap (λ (h : Gateway). h .settings .last) d ∙ st .until;
-        supplier = ap (λ (h : Gateway). h .settings .supplier) d ∙ st .supplier;
+        settings = ap (λ (h : Gateway). h .settings) d ∙ st .settings;
+        settled = st .settled;
         valid = valid-facts (done m g .gateway) (p .valid);
         saved = done-saved n last setups i c g st m ms k;
       }

@@ -7,7 +7,7 @@ use native.Mathlib.Omega.{arith}
 use lib.Dec.{ltb, ltb→lt, lit<}
 use lib.ListN.{length}
 use Rattle.lists.specs.Lists.{All, nil, cons}
-use Rattle.event_steps.specs.Models.{Model, first}
+use Rattle.event_steps.specs.Models.{Model, ModelLaws, first}
 use Rattle.timewarp.specs.Worlds.{Setting}
 use Rattle.timewarp.proofs.SmallGraphs.{two}
 
@@ -109,13 +109,19 @@ relay =
       step = λ i n p. suc n;
       sends = λ i n p. passedOn i n (p .due) (p .left);
       key-injective = parcel-injective;
-      opening-here = first-here;
-      opening-due = first-due;
-      sends-one = λ i n p. at-most-one (passed i n (p .due) (p .left));
-      sends-from = λ i n p. each (λ l h. refl) (passed i n (p .due) (p .left));
-      sends-inside = λ i n p. each (λ l h. omega arith) (passed i n (p .due) (p .left));
-      sends-later = passed-later;
-      sends-due = passed-due;
+    }
+
+-- It has what is asked of a model.
+pub relay-laws : ModelLaws relay
+relay-laws =
+    record {
+      opening-here = λ i inside. first-here i;
+      opening-due = λ i inside. first-due i;
+      sends-one = λ i inside n p. at-most-one (passed i n (p .due) (p .left));
+      sends-from = λ i inside n p. each (λ l h. refl) (passed i n (p .due) (p .left));
+      sends-inside = λ i inside n p. each (λ l h. omega arith) (passed i n (p .due) (p .left));
+      sends-later = λ i inside. passed-later i;
+      sends-due = λ i inside. passed-due i;
     }
 
 pub both-two : two .last ≡ 1

@@ -8,7 +8,7 @@ use native.Mathlib.Decide.{ℕ-discrete}
 use Rattle.lists.specs.Lists.{All, nil, Inserts, unchanged, one-more}
 use Rattle.lists.proofs.ListLaws.{all-map, all-every, all-insert, all-rest, all-before, all-head, all-tail, least-never, least-bounds, bounds-least}
 use Rattle.lists.proofs.FamilyLaws.{change-at, change-off, change-each}
-use Rattle.event_steps.specs.Models.{Model, hour}
+use Rattle.event_steps.specs.Models.{Model, ModelLaws, hour}
 use Rattle.event_steps.specs.Gateways.{Event, message, Gateway, Network, Data, after, openingData}
 use Rattle.round_steps.specs.RoundSteps.{Rounds, opening, lower}
 use Rattle.timewarp.specs.Worlds.{Setting, World, openingWorld, leastOutstanding, leastWaiting, lowerAll, Step, event, round, Steps}
@@ -185,16 +185,18 @@ module _ (S : Setting) where
   agreed-kept i [] r = refl
   agreed-kept i (y ∷ sent) r = agreed-kept i sent (lower i (hour model y) r)
 
-  -- All that holds of every reachable world.
+  -- All that holds of every reachable world, with the model's laws, by which every step keeps it.
   pub record Good (w : World S) : Type 0 where
+    pub laws : ModelLaws model
     pub events-sound : Sound model (w .rounds .agreed) (w .events)
     pub rounds-sound : RoundSound graph never (O (w .events)) (W (w .events)) (w .rounds)
 
-  good-opening : Good (openingWorld S)
+  good-opening : ModelLaws model → Good (openingWorld S)
   unfolding openingWorld openingData opening
-  good-opening =
+  good-opening laws =
       record {
-        events-sound = Invariants.sound-opening model;
+        laws = laws;
+        events-sound = Invariants.sound-opening model laws;
         rounds-sound =
             RoundInvariants.sound-opening
             graph
@@ -228,15 +230,17 @@ module _ (S : Setting) where
   pub good-step : {w v : World S} → Good w → Step S w v → Good v
   good-step {w} k (event {i = i} {sent = sent} {g = g} {n = n} l s) =
       record {
+        laws = k .laws;
         events-sound =
             subst
             (λ f. Sound model f (after i g n (w .events)))
             (sym (agreed-kept i sent (w .rounds)))
-            (sound-step model (w .rounds .agreed) (w .events) i l s (k .events-sound));
-        rounds-sound = rounds-event (w .events) i n (w .rounds) l (effect model (w .events) i (k .events-sound) s) (k .rounds-sound);
+            (sound-step model (k .laws) (w .rounds .agreed) (w .events) i l s (k .events-sound));
+        rounds-sound = rounds-event (w .events) i n (w .rounds) l (effect model (k .laws) (w .events) i l (k .events-sound) s) (k .rounds-sound);
       }
   good-step {w} k (round s) =
       record {
+        laws = k .laws;
         events-sound = sound-later model (agreed-never-falls k (round s)) (k .events-sound);
         rounds-sound =
             sound-round
@@ -259,5 +263,5 @@ module _ (S : Setting) where
   good-steps k none = k
   good-steps k (then s t) = good-step (good-steps k s) t
 
-  pub good : {w : World S} → Reachable S w → Good w
-  good s = good-steps good-opening s
+  pub good : ModelLaws model → {w : World S} → Reachable S w → Good w
+  good laws s = good-steps (good-opening laws) s

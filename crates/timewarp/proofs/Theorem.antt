@@ -5,7 +5,7 @@ use Prim.Native.Nat.{ℕ, _≤_}
 use native.Mathlib.Omega.{arith}
 use Rattle.lists.specs.Lists.{All}
 use Rattle.lists.proofs.ListLaws.{all-left, all-right, all-head, all-member}
-use Rattle.event_steps.specs.Models.{Model}
+use Rattle.event_steps.specs.Models.{Model, ModelLaws}
 use Rattle.event_steps.specs.Gateways.{history}
 use Rattle.event_steps.specs.SingleQueue.{singleHistory}
 use Rattle.timewarp.specs.Worlds.{Setting, World, Steps, none, then, Reachable}
@@ -52,12 +52,12 @@ module _ (S : Setting) where
     unfolding history
     whole i l above nothing-left =
         go (w .events .gateways i .processed) refl (ends (w .events .gateways i .processed))
-        ∙ history-whole model (k .events-sound) (w .rounds .agreed i) above (bounds i l) i l
+        ∙ history-whole model (k .events-sound) (k .laws) (w .rounds .agreed i) above (bounds i l) i l
       where
         go : (p : List Message) → w .events .gateways i .processed ≡ p → Ends p → w .events .gateways i .committed ≡ history (w .events .gateways i)
         go p e empty = rw e refl
         go p e (last-is newer m) =
-            let a = all-left (w .events .gateways i .processed) (w .events .gateways i .committed) (k .events-sound .addressed i .done) in
+            let a = all-left (w .events .gateways i .processed) (w .events .gateways i .committed) (k .events-sound .addressed i l .done) in
             absurd
             (omega
             (arith, nothing-left m newer e, all-head (all-right newer (m ∷ []) (subst (All (Here model i)) e a)) .due))
@@ -65,7 +65,7 @@ module _ (S : Setting) where
     claimed : Claim S w
     claimed =
         record {
-          beginning = λ i l. committed-beginning model (k .events-sound) i l (bounds i l);
+          beginning = λ i l. committed-beginning model (k .events-sound) (k .laws) i l (bounds i l);
           whole = whole;
           never-falls = λ v s i. agreed-never-falls S k s i;
           bound-pending = λ i j l h. bounds i l .waiting-from j h .pending-from;
@@ -81,8 +81,8 @@ module _ (S : Setting) where
         }
 
   -- The claim holds of every reachable world.
-  pub claim-holds : {w : World S} → Reachable S w → Claim S w
-  claim-holds s = claimed (good S s)
+  pub claim-holds : ModelLaws model → {w : World S} → Reachable S w → Claim S w
+  claim-holds laws s = claimed (good S laws s)
 
   -- No agreed time falls in any number of steps.
   pub never-falls : {w v : World S} → Good S w → Steps S w v → (i : ℕ) → w .rounds .agreed i ≤ v .rounds .agreed i
@@ -91,6 +91,7 @@ module _ (S : Setting) where
 
   -- Two reachable worlds that are whole at a gateway have the same record there.
   pub same-record :
+      ModelLaws model →
       {w v : World S} (i : ℕ) →
       i ≤ last →
       Reachable S w →
@@ -100,8 +101,8 @@ module _ (S : Setting) where
       never ≤ v .rounds .agreed i →
       NothingToCommit S (v .rounds .agreed i) (v .events .gateways i) →
       w .events .gateways i .committed ≡ v .events .gateways i .committed
-  same-record i l s a p t b q = claim-holds s .whole i l a p ∙ sym (claim-holds t .whole i l b q)
+  same-record laws i l s a p t b q = claim-holds laws s .whole i l a p ∙ sym (claim-holds laws t .whole i l b q)
 
 -- The theorem.
 pub always-claimed : AlwaysClaimed
-always-claimed S w s = claim-holds S s
+always-claimed S laws w s = claim-holds S laws s

@@ -19,7 +19,7 @@ use Rattle.timewarp.proofs.ExampleCalls.{undoBackTo, accept, acceptMet,
 use Rattle.timewarp.proofs.ExampleCalls.{takeCancel, takeAcknowledgment, oldest, newerOnes, commitOldest, commit}
 use Rattle.round_steps.proofs.RoundCarried.{all-to, all-from}
 use Rattle.timewarp.proofs.SmallGraphs.{two, toOfTwo, fromOfTwo}
-use Rattle.timewarp.proofs.ExampleModel.{Parcel, passedOn, atFirst, relayOfTwo}
+use Rattle.timewarp.proofs.ExampleModel.{Parcel, passedOn, atFirst, relay-laws, relayOfTwo}
 use Rattle.timewarp.proofs.EventExamples.{p1, q5, a2, r6, s6, b3, early, straggler, overtaken, met}
 use Rattle.timewarp.proofs.Joined.{good}
 use Rattle.timewarp.proofs.CallChains.{steps-join, work-chain, takePlain-chain, takeCancel-chain, takeAcknowledgment-chain, commit-chain}
@@ -63,20 +63,20 @@ unfolding straggler early openingWorld openingData work doEarliest doMessage bec
     undoBackTo undoMessage acceptMet acceptPending acceptStriking acceptWaiting accept any withoutFirst same sameEvent enqueue after change
     history sentBy stateAfter passedOn atFirst isNotLater earliest others message
 reached-straggler =
-    steps-join reached-early (takePlain-chain S 1 (omega arith) a2 early (good S reached-early) refl (there here))
+    steps-join reached-early (takePlain-chain S 1 (omega arith) a2 early (good S relay-laws reached-early) refl (there here))
 
 pub reached-overtaken : Reachable S overtaken
 unfolding overtaken straggler early openingWorld openingData work doEarliest doMessage becomes takePlain takeCancel takeAcknowledgment
     undoLater undoBackTo undoMessage acceptMet acceptPending acceptStriking acceptWaiting accept any withoutFirst same sameEvent enqueue
     after change history sentBy stateAfter passedOn atFirst isNotLater earliest others message
 reached-overtaken =
-    steps-join reached-straggler (takeCancel-chain S 0 (omega arith) r6 straggler (good S reached-straggler) refl (there here))
+    steps-join reached-straggler (takeCancel-chain S 0 (omega arith) r6 straggler (good S relay-laws reached-straggler) refl (there here))
 
 pub reached-met : Reachable S met
 unfolding met overtaken straggler early openingWorld openingData work doEarliest doMessage becomes takePlain takeCancel takeAcknowledgment
     undoLater undoBackTo undoMessage acceptMet acceptPending acceptStriking acceptWaiting accept any withoutFirst same sameEvent enqueue
     after change history sentBy stateAfter passedOn atFirst isNotLater earliest others message
-reached-met = steps-join reached-overtaken (takePlain-chain S 0 (omega arith) r6 overtaken (good S reached-overtaken) refl here)
+reached-met = steps-join reached-overtaken (takePlain-chain S 0 (omega arith) r6 overtaken (good S relay-laws reached-overtaken) refl here)
 
 pub reached-done : Reachable S allDone
 unfolding allDone met overtaken straggler early openingWorld openingData work doEarliest doMessage becomes takePlain takeCancel
@@ -84,16 +84,16 @@ unfolding allDone met overtaken straggler early openingWorld openingData work do
     sameEvent enqueue after change history sentBy stateAfter passedOn atFirst isNotLater earliest others message
 reached-done =
     let a : Reachable S (work S 2 1 met) = steps-join reached-met (work-chain S 1 (omega arith) 2 met) in
-    let b : Reachable S (takePlain S 0 b3 (work S 2 1 met)) = steps-join a (takePlain-chain S 0 (omega arith) b3 (work S 2 1 met) (good S a) refl here) in
+    let b : Reachable S (takePlain S 0 b3 (work S 2 1 met)) = steps-join a (takePlain-chain S 0 (omega arith) b3 (work S 2 1 met) (good S relay-laws a) refl here) in
     let c : Reachable S (takePlain S 0 s6 (takePlain S 0 b3 (work S 2 1 met))) =
-    steps-join b (takePlain-chain S 0 (omega arith) s6 (takePlain S 0 b3 (work S 2 1 met)) (good S b) refl here)
+    steps-join b (takePlain-chain S 0 (omega arith) s6 (takePlain S 0 b3 (work S 2 1 met)) (good S relay-laws b) refl here)
     in
     steps-join c (work-chain S 0 (omega arith) 2 (takePlain S 0 s6 (takePlain S 0 b3 (work S 2 1 met))))
 
 -- An acknowledgment is taken.
 settles : (i : ℕ) → i ≤ 1 → (e : Event Parcel) (w : World S) → Reachable S w → message e .source ≡ i → (rest : List (Event Parcel)) → Insert
     e rest (w .events .network .acknowledgments) → Reachable S (takeAcknowledgment S i e w)
-settles i l e w r p rest x = steps-join r (takeAcknowledgment-chain S i l e w (good S r) p x)
+settles i l e w r p rest x = steps-join r (takeAcknowledgment-chain S i l e w (good S relay-laws r) p x)
 
 pub reached-acknowledged : Reachable S allAcknowledged
 unfolding allAcknowledged allDone met overtaken straggler early openingWorld openingData work doEarliest doMessage becomes takePlain

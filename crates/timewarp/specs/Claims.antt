@@ -3,7 +3,7 @@ use mathlib.Core.List.{List, [], _∷_, _++_}
 use mathlib.Core.Path.{_≡_}
 use Prim.Native.Nat.{ℕ, suc, _*_, _≤_, _<_}
 use Rattle.lists.specs.Lists.{All, Insert}
-use Rattle.event_steps.specs.Models.{Model, hour}
+use Rattle.event_steps.specs.Models.{Model, ModelLaws, hour}
 use Rattle.event_steps.specs.Gateways.{Event, message, Gateway}
 use Rattle.event_steps.specs.SingleQueue.{singleHistory, EarlierPart}
 use Rattle.round_steps.specs.Arcs.{roundMessages}
@@ -54,6 +54,6 @@ module _ (S : Setting) where
     -- Every acknowledgment under way finds its event outstanding.
     pub acknowledged : All (IsOutstanding w) (w .events .network .acknowledgments)
 
--- The theorem: it holds of every world that can be reached.
+-- The theorem: where the model has what is asked of it, it holds of every world that can be reached.
 abbrev pub AlwaysClaimed : Type 1
-AlwaysClaimed = (S : Setting) (w : World S) → Reachable S w → Claim S w
+AlwaysClaimed = (S : Setting) → ModelLaws (S .model) → (w : World S) → Reachable S w → Claim S w
