@@ -50,14 +50,15 @@ enum {
     HURFAITH_NOTHING_TO_DO = 6,
     /* An acknowledgment that is equal to nothing outstanding. */
     HURFAITH_NOT_OUTSTANDING = 7,
-    /* A setting, a routing number or, at set up, the length of the memory is outside its range. View: a reader other than 0 and 1, or a
-     * record of 2^48 bytes or more. */
+    /* A setting, request, delivery and life hours among them, a routing number or, at set up, the length of the memory is outside its
+     * range. View: a reader other than 0 and 1, or a record of 2^48 bytes or more. */
     HURFAITH_OUT_OF_RANGE = 8,
     /* A plain message, a cancel or an Lvt below this gateway's agreed time. */
     HURFAITH_BELOW_AGREED_TIME = 9,
-    /* The memory is not sound: too short for its settings, or settings, counts, phase or arrivals impossible, the queue not in
-     * order, a processed message behind an unprocessed plain one, a waiting cancel beside an equal plain message, or a stored message
-     * of no valid form, number or hour. No call answers 10 to memory that set up made and the other calls left. */
+    /* The memory is not sound: too short for its settings, or settings (request, delivery and life hours among them), counts, phase or
+     * arrivals impossible, the queue not in order, a processed message behind an unprocessed plain one, a waiting cancel beside an equal
+     * plain message, or a stored message of no valid form, number or hour. No call answers 10 to memory that set up made and the other
+     * calls left. */
     HURFAITH_NOT_SOUND = 10,
     /* A frame of fewer than two bytes, or of another length than its map gives: cut, or with bytes too many. In a record also: fewer
      * than fourteen bytes of state behind a frame. */
@@ -91,11 +92,23 @@ uint32_t hurfaith_route(uint32_t gateways, uint32_t own, uint16_t *neighbours, s
  * 65,535; `last_hour` at most 4,294,967,294; queue_places and outstanding_places are 1 to 512. `list` is the opening list: whole
  * frames, one behind the other, plain Failure and Restock only, from and to this gateway; it may be empty. The agreed time is 0.
  * The list is cut by the lengths that the maps give; what is left over at its end is a cut frame.
+ *
+ * request_hours, delivery_hours and life_hours are 1 to 1,000,000 each. They are this gateway's own, and other gateways of the forecast
+ * may have others; what counts are those of the gateway that does a message:
+ *
+ *   request_hours     from a Failure here to its Request at the supplier, and from a Request that finds no stock here to the same
+ *                     Request at the supplier
+ *   delivery_hours    from a Request that finds stock here to its Delivery at the lamp's gateway
+ *   life_hours        from a Delivery here to the next Failure of that lamp here
+ *
+ * A message that would come past last_hour is not sent.
+ *
  * Answers 0; or 8; or 1, 11, 12, 2 or 3 of the first frame that is refused; or 5 where the list has more frames than there are queue
  * places. */
 uint32_t hurfaith_set_up(uint8_t *memory, size_t memory_len, const uint8_t *list, size_t list_len,
     uint32_t gateways, uint32_t own, uint32_t supplier, uint32_t stock, uint32_t last_hour,
-    uint32_t queue_places, uint32_t outstanding_places);
+    uint32_t queue_places, uint32_t outstanding_places,
+    uint32_t request_hours, uint32_t delivery_hours, uint32_t life_hours);
 
 /* Does up to `budget` events, the earliest unprocessed message first. hurfaith_count says how many were done, hurfaith_number why
  * it stopped: 0 after `budget` events, 6 or 5 before the next one, or 10. What the counted events did stands, also after 5 and 6. */

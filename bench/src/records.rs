@@ -2,6 +2,7 @@
 
 use host::frame::{failure, restock, DELIVERY, FAILURE, PLAIN_RESTOCK, REQUEST};
 use host::generator::Generator;
+use host::scenario::{DELIVERY_HOURS, REQUEST_HOURS};
 use std::collections::BTreeSet;
 
 /// The length that a record is to come near, from below.
@@ -23,8 +24,8 @@ struct Gateway {
     record: Vec<u8>,
 }
 
-/// The record of a gateway that is its own supplier, whose lamps fail and whose shelf is filled at drawn hours: as many of its events
-/// as a megabyte has room for.
+/// The record of a gateway that is its own supplier, whose lamps fail and whose shelf is filled at drawn hours, and whose drivers outlive
+/// the record: as many of its events as a megabyte has room for.
 pub fn record() -> Vec<u8> {
     let mut generator = Generator(1);
     let mut gateway = Gateway { stock: 100, ..Gateway::default() };
@@ -34,14 +35,16 @@ pub fn record() -> Vec<u8> {
         for _ in 0..generator.below(3) {
             lamps += 1;
             gateway.fail(hour, lamps);
-            requests.insert((hour + 1, lamps));
+            requests.insert((hour + REQUEST_HOURS, lamps));
         }
         if generator.below(6) == 0 {
             gateway.restock(hour, generator.below(16) as u16);
         }
         while let Some(lamp) = due(&mut requests, hour) {
-            let served = gateway.serve(hour, lamp);
-            let (waiting, hours) = if served { (&mut deliveries, 24) } else { (&mut requests, 1) };
+            let (waiting, hours) = match gateway.serve(hour, lamp) {
+                true => (&mut deliveries, DELIVERY_HOURS),
+                false => (&mut requests, REQUEST_HOURS),
+            };
             waiting.insert((hour + hours, lamp));
         }
         while let Some(lamp) = due(&mut deliveries, hour) {

@@ -1,5 +1,6 @@
 //! Memories in the situations that calls are measured in. All have 512 queue places and 512 outstanding places.
 
+use host::scenario::{DELIVERY_HOURS, LIFE_HOURS, REQUEST_HOURS};
 use interface::{ample_output, memory_length, Calls, Opening, MOST_PLACES};
 use library::Library;
 
@@ -21,6 +22,9 @@ pub fn gateway(gateways: u32, own: u32, list: &[u8]) -> Vec<u8> {
         last_hour: 1_000_000,
         queue_places: MOST_PLACES,
         outstanding_places: MOST_PLACES,
+        request_hours: REQUEST_HOURS,
+        delivery_hours: DELIVERY_HOURS,
+        life_hours: LIFE_HOURS,
     };
     let mut memory = vec![0; memory_length(MOST_PLACES, MOST_PLACES)];
     assert_eq!(Library.set_up(&mut memory, list, &opening), 0);

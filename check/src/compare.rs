@@ -2,7 +2,7 @@
 
 use crate::peer_calls::{setup, Peer, UNSOUND};
 use crate::tally::{Called, FrameCall, Lacking, Situation, Tally};
-use crate::{views, Wrong};
+use crate::{lead_times, views, Wrong};
 use interface::{ample_output, AgreedTime, Answer, Calls, Opening, ViewAnswer, MOST_PLACES};
 use library::Library;
 use peer::gateway::{self, Gateway};
@@ -81,6 +81,7 @@ impl Comparison {
 
         self.tally.count(call.called(), by_library.answer.number);
         self.count_reason(call, memory, &by_library.answer);
+        self.count_lead_times(call, &by_library)?;
         if let Call::Take { frame } = call {
             self.count_taken(frame, by_library.answer.number)?;
             self.lamp(frame)?;
@@ -120,7 +121,9 @@ impl Comparison {
         if number == 5 {
             self.tally.count_lacking(Lacking::QueuePlaces);
         }
-        let reason = match Gateway::set_up(&setup(opening, list, before.len())) {
+        let setup = setup(opening, list, before.len());
+        self.tally.count_lead_times(lead_times::refused(&setup));
+        let reason = match Gateway::set_up(&setup) {
             Err(Refusal::Frame(reason)) => Some(reason),
             _ => None,
         };
@@ -259,6 +262,22 @@ impl Comparison {
             }
             None => Ok(()),
         }
+    }
+
+    /// Counts what a call that was made shows of the lead times.
+    fn count_lead_times(&mut self, call: Call, left: &Left) -> Result<(), Wrong> {
+        let Left { answer, memory, output } = left;
+        match call {
+            Call::Work { .. } if answer.events > 0 => {
+                self.tally.count_lead_times(lead_times::worked(memory, answer.events)?);
+            }
+            Call::Take { .. } if answer.number == 0 => {
+                let output = &output[..answer.written];
+                self.tally.count_lead_times(lead_times::cancelled(memory, output));
+            }
+            _ => {}
+        }
+        Ok(())
     }
 
     /// Counts why memory was not sound, or what was too little.

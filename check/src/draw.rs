@@ -2,7 +2,7 @@
 
 use peer::frame::{self, Frame, Sense};
 use peer::generator::Generator;
-use peer::model::{Hour, Kind, Lamp, Message, MAX_LAST_HOUR, NOTHING_DUE};
+use peer::model::{Hour, Hours, Kind, Lamp, Message, MAX_LAST_HOUR, MOST_HOURS, NOTHING_DUE};
 use peer::routing;
 
 /// The first two are alike in sixteen characters and more; the last has the outermost bytes.
@@ -156,7 +156,30 @@ fn update_hour(generator: &mut Generator, site: &Site) -> Hour {
 
 /// Last hours with all sorts of room between them and what events send.
 pub fn last_hour(generator: &mut Generator) -> Hour {
-    generator.pick(&[0, 3, 30, 30, 50, 43_810, 50_000, MAX_LAST_HOUR])
+    generator.pick(&[0, 3, 30, 30, 50, 43_810, 50_000, 1_000_003, MAX_LAST_HOUR])
+}
+
+/// Lead times of a gateway that has this last hour.
+pub fn hours(generator: &mut Generator, last_hour: Hour) -> Hours {
+    let Hours { request, delivery, life } = Hours::USUAL;
+    Hours {
+        request: lead_time(generator, request, last_hour),
+        delivery: lead_time(generator, delivery, last_hour),
+        life: lead_time(generator, life, last_hour),
+    }
+}
+
+/// The usual hours, a few, an end of the range, any, or about as many as lie before the last hour.
+fn lead_time(generator: &mut Generator, usual: Hour, last_hour: Hour) -> Hour {
+    let few: Hour = generator.below(8).into();
+    match generator.below(8) {
+        0 | 1 => usual,
+        2 | 3 => 1 + few,
+        4 => 1,
+        5 => MOST_HOURS,
+        6 => 1 + generator.word() % MOST_HOURS,
+        _ => (last_hour + 1).saturating_sub(few).clamp(1, MOST_HOURS),
+    }
 }
 
 /// Places, often few.

@@ -3,31 +3,31 @@
 
 use crate::compare::{check_number, Call, Comparison, AMPLE};
 use crate::draw;
+use crate::lead_times::LEADS;
 use crate::Wrong;
 use interface::{memory_length, Opening};
 use peer::frame::{self, Frame, Sense};
 use peer::generator::Generator;
-use peer::model::{Hour, Kind, Lamp, Message, MAX_LAST_HOUR};
+use peer::model::{Hour, Hours, Kind, Lamp, Message, MAX_LAST_HOUR, MOST_HOURS};
 
 const KINDS: [Kind; 4] = [Kind::Failure, Kind::Request, Kind::Delivery, Kind::Restock];
 const GATEWAYS: [u8; 6] = [0, 1, 127, 128, 253, 254];
 const QUANTITIES: [u16; 6] = [0, 1, 255, 256, 300, 65_535];
 
-/// The last four are as far before the largest last hour as what is sent may lie behind its cause, or at it.
-const HOURS: [Hour; 9] = [
+/// The last ones are as far before the largest last hour as what is sent may lie behind its cause, or at it.
+const HOURS: [Hour; 11] = [
     0,
     255,
     256,
     65_535,
     0x8000_0000,
+    MAX_LAST_HOUR - MOST_HOURS,
+    MAX_LAST_HOUR - MOST_HOURS + 1,
     MAX_LAST_HOUR - 43_800,
     MAX_LAST_HOUR - 24,
     MAX_LAST_HOUR - 1,
     MAX_LAST_HOUR,
 ];
-
-/// Hours from the later message to the last hour.
-const DISTANCES: [Hour; 8] = [0, 1, 2, 23, 24, 43_799, 43_800, 1_000_000];
 
 const STOCKS: [u16; 6] = [0, 0, 1, 2, 65_534, 65_535];
 const COUNTERS: [u32; 4] = [0, 1, u32::MAX - 1, u32::MAX];
@@ -87,7 +87,9 @@ fn change_lamp(generator: &mut Generator, lamp: &mut Lamp) {
 }
 
 fn opening(generator: &mut Generator, own: u8, hour: Hour) -> Opening {
-    let last_hour = hour.saturating_add(generator.pick(&DISTANCES)).min(MAX_LAST_HOUR);
+    let hours = draw::hours(generator, hour);
+    let last_hour = hour.saturating_add(distance(generator, &hours)).min(MAX_LAST_HOUR);
+    let Hours { request, delivery, life } = hours;
     Opening {
         gateways: 255,
         own: own.into(),
@@ -96,7 +98,16 @@ fn opening(generator: &mut Generator, own: u8, hour: Hour) -> Opening {
         last_hour,
         queue_places: 2,
         outstanding_places: 2,
+        request_hours: request,
+        delivery_hours: delivery,
+        life_hours: life,
     }
+}
+
+/// Hours from the later message to the last hour: few, or a lead time, an hour more or an hour less.
+fn distance(generator: &mut Generator, hours: &Hours) -> Hour {
+    let lead_time = generator.pick(&LEADS).of(hours);
+    generator.pick(&[0, 1, 2, lead_time - 1, lead_time, lead_time, lead_time + 1])
 }
 
 /// Writes a state into the header.

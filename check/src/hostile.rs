@@ -1,8 +1,9 @@
 //! Hostile input: damaged frames and lists, records with a thing or two wrong, and memories with bytes changed.
 
 use crate::draw::{self, Site};
+use crate::lead_times::LEADS;
 use peer::generator::Generator;
-use peer::model::MAX_LAST_HOUR;
+use peer::model::{MAX_LAST_HOUR, MOST_HOURS};
 
 /// Bytes with one thing wrong, or none left, or more of them.
 pub fn damaged(generator: &mut Generator, bytes: &[u8]) -> Vec<u8> {
@@ -116,22 +117,23 @@ pub fn spoiled(generator: &mut Generator, memory: &[u8]) -> Vec<u8> {
     let mut memory = memory.to_vec();
     let queued = half(&memory, 10);
     let sent_at = 256 + 64 * half(&memory, 6);
-    match generator.below(14) {
+    match generator.below(15) {
         0 => memory.truncate(usize::from(generator.half()) % (memory.len() + 1)),
-        1 => memory[usize::from(generator.below(40))] = generator.byte(),
-        2 => memory[usize::from(generator.below(40))] ^= 1 << generator.below(8),
+        1 => memory[usize::from(generator.below(56))] = generator.byte(),
+        2 => memory[usize::from(generator.below(56))] ^= 1 << generator.below(8),
         3 => memory[3] = generator.below(4),
         4 => memory[4] = generator.below(4),
         5 => (memory[3], memory[4]) = (generator.below(3), generator.below(4)),
         6 => memory[11] = memory[11].wrapping_add(1),
         7 => memory[13] = memory[13].wrapping_add(1),
-        8 if queued > 1 => swap_neighbours(generator, &mut memory, queued),
-        9 if queued > 1 => copy_neighbour(generator, &mut memory, queued),
-        10 if queued > 0 => {
+        8 => change_lead_time(generator, &mut memory),
+        9 if queued > 1 => swap_neighbours(generator, &mut memory, queued),
+        10 if queued > 1 => copy_neighbour(generator, &mut memory, queued),
+        11 if queued > 0 => {
             let place = usize::from(generator.half()) % queued;
             memory[256 + 64 * place] = generator.below(4);
         }
-        11 if half(&memory, 12) > 0 => {
+        12 if half(&memory, 12) > 0 => {
             let place = usize::from(generator.half()) % half(&memory, 12);
             change_place(generator, &mut memory[sent_at + 32 * place..][..32]);
         }
@@ -142,6 +144,13 @@ pub fn spoiled(generator: &mut Generator, memory: &[u8]) -> Vec<u8> {
         _ => {}
     }
     memory
+}
+
+/// Writes hours in their range or out of it into the header.
+fn change_lead_time(generator: &mut Generator, memory: &mut [u8]) {
+    let hours = [0, 1, 2, 24, 700, MOST_HOURS, MOST_HOURS + 1, 1 << 24, u32::MAX];
+    let place = generator.pick(&LEADS).place();
+    memory[place].copy_from_slice(&generator.pick(&hours).to_be_bytes());
 }
 
 /// Changes a byte of a place, often the hour's first or a gateway's number.

@@ -6,6 +6,7 @@ pub mod draw;
 pub mod events;
 pub mod hostile;
 pub mod hours;
+pub mod lead_times;
 pub mod ledger;
 pub mod peer_calls;
 pub mod runs;

@@ -4,6 +4,7 @@
 use interface::{AgreedTime, Answer, Calls, LampPlace, Opening, ViewAnswer, NO_NEIGHBOUR};
 use peer::frame::{self, Frame};
 use peer::gateway::{Gateway, Setup};
+use peer::model::Hours;
 use peer::refusal::Refusal;
 use peer::{memory, record, routing, view};
 
@@ -94,6 +95,8 @@ impl Calls for Peer {
 
 /// The settings as the second implementation takes them.
 pub fn setup(opening: &Opening, list: &[u8], memory: usize) -> Setup {
+    let &Opening { request_hours: request, delivery_hours: delivery, life_hours: life, .. } =
+        opening;
     Setup {
         nodes: opening.gateways,
         own: opening.own,
@@ -102,6 +105,7 @@ pub fn setup(opening: &Opening, list: &[u8], memory: usize) -> Setup {
         last_hour: opening.last_hour,
         queue_places: opening.queue_places,
         outstanding_places: opening.outstanding_places,
+        hours: Hours { request, delivery, life },
         opening: list.to_vec(),
         memory,
     }

@@ -5,12 +5,12 @@ use crate::compare::{check_number, Call, Comparison, AMPLE};
 use crate::draw::{self, Site};
 use crate::tally::Situation;
 use crate::world::{opening, World};
-use crate::{events, hostile, views, Wrong};
-use interface::{memory_length, Opening, MOST_PLACES};
+use crate::{events, hostile, lead_times, views, Wrong};
+use interface::{memory_length, Opening, MOST_HOURS, MOST_PLACES};
 use peer::forecast;
 use peer::frame::{self, Frame, Sense};
 use peer::generator::Generator;
-use peer::model::NOTHING_DUE;
+use peer::model::{Hours, NOTHING_DUE};
 
 /// Output lengths to choose from, with those just too short for one, two or three frames.
 const ROOMS: [&[usize]; 2] =
@@ -58,6 +58,7 @@ pub fn forecast_run(
     calls: usize,
 ) -> Result<Vec<Vec<u8>>, Wrong> {
     let setups = forecast::draw(generator);
+    comparison.tally.count_lead_times(lead_times::different(&setups));
     let mut world = World::new(&setups, comparison)?;
     let habits = Habits::draw(generator);
     for _ in 0..calls {
@@ -224,14 +225,19 @@ pub fn single_gateway(
     let most = generator.pick(&[1, 2, 4, 4, 7, 12, 254]);
     let gateways = 1 + generator.below(most);
     let own = if generator.below(3) == 0 { 0 } else { generator.below(gateways) };
+    let last_hour = draw::last_hour(generator);
+    let Hours { request, delivery, life } = draw::hours(generator, last_hour);
     let opening = Opening {
         gateways: gateways.into(),
         own: own.into(),
         supplier: generator.below(gateways).into(),
         stock: generator.below(4).into(),
-        last_hour: draw::last_hour(generator),
+        last_hour,
         queue_places: draw::places(generator),
         outstanding_places: draw::places(generator),
+        request_hours: request,
+        delivery_hours: delivery,
+        life_hours: life,
     };
     let mut memory =
         vec![generator.byte(); memory_length(opening.queue_places, opening.outstanding_places)];
@@ -314,7 +320,21 @@ pub fn set_ups(
 }
 
 fn change_setting(generator: &mut Generator, opening: &mut Opening) {
-    let odd = generator.pick(&[0, 1, 2, 255, 256, 511, 512, 513, 65_535, 65_536, NOTHING_DUE]);
+    let odd = generator.pick(&[
+        0,
+        1,
+        2,
+        255,
+        256,
+        511,
+        512,
+        513,
+        65_535,
+        65_536,
+        MOST_HOURS,
+        MOST_HOURS + 1,
+        NOTHING_DUE,
+    ]);
     let settings = [
         &mut opening.gateways,
         &mut opening.own,
@@ -323,9 +343,12 @@ fn change_setting(generator: &mut Generator, opening: &mut Opening) {
         &mut opening.last_hour,
         &mut opening.queue_places,
         &mut opening.outstanding_places,
+        &mut opening.request_hours,
+        &mut opening.delivery_hours,
+        &mut opening.life_hours,
     ];
-    let chosen = usize::from(generator.below(7));
-    *settings.into_iter().nth(chosen).expect("one of seven") = odd;
+    let chosen = usize::from(generator.below(10));
+    *settings.into_iter().nth(chosen).expect("one of ten") = odd;
 }
 
 /// A gateway with all 512 queue places in use: long work, long undoing, and what no longer fits.
@@ -339,6 +362,9 @@ pub fn most_places(comparison: &mut Comparison) -> Result<(), Wrong> {
             last_hour: 100_000,
             queue_places: MOST_PLACES,
             outstanding_places,
+            request_hours: 3,
+            delivery_hours: 24,
+            life_hours: 43_800,
         };
         let mut memory = vec![0; memory_length(MOST_PLACES, outstanding_places)];
         check_number(comparison.set_up(&mut memory, &[], &opening)?, 0)?;

@@ -1,5 +1,6 @@
 //! How many calls of each kind were made, with which answers and for which reasons, and which of them are still missing.
 
+use crate::lead_times::{Lead, Met, ALL_MET, LEADS};
 use interface::{MAINTENANCE, PURCHASING};
 use peer::frame::{self, Frame, Sense};
 use peer::memory::{self, Unsound};
@@ -136,6 +137,7 @@ pub struct Tally {
     refused_frames: BTreeMap<(FrameCall, Reason), u64>,
     unsound: BTreeMap<Unsound, u64>,
     lacking: BTreeMap<Lacking, u64>,
+    lead_times: BTreeMap<(Met, Lead), u64>,
     situations: BTreeMap<Situation, u64>,
 }
 
@@ -189,6 +191,12 @@ impl Tally {
         *self.lacking.entry(lacking).or_default() += 1;
     }
 
+    pub fn count_lead_times(&mut self, met: impl IntoIterator<Item = (Lead, Met)>) {
+        for (lead, met) in met {
+            *self.lead_times.entry((met, lead)).or_default() += 1;
+        }
+    }
+
     pub fn count_situation(&mut self, situation: Situation) {
         *self.situations.entry(situation).or_default() += 1;
     }
@@ -205,6 +213,11 @@ impl Tally {
     /// How often a call refused a frame for that reason.
     fn refused_frames(&self, call: FrameCall, reason: Reason) -> u64 {
         self.refused_frames.get(&(call, reason)).copied().unwrap_or(0)
+    }
+
+    /// How often that was met of a lead time.
+    fn times_of_lead(&self, met: Met, lead: Lead) -> u64 {
+        self.lead_times.get(&(met, lead)).copied().unwrap_or(0)
     }
 
     /// Answers, reasons and situations that can be and were never met.
@@ -227,6 +240,11 @@ impl Tally {
         }
         for lacking in LACKING.iter().filter(|lacking| !self.lacking.contains_key(lacking)) {
             gaps.push(format!("5 was never answered for too few {lacking:?}"));
+        }
+        for met in ALL_MET {
+            for lead in LEADS.into_iter().filter(|&lead| self.times_of_lead(met, lead) == 0) {
+                gaps.push(format!("of {lead:?} hours there were no {met:?}"));
+            }
         }
         for situation in SITUATIONS.iter().filter(|met| !self.situations.contains_key(met)) {
             gaps.push(format!("there were no {situation:?}"));
@@ -269,6 +287,18 @@ impl fmt::Display for Tally {
             write!(formatter, "{:48}", reason.to_string())?;
             for call in FRAME_CALLS {
                 write!(formatter, "{:>9}", self.refused_frames(call, reason))?;
+            }
+            writeln!(formatter)?;
+        }
+        write!(formatter, "{:48}", "hours")?;
+        for lead in LEADS {
+            write!(formatter, "{:>9}", format!("{lead:?}"))?;
+        }
+        writeln!(formatter)?;
+        for met in ALL_MET {
+            write!(formatter, "{:48}", format!("{met:?}"))?;
+            for lead in LEADS {
+                write!(formatter, "{:>9}", self.times_of_lead(met, lead))?;
             }
             writeln!(formatter)?;
         }

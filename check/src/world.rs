@@ -8,7 +8,7 @@ use crate::Wrong;
 use interface::{AgreedTime, Answer, Opening};
 use peer::frame::{self, Frame, Sense};
 use peer::gateway::Setup;
-use peer::model::{Hour, Kind, NOTHING_DUE};
+use peer::model::{Hour, Hours, Kind, NOTHING_DUE};
 use peer::round::least;
 use peer::under_way::{check_agreed, Carried, UnderWay};
 use peer::{queue, record};
@@ -273,6 +273,7 @@ fn frames(own: u8, output: &[u8]) -> Result<Vec<Frame>, Wrong> {
 
 /// The settings of a set-up.
 pub fn opening(setup: &Setup) -> Opening {
+    let Hours { request, delivery, life } = setup.hours;
     Opening {
         gateways: setup.nodes,
         own: setup.own,
@@ -281,6 +282,9 @@ pub fn opening(setup: &Setup) -> Opening {
         last_hour: setup.last_hour,
         queue_places: setup.queue_places,
         outstanding_places: setup.outstanding_places,
+        request_hours: request,
+        delivery_hours: delivery,
+        life_hours: life,
     }
 }
 

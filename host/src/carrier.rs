@@ -1,9 +1,9 @@
 //! The carrier: runs all gateways of a forecast in one process until every record is whole.
 //!
-//! Time goes in windows. In a window the gateways work off what is due up to the horizon, the agreed time and the
-//! window's length behind it, and frames are brought until nothing more moves; then a round finds the new agreed time, and
-//! what lies below it is committed. Messages past the horizon wait at the carrier while their gateway's queue is at least
-//! half full. A window in which places run out is taken back, from a copy of all memories, and done again with half its length;
+//! Time goes in windows. In a window frames are brought, and the gateways work off what is due up to the horizon, the agreed time and the
+//! window's length behind it, until nothing more moves; then a round finds the new agreed time, and what lies below it is committed.
+//! Messages past the horizon wait at the carrier while the queue of their gateway is at least half full and less than half of their sender's
+//! outstanding places are in use, and where that queue is full. A window in which places run out is taken back, from a copy of all memories, and done again with half its length;
 //! so a forecast stops for want of places only where it would stop hour by hour.
 
 use crate::frame::{frames, Frame};
@@ -212,14 +212,15 @@ impl<C: Calls> Forecast<C> {
         Ok(())
     }
 
-    /// Work up to one hour and bringing up to another in turn, until nothing more moves.
+    /// Bringing up to one hour and work up to another in turn, until nothing more moves. What has waited at the carrier and is now due is
+    /// brought first, so that no work is undone for it.
     fn settle(&mut self, work: u32, carry: u32) -> Result<(), Stopped> {
         loop {
-            let worked = self.work(work)?;
-            self.note_places();
             let brought = self.bring(carry)?;
             self.note_places();
-            if !worked && !brought {
+            let worked = self.work(work)?;
+            self.note_places();
+            if !brought && !worked {
                 return Ok(());
             }
         }
@@ -259,18 +260,34 @@ impl<C: Calls> Forecast<C> {
             let Some(frame) = self.carried.under_way.pop_front() else { break };
             if self.is_held(&frame, horizon) {
                 self.carried.under_way.push_back(frame);
-            } else {
-                accepted |= self.take(frame, &[0, NO_ROOM])? == 0;
+                continue;
             }
+            if let Some(message) = self.pop_cancelled(&frame) {
+                accepted |= self.take(message, &[0, NO_ROOM])? == 0;
+            }
+            accepted |= self.take(frame, &[0, NO_ROOM])? == 0;
         }
         Ok(accepted)
     }
 
-    /// A message past the horizon waits while the queue of its gateway is at least half full.
+    /// The message that a cancel cancels, if it is still under way, taken out to be brought before it: a cancel that overtook its message
+    /// would wait for it in a queue place.
+    fn pop_cancelled(&mut self, cancel: &Frame) -> Option<Frame> {
+        let message = cancel.cancelled()?;
+        let place = self.carried.under_way.iter().position(|frame| *frame == message)?;
+        self.carried.under_way.remove(place)
+    }
+
+    /// A message past the horizon waits, to leave room for what is due before it: while the queue of its gateway is at least half full and
+    /// its sender has many outstanding places left, as it may be years until it is due; and where there is no queue place for it.
     fn is_held(&self, frame: &Frame, horizon: u32) -> bool {
-        let Some(hour) = frame.plain_hour() else { return false };
-        let places = Places::of(&self.carried.memories[frame.addressee()]);
-        hour > horizon && 2 * places.queue_used >= places.queue
+        if frame.plain_hour().is_none_or(|hour| hour <= horizon) {
+            return false;
+        }
+        let to = Places::of(&self.carried.memories[frame.addressee()]);
+        let from = Places::of(&self.carried.memories[frame.sender()]);
+        to.queue_used == to.queue
+            || 2 * to.queue_used >= to.queue && 2 * from.outstanding_used < from.outstanding
     }
 
     /// Brings a frame to its gateway, and what that answers; one that is not accepted stays under way.

@@ -162,10 +162,10 @@ impl<'a> Reader<'a> {
         Some(Trace { every, entries })
     }
 
-    /// A frame that can be brought to one of so many gateways.
+    /// A frame between two of so many gateways.
     fn frame(&mut self, gateways: usize) -> Option<Frame> {
         let frame = self.bytes().filter(|frame| frame.len() <= LONGEST).map(Frame::new)?;
-        (frame.addressee() < gateways).then_some(frame)
+        (frame.addressee() < gateways && frame.sender() < gateways).then_some(frame)
     }
 
     fn frames(&mut self, gateways: usize) -> Option<VecDeque<Frame>> {
@@ -272,9 +272,11 @@ mod tests {
         assert_eq!(decode(&bytes, build, &scenario), Err(Unusable::OtherBuild));
         let of_another = Origin { scenario: other, ..origin };
         assert_eq!(decode(&bytes, of_another, &scenario), Err(Unusable::OtherScenario));
-        let mut nowhere = carried;
-        nowhere.under_way.push_back(Frame::new(&[7, 4, 0, 2]));
-        let bytes = encode(origin, &nowhere, &records);
-        assert_eq!(decode(&bytes, origin, &scenario), Err(Unusable::Damaged));
+        for nowhere in [[7, 4, 0, 2], [7, 4, 2, 0]] {
+            let mut carried = carried.clone();
+            carried.under_way.push_back(Frame::new(&nowhere));
+            let bytes = encode(origin, &carried, &records);
+            assert_eq!(decode(&bytes, origin, &scenario), Err(Unusable::Damaged));
+        }
     }
 }

@@ -55,6 +55,18 @@ impl Frame {
         self.bytes[if acknowledges { 2 } else { 3 }].into()
     }
 
+    /// The gateway in its from: of a plain message or a cancel the one that sent it.
+    pub fn sender(&self) -> usize {
+        self.bytes[2].into()
+    }
+
+    /// The plain message that a cancel cancels; `None` for every other frame.
+    pub fn cancelled(&self) -> Option<Frame> {
+        let [map, .., sense] = self.bytes;
+        let plain = [&[PLAIN_EVENT], &self.bytes[1..27]].concat();
+        (map == PLAIN_EVENT | SENSE_BIT && sense == CANCEL).then(|| Frame::new(&plain))
+    }
+
     /// The hour of a plain message; `None` for every other frame.
     pub fn plain_hour(&self) -> Option<u32> {
         (self.bytes[0] == PLAIN_EVENT).then(|| word(&self.bytes, 4))
@@ -98,14 +110,26 @@ mod tests {
     use super::*;
 
     #[test]
+    fn a_cancel_names_its_message() {
+        let failure = failure(3, 258, b"L00000000000000001");
+        let with_sense = |sense| Frame::new(&[&[191], &failure[1..], &[sense]].concat());
+        assert_eq!(with_sense(CANCEL).cancelled(), Some(Frame::new(&failure)));
+        for other in [with_sense(2), with_sense(3), Frame::new(&failure), Frame::new(&[7, 4, 1, 2])]
+        {
+            assert_eq!(other.cancelled(), None);
+        }
+    }
+
+    #[test]
     fn frames_are_cut_by_their_maps() {
         let lamp = b"L00000000000000001";
         let failure = failure(3, 258, lamp);
         let acknowledgment = [&[191, 1, 3, 4], &failure[4..], &[2]].concat();
         let output = [&failure[..], &[7, 4, 1, 2], &acknowledgment].concat();
         let frames: Vec<Frame> = frames(&output).collect();
-        let found: Vec<_> = frames.iter().map(|f| (f.addressee(), f.plain_hour())).collect();
-        assert_eq!(found, [(3, Some(258)), (2, None), (3, None)]);
+        let found: Vec<_> =
+            frames.iter().map(|f| (f.sender(), f.addressee(), f.plain_hour())).collect();
+        assert_eq!(found, [(3, 3, Some(258)), (1, 2, None), (3, 3, None)]);
         assert_eq!(frames.iter().map(|f| f.bytes().len()).collect::<Vec<_>>(), [27, 4, 28]);
     }
 }

@@ -79,8 +79,8 @@ impl fmt::Display for Unexplained {
 #[derive(Debug, Default)]
 struct Failures {
     all: Vec<Failure>,
-    /// So many of the first ones are fitted.
-    fitted: usize,
+    /// The places of those that are not fitted: never more than the lamp has opening failures, however often it fails in all.
+    open: Vec<usize>,
 }
 
 /// Every lamp that has failed.
@@ -107,10 +107,12 @@ impl Lamps {
         let now = At { hour, gateway: to };
         if kind == Kind::Failure {
             let failure = Failure { failed: now, refused: None, drawn: None, fitted: None };
+            failures.open.push(failures.all.len());
             failures.all.push(failure);
             return Ok((None, Stage::Asked));
         }
-        let failure = failures.cause(event).ok_or(Unexplained(*event))?;
+        let cause = failures.cause(event).ok_or(Unexplained(*event))?;
+        let failure = &mut failures.all[failures.open[cause]];
         let before = failure.stage();
         match kind {
             Kind::Request if stocked => failure.drawn = Some(now),
@@ -118,26 +120,24 @@ impl Lamps {
             _ => failure.fitted = Some(now),
         }
         let after = failure.stage();
-        failures.pass_fitted();
+        if after == Stage::Fitted {
+            failures.open.remove(cause);
+        }
         Ok((Some(before), after))
     }
 }
 
 impl Failures {
-    /// The failure for which a message was sent: where it comes from, and of several the one for which that is longest ago. Those that
-    /// agree in the hour too sent wholly equal messages, which are interchangeable.
-    fn cause(&mut self, message: &Event) -> Option<&mut Failure> {
-        let sent = |failure: &Failure| {
-            let sent = failure.sent(message.kind)?;
-            (sent.gateway == message.from && sent.hour < message.hour).then_some(sent.hour)
+    /// The place among the open ones of the failure for which a message was sent: where it comes from, and of several the one for which
+    /// that is longest ago, as one gateway sends all its messages of a kind after the same number of hours. Those that agree in the hour too
+    /// sent wholly equal messages, which are interchangeable.
+    fn cause(&self, message: &Event) -> Option<usize> {
+        let sent = |place: usize| {
+            let sent = self.all[self.open[place]].sent(message.kind)?;
+            let may_be = sent.gateway == message.from && sent.hour < message.hour;
+            may_be.then_some((sent.hour, place))
         };
-        let open = self.all[self.fitted..].iter_mut();
-        open.filter(|failure| sent(failure).is_some()).min_by_key(|failure| sent(failure))
-    }
-
-    fn pass_fitted(&mut self) {
-        let open = &self.all[self.fitted..];
-        self.fitted += open.iter().take_while(|failure| failure.fitted.is_some()).count();
+        (0..self.open.len()).filter_map(sent).min().map(|(_, place)| place)
     }
 }
 
@@ -218,6 +218,51 @@ mod tests {
                 (Some(at(12, 4)), Stage::Fitted)
             ]
         );
+    }
+
+    /// Gateway 4 passes a Request on after 100 hours, gateway 3 asks after 2: a later failure overtakes the first one.
+    #[test]
+    fn gateways_with_different_hours() {
+        let failures = follow(&[
+            ((Kind::Failure, 10, 3, 3), false),
+            ((Kind::Request, 12, 3, 4), false),
+            ((Kind::Failure, 50, 3, 3), false),
+            ((Kind::Request, 52, 3, 4), true),
+            ((Kind::Delivery, 60, 4, 3), false),
+            ((Kind::Failure, 70, 3, 3), false),
+            ((Kind::Request, 72, 3, 4), false),
+            ((Kind::Request, 112, 4, 5), true),
+            ((Kind::Request, 172, 4, 5), true),
+            ((Kind::Delivery, 400, 5, 3), false),
+            ((Kind::Delivery, 460, 5, 3), false),
+        ]);
+        let found: Vec<_> = failures.unwrap().iter().map(|f| (f.drawn, f.fitted)).collect();
+        assert_eq!(
+            found,
+            [
+                (Some(at(112, 5)), Some(at(400, 3))),
+                (Some(at(52, 4)), Some(at(60, 3))),
+                (Some(at(172, 5)), Some(at(460, 3)))
+            ]
+        );
+    }
+
+    /// A lamp whose driver lives an hour, while the Request of an earlier failure is never served: each event takes as long as the first.
+    #[test]
+    fn a_lamp_may_fail_often_while_a_failure_is_open() {
+        let mut lamps = Lamps::default();
+        let mut add = |sent, stocked| lamps.follow(&event(sent), stocked).unwrap();
+        add((Kind::Failure, 0, 3, 3), false);
+        add((Kind::Request, 1, 3, 4), false);
+        for number in 1..=200_000 {
+            add((Kind::Failure, 3 * number, 3, 3), false);
+            add((Kind::Request, 3 * number + 1, 3, 4), true);
+            add((Kind::Delivery, 3 * number + 2, 4, 3), false);
+        }
+        let [(_, failures)] = lamps.iter().collect::<Vec<_>>().try_into().unwrap();
+        let fitted = failures.iter().filter(|failure| failure.fitted.is_some()).count();
+        assert_eq!((failures.len(), fitted), (200_001, 200_000));
+        assert_eq!(failures[0].stage(), Stage::Short);
     }
 
     #[test]

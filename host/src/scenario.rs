@@ -5,6 +5,7 @@
 //! ```text
 //! last-hour HOUR
 //! gateway NUMBER supplier NUMBER stock QUANTITY [queue PLACES] [outstanding PLACES]
+//!         [request HOURS] [delivery HOURS] [life HOURS]    (in the same line)
 //! failure GATEWAY HOUR LAMP
 //! restock GATEWAY HOUR QUANTITY
 //! ```
@@ -13,12 +14,17 @@
 
 use crate::command::{input_text, shown, Ending, BAD_FILE};
 use crate::{frame, record};
-use interface::{Opening, MOST_PLACES, NOTHING_DUE};
+use interface::{Opening, MOST_HOURS, MOST_PLACES, NOTHING_DUE};
 use std::ffi::OsStr;
 use std::fmt;
 
 /// The most gateways of a forecast.
 pub const MOST_GATEWAYS: usize = 255;
+
+/// A gateway's hours where its line does not give them: those of document 01.
+pub const REQUEST_HOURS: u32 = 1;
+pub const DELIVERY_HOURS: u32 = 24;
+pub const LIFE_HOURS: u32 = 43_800;
 
 /// A gateway and its opening events.
 #[derive(Clone, Debug, PartialEq, Eq)]
@@ -27,6 +33,9 @@ pub struct Gateway {
     pub stock: u16,
     pub queue_places: u32,
     pub outstanding_places: u32,
+    pub request_hours: u32,
+    pub delivery_hours: u32,
+    pub life_hours: u32,
     /// Whole frames, one behind the other.
     pub list: Vec<u8>,
     /// How many frames those are.
@@ -93,6 +102,9 @@ impl Scenario {
             last_hour: self.last_hour,
             queue_places: gateway.queue_places,
             outstanding_places: gateway.outstanding_places,
+            request_hours: gateway.request_hours,
+            delivery_hours: gateway.delivery_hours,
+            life_hours: gateway.life_hours,
         }
     }
 }
@@ -146,6 +158,9 @@ impl Reader {
             stock: settings.stock.ok_or("no stock")? as u16,
             queue_places: settings.queue.unwrap_or(MOST_PLACES),
             outstanding_places: settings.outstanding.unwrap_or(MOST_PLACES),
+            request_hours: settings.request.unwrap_or(REQUEST_HOURS),
+            delivery_hours: settings.delivery.unwrap_or(DELIVERY_HOURS),
+            life_hours: settings.life.unwrap_or(LIFE_HOURS),
             list: Vec::new(),
             events: 0,
             line,
@@ -216,6 +231,9 @@ struct Settings {
     stock: Option<u32>,
     queue: Option<u32>,
     outstanding: Option<u32>,
+    request: Option<u32>,
+    delivery: Option<u32>,
+    life: Option<u32>,
 }
 
 impl Settings {
@@ -236,9 +254,12 @@ impl Settings {
             "stock" => (&mut self.stock, "the stock", 0, 65_535),
             "queue" => (&mut self.queue, "queue places", 1, MOST_PLACES),
             "outstanding" => (&mut self.outstanding, "outstanding places", 1, MOST_PLACES),
+            "request" => (&mut self.request, "request hours", 1, MOST_HOURS),
+            "delivery" => (&mut self.delivery, "delivery hours", 1, MOST_HOURS),
+            "life" => (&mut self.life, "life hours", 1, MOST_HOURS),
             _ => {
                 return Err(format!(
-                    "unknown setting \"{name}\": there are supplier, stock, queue and outstanding"
+                    "unknown setting \"{name}\": there are supplier, stock, queue, outstanding, request, delivery and life"
                 ))
             }
         };
@@ -302,6 +323,15 @@ mod tests {
         let opening = scenario.opening(0);
         assert_eq!((opening.supplier, opening.queue_places), (1, 4));
         assert_eq!(opening.outstanding_places, 512);
+        let hours =
+            |opening: Opening| [opening.request_hours, opening.delivery_hours, opening.life_hours];
+        assert_eq!(hours(opening), [1, 24, 43_800]);
+        let island = "gateway 2 life 1000000 supplier 1 request 36 stock 5 delivery 1\n";
+        let with_island = Scenario::parse(&format!("{GOOD}{island}")).unwrap();
+        assert_eq!(
+            [0, 1, 2].map(|own| hours(with_island.opening(own))),
+            [[1, 24, 43_800], [1, 24, 43_800], [36, 1, 1_000_000]]
+        );
         assert_eq!(scenario.gateways[0].list, frame::failure(0, 10, b"L00000000000000001"));
         assert_eq!(scenario.gateways[1].list, frame::restock(1, 50, 7));
         assert_eq!(Scenario::parse(&format!("\u{feff}{GOOD}")), Ok(scenario));
@@ -329,6 +359,18 @@ mod tests {
         assert_eq!(with("gateway 2 supplier 0"), "8: no stock");
         assert_eq!(with("gateway 2 supplier 0 stock"), "8: no number behind \"stock\"");
         assert_eq!(with("gateway 2 stock 1 supplier 0 stock 1"), "8: a second stock");
+        assert_eq!(with("gateway 2 supplier 0 stock 0 life 7 life 7"), "8: a second life");
+        assert_eq!(
+            with("gateway 2 supplier 0 stock 0 lives 7"),
+            "8: unknown setting \"lives\": there are supplier, stock, queue, outstanding, request, delivery and life"
+        );
+        for name in ["request", "delivery", "life"] {
+            let hours = |hours: &str| with(&format!("gateway 2 supplier 0 stock 0 {name} {hours}"));
+            for bad in ["0", "1000001", "4294967297", "-1", "1.5", "24h"] {
+                assert_eq!(hours(bad), format!("8: {name} hours is 1 to 1000000, not \"{bad}\""));
+            }
+            assert_eq!(hours(""), format!("8: no number behind \"{name}\""));
+        }
         assert_eq!(with("gateway"), "8: gateway has no number behind it");
         assert_eq!(with("gateway 2 supplier 3 stock 0"), "8: there is no gateway 3, the supplier");
         assert_eq!(with("last-hour 7"), "8: a second last-hour");

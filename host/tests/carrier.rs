@@ -2,6 +2,7 @@
 
 use host::carrier::{Forecast, Progress, Stopped, Want};
 use host::frame::REQUEST;
+use host::places::Places;
 use host::record::{Kind, Record, Records, State};
 use host::scenario::Scenario;
 use interface::{AgreedTime, Answer, Calls, LampPlace, Opening, ViewAnswer};
@@ -62,6 +63,56 @@ fn a_window_in_which_places_run_out_is_taken_back() {
     let progress = end.unwrap();
     assert!(progress.taken_back > 0, "{progress:?}");
     assert_eq!(progress.committed as usize, records[0].len() + records[1].len());
+}
+
+/// The most queue places that each gateway of a scenario used, and the most outstanding ones.
+fn most_used(text: &str) -> (Progress, Vec<[usize; 2]>) {
+    let scenario = Scenario::parse(text).unwrap();
+    let mut forecast = Forecast::new(Library, &scenario).unwrap();
+    let progress = forecast.run(|_, _| ()).unwrap();
+    let used = |places: &Places| [places.queue_used, places.outstanding_used];
+    (progress, forecast.carried().most.iter().map(used).collect())
+}
+
+/// The worked example of docs/OPERATING.md: 240 lamps of an island, one after the other every ten hours.
+#[test]
+fn queue_places_follow_from_the_hours() {
+    let used = |life: u32| {
+        let mut text = format!(
+            "last-hour 20000\ngateway 0 supplier 1 stock 0 request 48 life {life}\n\
+             gateway 1 supplier 1 stock 60000 delivery 96\n"
+        );
+        for number in 1..=240 {
+            text += &format!("failure 0 {} L{number:017}\n", 10 * number);
+        }
+        most_used(&text).1.iter().map(|&[queue, _]| queue).collect::<Vec<_>>()
+    };
+    assert_eq!(used(2_256), [242, 9]);
+    assert_eq!(used(456), [248, 36]);
+}
+
+/// Failures that are due in 3,000 hours fill more than half of the queues. They leave room for what is due before them: neither do those that
+/// wait at the carrier take up all outstanding places, nor are the windows made short, and little work is undone.
+#[test]
+fn drivers_that_live_long_leave_room() {
+    let mut text = String::from("last-hour 9000\n");
+    let places = "queue 400 outstanding 90";
+    for own in 0..4 {
+        text += &format!("gateway {own} supplier {} stock 0 life 3000 {places}\n", 4 + own % 2);
+    }
+    text += &format!("gateway 4 supplier 5 stock 9 request 24 delivery 48 life 3000 {places}\n");
+    text += "gateway 5 supplier 5 stock 60000\n";
+    for number in 0..1_500 {
+        let hour = 1 + 1_009 * number % 3_000;
+        text += &format!("failure {} {hour} L{number:017}\n", number % 5);
+    }
+    let (progress, used) = most_used(&text);
+    let Progress { worked, committed, taken_back, .. } = progress;
+    assert_eq!(taken_back, 0);
+    assert!(10 * worked < 14 * committed, "{progress:?}");
+    for &[queue, outstanding] in &used[..5] {
+        assert!(queue <= 320 && outstanding <= 70, "{queue} {outstanding}");
+    }
 }
 
 /// A forecast of many rounds keeps a trace of bounded length, evenly spread, with its beginning.

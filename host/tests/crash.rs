@@ -15,12 +15,15 @@ const FORECAST: &str = env!("CARGO_BIN_EXE_forecast");
 /// Options with which a copy is written after each round.
 const OFTEN: [&str; 3] = ["--quiet", "--save-every", "0"];
 
-/// Four gateways of which the last runs empty at times, and lacks places when it does, so that windows are taken back.
+/// Four gateways of which the last runs empty at times, and lacks places when it does, so that windows are taken back. The first two have
+/// hours of their own.
 fn scenario() -> String {
     let mut text = String::from("# Four gateways\nlast-hour 6000\n");
-    for own in 0..3 {
+    for (own, hours) in [" request 2 life 4900", " request 3 delivery 30", ""].iter().enumerate() {
         let supplier = own + 1;
-        text += &format!("gateway {own} supplier {supplier} stock 1 queue 200 outstanding 100\n");
+        text += &format!(
+            "gateway {own} supplier {supplier} stock 1 queue 200 outstanding 100{hours}\n"
+        );
     }
     text += "gateway 3 supplier 3 stock 1 queue 48 outstanding 6\n";
     for number in 0..250 {
@@ -192,6 +195,11 @@ fn what_cannot_be_gone_on_with_is_refused_in_words() {
     refused(&directory, "forecast.copy: this is no copy of a forecast");
     put_back("forecast.copy");
 
+    let other_hours = scenario().replace("request 2 life 4900", "request 2 life 4901");
+    assert_ne!(other_hours, scenario());
+    fs::write(directory.join("forecast.scenario"), other_hours).unwrap();
+    refused(&directory, "forecast.copy: the copy is of another scenario");
+    put_back("forecast.scenario");
     append(&directory.join("forecast.scenario"), b"restock 3 5900 1\n");
     refused(&directory, "forecast.copy: the copy is of another scenario");
     append(&directory.join("forecast.scenario"), b"x\n");

@@ -51,8 +51,8 @@ impl Whole {
         }
     }
 
-    /// The figures of a gateway, counted in another way: by the hour each Request is answered, so a lamp is short at the end of an hour if a
-    /// shelf was empty in that very hour.
+    /// The figures of a gateway, counted in another way: a shelf that was empty passes the Request on after its request hours, and until then,
+    /// or past the last hour for ever, the lamp is short.
     fn counted(&self, gateway: usize, hours: u32, number: u32, end: u32) -> [i64; 8] {
         let within = |hour: u32| hour <= end && hour.saturating_sub(1) / hours + 1 == number;
         let mut counted = [0; 8];
@@ -61,6 +61,7 @@ impl Whole {
         *on_shelves = self.scenario.gateways[gateway].stock.into();
         for shelf in 0..self.records.len() {
             let mut stock = self.scenario.gateways[shelf].stock;
+            let request_hours = self.scenario.gateways[shelf].request_hours;
             for Record { event, after } in self.events(shelf) {
                 let (of_lamp, of_shelf) = (usize::from(event.origin) == gateway, shelf == gateway);
                 let count = |counts: bool| i64::from(counts && within(event.hour));
@@ -70,7 +71,8 @@ impl Whole {
                 *fitted += count(of_lamp && event.kind == Kind::Delivery);
                 *drawn += count(of_lamp && found);
                 *handed_out += count(of_shelf && found);
-                *short += i64::from(of_lamp && empty && event.hour == end);
+                let is_short = empty && event.hour <= end && end - event.hour < request_hours;
+                *short += i64::from(of_lamp && is_short);
                 if event.hour <= end && event.kind != Kind::Restock && of_lamp {
                     *on_the_way += i64::from(event.kind == Kind::Failure);
                     *on_the_way -= i64::from(event.kind == Kind::Delivery);
@@ -271,22 +273,38 @@ fn random_forecasts_add_up() {
     }
 }
 
-/// A random scenario in which lamps fail more than once, also in one hour, and shelves run empty and over.
+/// A random scenario in which lamps fail more than once, also in one hour, and shelves run empty and over. Some gateways have hours of their
+/// own.
 fn scenario(generator: &mut Generator, last_hour: u32) -> String {
     let gateways = 1 + generator.below(5);
     let mut text = format!("last-hour {last_hour}\n");
     for own in 0..gateways {
-        let (supplier, stock) =
-            (generator.below(gateways), [0, 0, 1, 3, 65_500][generator.below(5) as usize]);
-        text += &format!("gateway {own} supplier {supplier} stock {stock}\n");
+        let (supplier, stock) = (generator.below(gateways), generator.pick(&[0, 0, 1, 3, 65_500]));
+        text += &format!("gateway {own} supplier {supplier} stock {stock}{}\n", hours(generator));
     }
     for _ in 0..generator.below(30) {
         let (own, hour) = (generator.below(gateways), generator.below(last_hour + 1));
         let hour = if generator.below(3) == 0 { hour / MONTH * MONTH } else { hour };
         text += &match generator.below(3) {
-            0 => format!("restock {own} {hour} {}\n", [0, 1, 5, 100][generator.below(4) as usize]),
+            0 => format!("restock {own} {hour} {}\n", generator.pick(&[0, 1, 5, 100])),
             _ => format!("failure {own} {hour} L,\"{:015}\n", generator.below(4)),
         };
+    }
+    text
+}
+
+/// Hours of a gateway in its line: some of them, all or none.
+fn hours(generator: &mut Generator) -> String {
+    let mut text = String::new();
+    let settings = [
+        (" request", [2, 5, 30, 500, 1_000_000]),
+        (" delivery", [1, 3, 100, 729, 5_000]),
+        (" life", [1, 20, 168, 700, 8_760]),
+    ];
+    for (name, choices) in settings {
+        if generator.below(2) == 0 {
+            text += &format!("{name} {}", generator.pick(&choices));
+        }
     }
     text
 }

@@ -68,6 +68,12 @@ fn what_cannot_be_used_changes_nothing() {
     assert_eq!(error, format!("{}:3: there is no gateway 1, the supplier\n", file.display()));
     assert!(!result.exists());
 
+    fs::write(&file, "last-hour 5\ngateway 0 supplier 0 stock 0 request 2 life 1000001\n").unwrap();
+    let error = run(FORECAST, &[&file, &result]).refused(3);
+    let what = "life hours is 1 to 1000000, not \"1000001\"";
+    assert_eq!(error, format!("{}:2: {what}\n", file.display()));
+    assert!(!result.exists());
+
     let error = run(FORECAST, &[&directory.join("missing"), &result]).refused(3);
     assert!(error.contains("missing: No such file"), "{error}");
 

@@ -238,4 +238,12 @@ fn nobody_need_read_what_is_printed() {
 fn the_town_is_a_scenario() {
     let town = Scenario::parse(&run(TOWN, &[""; 0]).good()).unwrap();
     assert_eq!((town.gateways.len(), town.last_hour), (22, 43_800));
+    let hours = |own: usize| {
+        let gateway = &town.gateways[own];
+        [gateway.request_hours, gateway.delivery_hours, gateway.life_hours]
+    };
+    for own in 0..22 {
+        let expected = if own == 20 { [24, 72, 17_520] } else { [1, 24, 43_800] };
+        assert_eq!(hours(own), expected, "gateway {own}");
+    }
 }

@@ -13,6 +13,9 @@ pub const NO_NEIGHBOUR: u16 = u16::MAX;
 /// The most queue places, and the most outstanding places, that set up takes.
 pub const MOST_PLACES: u32 = 512;
 
+/// The most request hours, delivery hours and life hours that set up takes. The least are 1, as a message is later than its cause.
+pub const MOST_HOURS: u32 = 1_000_000;
+
 /// An output of this length is enough for every call at a gateway with that many outstanding places:
 /// an acknowledgment, and a cancel in each outstanding place.
 pub const fn ample_output(outstanding_places: u32) -> usize {
@@ -36,7 +39,8 @@ pub const fn memory_length(queue_places: u32, outstanding_places: u32) -> usize 
     256 + 64 * queue_places as usize + 32 * outstanding_places as usize
 }
 
-/// The settings of set up. They are wider than their ranges; a value outside is answered with 8.
+/// The settings of set up. They are wider than their ranges; a value outside is answered with 8. The hours are those of the gateway that
+/// does a message; what would come past the last hour is not sent.
 #[derive(Clone, Copy, Debug, PartialEq, Eq)]
 pub struct Opening {
     /// Gateways of the forecast.
@@ -47,6 +51,12 @@ pub struct Opening {
     pub last_hour: u32,
     pub queue_places: u32,
     pub outstanding_places: u32,
+    /// Hours after which a Failure's Request, or a Request that found no stock, comes to the supplier.
+    pub request_hours: u32,
+    /// Hours from a Request that found stock to its Delivery.
+    pub delivery_hours: u32,
+    /// Hours from a Delivery to the next Failure of that lamp.
+    pub life_hours: u32,
 }
 
 /// What a call answers: the number of documents 01 and 02 (of work: why it stopped), 0 where nothing is refused.

@@ -27,6 +27,9 @@ mod declared {
             last_hour: u32,
             queue_places: u32,
             outstanding_places: u32,
+            request_hours: u32,
+            delivery_hours: u32,
+            life_hours: u32,
         ) -> u32;
         pub fn hurfaith_work(
             memory: *mut u8,
@@ -94,6 +97,9 @@ impl Calls for Library {
                 opening.last_hour,
                 opening.queue_places,
                 opening.outstanding_places,
+                opening.request_hours,
+                opening.delivery_hours,
+                opening.life_hours,
             )
         }
     }

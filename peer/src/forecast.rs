@@ -3,7 +3,7 @@
 use crate::frame::{self, Frame, Sense};
 use crate::gateway::{self, Setup};
 use crate::generator::Generator;
-use crate::model::{Hour, Kind, Lamp, Message, MAX_LAST_HOUR};
+use crate::model::{Hour, Hours, Kind, Lamp, Message, MAX_LAST_HOUR, MOST_HOURS};
 
 /// The most places that a gateway can have, for the queue and for what is outstanding.
 pub const MOST_PLACES: u32 = 512;
@@ -12,13 +12,13 @@ pub const MOST_PLACES: u32 = 512;
 const LAMPS: [&Lamp; 3] = [b"L00000000000000001", b"L00000000000000002", b"~!L000000000000001"];
 
 /// Hours from the first to the last of a random forecast.
-const SPANS: [Hour; 6] = [0, 5, 30, 60, LONG_SPAN, LONG_SPAN];
+const SPANS: [Hour; 8] = [0, 5, 30, 60, 60, 44_000, 44_000, 1_000_020];
 
-/// A span in which a fitted lamp fails again.
+/// From this span on a fitted lamp has time to fail again by the usual hours, and one event an hour would be too many.
 const LONG_SPAN: Hour = 44_000;
 
-/// Hours from a Failure to its Request, to that Request passed on once, and to the Deliveries of both.
-const FOLLOWING: [Hour; 4] = [1, 2, 25, 26];
+/// In a long span a lamp fails at most about so often.
+const MOST_LIVES: Hour = 25;
 
 const STOCKS: [u32; 7] = [0, 0, 0, 1, 2, 3, 65_535];
 const QUANTITIES: [u16; 4] = [0, 1, 2, 65_535];
@@ -32,33 +32,40 @@ pub fn example() -> Vec<Setup> {
     vec![gateway_0, gateway_1]
 }
 
+/// A gateway of a random forecast, but for its opening list.
+#[derive(Clone, Copy)]
+struct Site {
+    supplier: u8,
+    stock: u32,
+    hours: Hours,
+}
+
 /// A random forecast of 1 to 6 gateways.
 pub fn draw(generator: &mut Generator) -> Vec<Setup> {
     let nodes = 1 + generator.below(6);
     let span = generator.pick(&SPANS);
     let first = generator.pick(&[0, 0, MAX_LAST_HOUR - span]);
     let many_places = generator.below(2) == 0;
+    let sites = draw_sites(nodes, span, generator);
     let mut openings = vec![Vec::new(); nodes.into()];
-    let mut hours_to_failures = Vec::new();
-    for _ in 0..generator.below(6) {
+    let mut failures = Vec::new();
+    for _ in 0..generator.below(9) {
         let own = generator.below(nodes);
-        let hours: Hour = generator.below(12).into();
+        let hours = generator.below(12).into();
         let hour = first + span.min(hours);
         openings[usize::from(own)].push(failure(own, hour, *generator.pick(&LAMPS)));
-        hours_to_failures.push(hours);
+        failures.push((own, hours));
     }
     for _ in 0..generator.below(4) {
-        let own = generator.below(nodes);
-        let hour = first + span.min(hours_to_restock(generator, &hours_to_failures));
+        let (own, hours) = draw_restock(generator, &sites, &failures);
+        let hour = first + span.min(hours);
         openings[usize::from(own)].push(restock(own, hour, generator.pick(&QUANTITIES)));
     }
     let mut setups = Vec::new();
-    for (own, opening) in (0..nodes).zip(&openings) {
-        let (supplier, stock) = match span {
-            LONG_SPAN => long_supply(nodes, own, generator),
-            _ => (generator.below(nodes), generator.pick(&STOCKS)),
-        };
+    for ((own, opening), site) in (0..nodes).zip(&openings).zip(sites) {
+        let Site { supplier, stock, hours } = site;
         let mut setup = setup(nodes, own, supplier, stock, first + span, opening);
+        setup.hours = hours;
         if !many_places {
             limit_places(&mut setup, opening.len() as u32, generator);
         }
@@ -67,12 +74,67 @@ pub fn draw(generator: &mut Generator) -> Vec<Setup> {
     setups
 }
 
-/// Hours from the first to a Restock: often to one in which, after one of the Failures, a Request or a Delivery is due at some gateway.
-fn hours_to_restock(generator: &mut Generator, hours_to_failures: &[Hour]) -> Hour {
-    if hours_to_failures.is_empty() || generator.below(3) == 0 {
-        return generator.below(40).into();
+/// The gateways of a forecast: with the hours of document 01 alone, or each with hours of its own.
+fn draw_sites(nodes: u8, span: Hour, generator: &mut Generator) -> Vec<Site> {
+    let usual = generator.below(4) == 0;
+    let mut sites = Vec::new();
+    for own in 0..nodes {
+        let (supplier, stock) = match span {
+            LONG_SPAN.. => long_supply(nodes, own, generator),
+            _ => (generator.below(nodes), generator.pick(&STOCKS)),
+        };
+        let hours = if usual { Hours::USUAL } else { draw_hours(span, generator) };
+        sites.push(Site { supplier, stock, hours });
     }
-    generator.pick(hours_to_failures) + generator.pick(&FOLLOWING)
+    sites
+}
+
+fn draw_hours(span: Hour, generator: &mut Generator) -> Hours {
+    let Hours { request, delivery, life } = Hours::USUAL;
+    let shortest_life = if span < LONG_SPAN { 1 } else { span / MOST_LIVES };
+    Hours {
+        request: lead_time(request, span, generator),
+        delivery: lead_time(delivery, span, generator),
+        life: lead_time(life, span, generator).max(shortest_life),
+    }
+}
+
+/// The usual hours, one to three, the most, or about as many as from the first events to the last hour: an hour more or less decides
+/// whether anything is sent.
+fn lead_time(usual: Hour, span: Hour, generator: &mut Generator) -> Hour {
+    let few: Hour = generator.below(14).into();
+    match generator.below(8) {
+        0 | 1 => usual,
+        2..=5 => 1 + few % 3,
+        6 => MOST_HOURS,
+        _ => (span + 1).saturating_sub(few).clamp(1, MOST_HOURS),
+    }
+}
+
+/// A gateway, and the hours from the first to a Restock there: often those to a Request or a Delivery that may be due there after one of the
+/// Failures.
+fn draw_restock(generator: &mut Generator, sites: &[Site], failures: &[(u8, Hour)]) -> (u8, Hour) {
+    if failures.is_empty() || generator.below(3) == 0 {
+        return (generator.below(sites.len() as u8), generator.below(40).into());
+    }
+    let (failed, hours) = generator.pick(failures);
+    let (own, more) = draw_following(generator, sites, failed);
+    (own, hours + more)
+}
+
+/// What may follow a Failure, where, and so many hours later: its Request, that Request passed on once, or the Delivery of either.
+fn draw_following(generator: &mut Generator, sites: &[Site], failed: u8) -> (u8, Hour) {
+    let site = |own: u8| sites[usize::from(own)];
+    let asked = site(failed).supplier;
+    let next = site(asked).supplier;
+    let request = site(failed).hours.request;
+    let passed_on = request + site(asked).hours.request;
+    generator.pick(&[
+        (asked, request),
+        (next, passed_on),
+        (failed, request + site(asked).hours.delivery),
+        (failed, passed_on + site(next).hours.delivery),
+    ])
 }
 
 /// Supplier and stock for a long span: every Request soon comes to a gateway with stock, as one that
@@ -80,12 +142,12 @@ fn hours_to_restock(generator: &mut Generator, hours_to_failures: &[Hour]) -> Ho
 fn long_supply(nodes: u8, own: u8, generator: &mut Generator) -> (u8, u32) {
     let behind = nodes - 1 - own;
     if behind == 0 {
-        return (own, 100);
+        return (own, 1_000);
     }
     (own + 1 + generator.below(behind), generator.pick(&STOCKS))
 }
 
-/// A set-up with the most places.
+/// A set-up with the most places and the hours of document 01.
 pub fn setup(
     nodes: u8,
     own: u8,
@@ -103,6 +165,7 @@ pub fn setup(
         last_hour,
         queue_places: MOST_PLACES,
         outstanding_places: MOST_PLACES,
+        hours: Hours::USUAL,
         opening: opening.iter().flat_map(frame).collect(),
         memory: gateway::memory_needed(MOST_PLACES, MOST_PLACES),
     }

@@ -1,7 +1,9 @@
 //! A gateway: its calls, the order in which they turn things down, and undoing (rollback).
 
 use crate::frame::{self, Frame, Sense};
-use crate::model::{self, Done, Hour, Kind, Message, Settings, State, MAX_LAST_HOUR, NOTHING_DUE};
+use crate::model::{
+    self, Done, Hour, Hours, Kind, Message, Settings, State, MAX_LAST_HOUR, NOTHING_DUE,
+};
 use crate::record;
 use crate::refusal::{Reason, Refusal};
 use crate::round::{self, Least, Round};
@@ -17,6 +19,7 @@ pub struct Setup {
     pub last_hour: Hour,
     pub queue_places: u32,
     pub outstanding_places: u32,
+    pub hours: Hours,
     /// Whole frames, one behind the other.
     pub opening: Vec<u8>,
     /// The length of the memory that is lent.
@@ -43,10 +46,10 @@ pub struct Gateway {
 
 /// A processed event and what undoing it needs.
 #[derive(Clone, Debug, PartialEq, Eq)]
-pub(crate) struct Processed {
-    pub(crate) done: Done,
-    pub(crate) before: State,
-    pub(crate) sent: Option<Message>,
+pub struct Processed {
+    pub done: Done,
+    pub before: State,
+    pub sent: Option<Message>,
 }
 
 /// A message that no acknowledgment has come for.
@@ -67,6 +70,7 @@ pub struct Worked {
 impl Setup {
     fn in_range(&self) -> bool {
         let places = 1..=512;
+        let Hours { request, delivery, life } = self.hours;
         (1..=255).contains(&self.nodes)
             && self.own < self.nodes
             && self.supplier < self.nodes
@@ -74,6 +78,7 @@ impl Setup {
             && self.last_hour <= MAX_LAST_HOUR
             && places.contains(&self.queue_places)
             && places.contains(&self.outstanding_places)
+            && [request, delivery, life].into_iter().all(model::is_lead_time)
             && self.memory >= memory_needed(self.queue_places, self.outstanding_places)
     }
 }
@@ -91,7 +96,7 @@ impl Gateway {
         let (nodes, own, supplier) = (setup.nodes as u8, setup.own as u8, setup.supplier as u8);
         let mut gateway = Gateway {
             nodes,
-            settings: Settings { own, supplier, last_hour: setup.last_hour },
+            settings: Settings { own, supplier, last_hour: setup.last_hour, hours: setup.hours },
             queue_places: setup.queue_places as usize,
             outstanding_places: setup.outstanding_places as usize,
             state: State { stock: setup.stock as u16, ..State::default() },
@@ -178,6 +183,15 @@ impl Gateway {
 
     pub fn agreed(&self) -> Hour {
         self.agreed
+    }
+
+    pub fn settings(&self) -> Settings {
+        self.settings
+    }
+
+    /// The processed events in event order.
+    pub fn processed(&self) -> &VecDeque<Processed> {
+        &self.processed
     }
 
     /// The least hour of the unprocessed messages and waiting cancels in the queue.
@@ -707,7 +721,7 @@ mod tests {
             Gateway::set_up(&setup).err()
         };
         assert_eq!(answer(&|_| {}), None);
-        let settings: [&dyn Fn(&mut Setup); 11] = [
+        let settings: [&dyn Fn(&mut Setup); 17] = [
             &|setup| setup.nodes = 0,
             &|setup| setup.nodes = 256,
             &|setup| setup.own = 2,
@@ -718,11 +732,30 @@ mod tests {
             &|setup| setup.queue_places = 513,
             &|setup| setup.outstanding_places = 0,
             &|setup| setup.outstanding_places = 513,
+            &|setup| setup.hours.request = 0,
+            &|setup| setup.hours.request = 1_000_001,
+            &|setup| setup.hours.delivery = 0,
+            &|setup| setup.hours.delivery = 1_000_001,
+            &|setup| setup.hours.life = 0,
+            &|setup| setup.hours.life = 1_000_001,
             &|setup| setup.memory -= 1,
         ];
         for change in settings {
             assert_eq!(answer(&|setup| change(setup)), Some(Refusal::Setting));
         }
+        let ends: [&dyn Fn(&mut Setup); 2] =
+            [&|setup| setup.hours = Hours { request: 1, delivery: 1, life: 1 }, &|setup| {
+                let most = 1_000_000;
+                setup.hours = Hours { request: most, delivery: most, life: most };
+            }];
+        for change in ends {
+            assert_eq!(answer(&|setup| change(setup)), None);
+        }
+        let both = answer(&|setup| {
+            setup.hours.life = 0;
+            setup.opening.truncate(36);
+        });
+        assert_eq!(both, Some(Refusal::Setting), "8 comes before the frames");
         let cut = answer(&|setup| setup.opening.truncate(36));
         assert_eq!(cut, Some(Refusal::Frame(Reason::Length)));
         assert_eq!(answer(&|setup| setup.own = 1), Some(Refusal::Number));

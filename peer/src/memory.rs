@@ -2,7 +2,7 @@
 
 use crate::frame::{self, Frame, Sense};
 use crate::gateway::{self, Gateway, Processed, Sent};
-use crate::model::{self, Done, Hour, Kind, Message, Settings, State, MAX_LAST_HOUR};
+use crate::model::{self, Done, Hour, Hours, Kind, Message, Settings, State, MAX_LAST_HOUR};
 use crate::round::{Phase, Round};
 use std::ops::Range;
 
@@ -10,15 +10,21 @@ const HEADER: usize = 256;
 const QUEUE_PLACE: usize = 64;
 const OUTSTANDING_PLACE: usize = 32;
 
-/// Where the phase and the note stand in the header.
+/// Where the phase, the note and the lead times stand in the header.
 const PHASE: usize = 3;
 pub const NOTE: Range<usize> = 24..28;
+pub const REQUEST_HOURS: Range<usize> = 40..44;
+pub const DELIVERY_HOURS: Range<usize> = 44..48;
+pub const LIFE_HOURS: Range<usize> = 48..52;
 
 /// Why memory is not sound: refusal 10's reasons, in the order in which they are looked for.
 #[derive(Clone, Copy, Debug, PartialEq, Eq, PartialOrd, Ord, Hash)]
 pub enum Unsound {
     TooShort,
     Settings,
+    RequestHours,
+    DeliveryHours,
+    LifeHours,
     Counts,
     Phase,
     Arrivals,
@@ -30,9 +36,12 @@ pub enum Unsound {
     CancelBesidePlain,
 }
 
-pub const REASONS: [Unsound; 11] = [
+pub const REASONS: [Unsound; 14] = [
     Unsound::TooShort,
     Unsound::Settings,
+    Unsound::RequestHours,
+    Unsound::DeliveryHours,
+    Unsound::LifeHours,
     Unsound::Counts,
     Unsound::Phase,
     Unsound::Arrivals,
@@ -77,6 +86,7 @@ pub fn read(memory: &[u8]) -> Result<Gateway, Unsound> {
     {
         return Err(Unsound::Settings);
     }
+    let hours = hours(memory)?;
     if memory.len() < gateway::memory_needed(queue_places as u32, outstanding_places as u32) {
         return Err(Unsound::TooShort);
     }
@@ -86,7 +96,7 @@ pub fn read(memory: &[u8]) -> Result<Gateway, Unsound> {
     let mut round = Round::new(nodes, own);
     round.phase = phase(&round, memory[PHASE], memory[4], number(&memory[NOTE]))?;
 
-    let settings = Settings { own, supplier, last_hour };
+    let settings = Settings { own, supplier, last_hour, hours };
     let check = |message: Message, here: u8| check_message(message, nodes, &settings, here);
     let mut entries = Vec::new();
     for place in memory[HEADER..].chunks(QUEUE_PLACE).take(queued) {
@@ -125,7 +135,7 @@ pub fn write(gateway: &Gateway, memory: &mut [u8]) {
     let entries = entries(gateway);
     let State { stock, failed, fitted, short } = gateway.state;
     let (phase, arrivals, note) = phase_numbers(&gateway.round);
-    let Settings { own, supplier, last_hour } = gateway.settings;
+    let Settings { own, supplier, last_hour, hours } = gateway.settings;
     memory[..5].copy_from_slice(&[gateway.nodes, own, supplier, phase, arrivals]);
     let halves = [
         gateway.queue_places as u16,
@@ -134,10 +144,20 @@ pub fn write(gateway: &Gateway, memory: &mut [u8]) {
         gateway.outstanding.len() as u16,
         stock,
     ];
-    let words = [last_hour, gateway.agreed, note, failed, fitted, short];
+    let words = [
+        last_hour,
+        gateway.agreed,
+        note,
+        failed,
+        fitted,
+        short,
+        hours.request,
+        hours.delivery,
+        hours.life,
+    ];
     let mut numbers: Vec<u8> = halves.iter().flat_map(|half| half.to_be_bytes()).collect();
     numbers.extend(words.iter().flat_map(|word| word.to_be_bytes()));
-    memory[6..40].copy_from_slice(&numbers);
+    memory[6..52].copy_from_slice(&numbers);
 
     for (place, entry) in memory[HEADER..].chunks_mut(QUEUE_PLACE).zip(&entries) {
         place.copy_from_slice(&entry_bytes(entry));
@@ -157,6 +177,23 @@ pub fn is_idle(memory: &[u8]) -> bool {
 /// Whether an idle gateway's memory has a note other than zero. Set up and the end of a round leave zero.
 pub fn has_unused_note(memory: &[u8]) -> bool {
     is_idle(memory) && memory.get(NOTE).is_some_and(|note| note != [0; 4])
+}
+
+/// The lead times in a header, or the first that cannot be.
+fn hours(memory: &[u8]) -> Result<Hours, Unsound> {
+    let hours = |place: Range<usize>, impossible| {
+        let hours = number(&memory[place]);
+        if model::is_lead_time(hours) {
+            Ok(hours)
+        } else {
+            Err(impossible)
+        }
+    };
+    Ok(Hours {
+        request: hours(REQUEST_HOURS, Unsound::RequestHours)?,
+        delivery: hours(DELIVERY_HOURS, Unsound::DeliveryHours)?,
+        life: hours(LIFE_HOURS, Unsound::LifeHours)?,
+    })
 }
 
 /// The queue in event order: of equal messages the processed ones first.
@@ -336,4 +373,58 @@ fn state<'a>(bytes: impl IntoIterator<Item = &'a u8>) -> State {
 /// The number that bytes give, high byte first.
 fn number(bytes: &[u8]) -> u32 {
     bytes.iter().fold(0, |value, &byte| value << 8 | u32::from(byte))
+}
+
+#[cfg(test)]
+mod tests {
+    use super::*;
+    use crate::forecast::{failure, setup};
+    use crate::model::MOST_HOURS;
+
+    const LAMP: [u8; 18] = *b"L00000000000000001";
+
+    /// A gateway of two with a processed Failure, and its memory, in which every other byte is 0x5a.
+    fn gateway_and_memory(hours: Hours) -> (Gateway, Vec<u8>) {
+        let mut setup = setup(2, 0, 1, 0, 2_000_000, &[failure(0, 5, LAMP)]);
+        setup.hours = hours;
+        let mut gateway = Gateway::set_up(&setup).unwrap();
+        gateway.work(1, 100);
+        let mut memory = vec![0x5a; setup.memory];
+        write(&gateway, &mut memory);
+        (gateway, memory)
+    }
+
+    #[test]
+    fn the_lead_times_stand_behind_the_counters() {
+        let hours = Hours { request: 0x0102, delivery: 0x0f_4240, life: 1 };
+        let (gateway, memory) = gateway_and_memory(hours);
+        assert_eq!(memory[40..52], [0, 0, 1, 2, 0, 0x0f, 0x42, 0x40, 0, 0, 0, 1]);
+        assert_eq!(memory[5], 0x5a);
+        assert!(memory[52..256].iter().all(|&byte| byte == 0x5a), "what is not named stays");
+        assert_eq!(read(&memory), Ok(gateway), "what a processed event sent by its hours too");
+    }
+
+    #[test]
+    fn lead_times_that_cannot_be_are_unsound() {
+        let (_, memory) = gateway_and_memory(Hours::USUAL);
+        let places = [
+            (REQUEST_HOURS, Unsound::RequestHours),
+            (DELIVERY_HOURS, Unsound::DeliveryHours),
+            (LIFE_HOURS, Unsound::LifeHours),
+        ];
+        for (place, reason) in places {
+            let with = |hours: Hour| {
+                let mut memory = memory.clone();
+                memory[place.clone()].copy_from_slice(&hours.to_be_bytes());
+                read(&memory).err()
+            };
+            assert_eq!([1, 2, MOST_HOURS].map(with), [None; 3]);
+            assert_eq!([0, MOST_HOURS + 1, Hour::MAX].map(with), [Some(reason); 3]);
+        }
+    }
+
+    #[test]
+    fn reasons_stand_in_their_order() {
+        assert!(REASONS.is_sorted());
+    }
 }

@@ -1,4 +1,5 @@
-//! The lamp model of document 01: messages, the event order with the kinds as request (b) of document 02 orders them, and doing a message.
+//! The lamp model of document 01: messages, the event order with the kinds as request (b) of document 02 orders them, and doing a message
+//! with each gateway's own lead times, as request (d) has them.
 
 /// An hour, 32 bits unsigned.
 pub type Hour = u32;
@@ -11,6 +12,9 @@ pub const NOTHING_DUE: Hour = Hour::MAX;
 
 /// The largest last hour that a forecast may have.
 pub const MAX_LAST_HOUR: Hour = NOTHING_DUE - 1;
+
+/// The most hours that a lead time may have.
+pub const MOST_HOURS: Hour = 1_000_000;
 
 /// The kinds of messages that are events, in their order within an hour: goods are booked in before any are handed out.
 #[derive(Clone, Copy, Debug, PartialEq, Eq, PartialOrd, Ord)]
@@ -62,12 +66,34 @@ pub struct Done {
     pub after: State,
 }
 
+/// The lead times of a gateway: the hours from a message that it does to the one that it sends.
+#[derive(Clone, Copy, Debug, PartialEq, Eq)]
+pub struct Hours {
+    /// From a Failure, or from a Request that finds no stock, to the Request.
+    pub request: Hour,
+    /// From a Request that finds stock to the Delivery.
+    pub delivery: Hour,
+    /// From a Delivery to the next Failure.
+    pub life: Hour,
+}
+
 /// The settings of a gateway that doing a message needs.
 #[derive(Clone, Copy, Debug, PartialEq, Eq)]
 pub struct Settings {
     pub own: u8,
     pub supplier: u8,
     pub last_hour: Hour,
+    pub hours: Hours,
+}
+
+impl Hours {
+    /// Those of document 01.
+    pub const USUAL: Hours = Hours { request: 1, delivery: 24, life: 43_800 };
+}
+
+/// A lead time may have so many hours: at least one, as a message is later than its cause.
+pub fn is_lead_time(hours: Hour) -> bool {
+    (1..=MOST_HOURS).contains(&hours)
 }
 
 impl Message {
@@ -84,25 +110,25 @@ impl Message {
 
 /// Does a message at its gateway: the state after it, and the message sent, if any.
 pub fn perform(settings: Settings, state: State, message: &Message) -> (State, Option<Message>) {
-    let Settings { own, supplier, .. } = settings;
+    let Settings { own, supplier, last_hour, hours } = settings;
     let mut after = state;
     // What would be sent: its kind, origin, addressee and the hours until it is due.
     let (kind, origin, to, delay) = match message.kind {
         Kind::Failure => {
             after.failed = state.failed.saturating_add(1);
-            (Kind::Request, own, supplier, 1)
+            (Kind::Request, own, supplier, hours.request)
         }
         Kind::Request if state.stock > 0 => {
             after.stock = state.stock - 1;
-            (Kind::Delivery, message.origin, message.origin, 24)
+            (Kind::Delivery, message.origin, message.origin, hours.delivery)
         }
         Kind::Request => {
             after.short = state.short.saturating_add(1);
-            (Kind::Request, message.origin, supplier, 1)
+            (Kind::Request, message.origin, supplier, hours.request)
         }
         Kind::Delivery => {
             after.fitted = state.fitted.saturating_add(1);
-            (Kind::Failure, own, own, 43_800)
+            (Kind::Failure, own, own, hours.life)
         }
         Kind::Restock => {
             after.stock = state.stock.saturating_add(message.quantity);
@@ -110,7 +136,7 @@ pub fn perform(settings: Settings, state: State, message: &Message) -> (State, O
         }
     };
     let due = message.hour.checked_add(delay);
-    let sent = due.filter(|&hour| hour <= settings.last_hour).map(|hour| Message {
+    let sent = due.filter(|&hour| hour <= last_hour).map(|hour| Message {
         hour,
         kind,
         origin,
@@ -149,7 +175,23 @@ mod tests {
     }
 
     fn settings(last_hour: Hour) -> Settings {
-        Settings { own: 4, supplier: 9, last_hour }
+        Settings { own: 4, supplier: 9, last_hour, hours: Hours::USUAL }
+    }
+
+    /// A message of each kind that sends one, the stock before it, and its gateway's lead time until what it sends.
+    fn leading(hour: Hour, hours: Hours) -> [(Message, u16, Hour); 4] {
+        [
+            (failure(4, hour, LAMP_1), 0, hours.request),
+            (request(hour), 0, hours.request),
+            (request(hour), 5, hours.delivery),
+            (delivery(hour), 0, hours.life),
+        ]
+    }
+
+    /// The hour of what a message sends.
+    fn sent_at(settings: Settings, stock: u16, message: &Message) -> Option<Hour> {
+        let (_, sent) = perform(settings, State { stock, ..State::default() }, message);
+        sent.map(|sent| sent.hour)
     }
 
     #[test]
@@ -193,6 +235,49 @@ mod tests {
         assert_eq!((after.failed, sent), (1, None));
         let (after, sent) = perform(settings(MAX_LAST_HOUR), stocked, &delivery(MAX_LAST_HOUR - 1));
         assert_eq!((after.fitted, sent), (1, None));
+    }
+
+    /// Each kind with other lead times, from the least to the most.
+    #[test]
+    fn a_gateways_own_hours_lie_between_a_message_and_what_it_sends() {
+        let all = [
+            Hours { request: 7, delivery: 70, life: 700 },
+            Hours { request: 1, delivery: MOST_HOURS, life: 1 },
+            Hours { request: MOST_HOURS, delivery: 1, life: MOST_HOURS },
+        ];
+        for hours in all {
+            let settings = Settings { hours, ..settings(2_000_000) };
+            for (message, stock, lead) in leading(10, hours) {
+                assert_eq!(sent_at(settings, stock, &message), Some(10 + lead), "{message:?}");
+            }
+        }
+    }
+
+    /// At the last hour a message is sent, an hour past it not, however near the last hour is to where 32 bits end.
+    #[test]
+    fn no_sum_wraps() {
+        for lead in [1, 2, 24, 43_800, MOST_HOURS - 1, MOST_HOURS] {
+            let hours = Hours { request: lead, delivery: lead, life: lead };
+            for last_hour in [lead, 3_000_000, MAX_LAST_HOUR - 1, MAX_LAST_HOUR] {
+                let settings = Settings { hours, ..settings(last_hour) };
+                for (message, stock, _) in leading(last_hour - lead, hours) {
+                    assert_eq!(sent_at(settings, stock, &message), Some(last_hour));
+                }
+                for hour in [last_hour - lead + 1, last_hour - lead / 2, last_hour] {
+                    for (message, stock, _) in leading(hour, hours) {
+                        assert_eq!(sent_at(settings, stock, &message), None, "{message:?}");
+                    }
+                }
+            }
+        }
+    }
+
+    #[test]
+    fn lead_times_have_a_range() {
+        let good = [1, 2, MOST_HOURS - 1, MOST_HOURS];
+        assert!(good.into_iter().all(is_lead_time));
+        let bad = [0, MOST_HOURS + 1, Hour::MAX];
+        assert!(!bad.into_iter().any(is_lead_time));
     }
 
     #[test]

@@ -1,4 +1,5 @@
-//! The single queue of document 01: one list of messages for all gateways, done in event order.
+//! The single queue of document 01: one list of messages for all gateways, done in event order, each with the lead times of the gateway
+//! that does it.
 
 use crate::frame::{self, Frame};
 use crate::gateway::Setup;
@@ -31,15 +32,15 @@ fn opening_state(setup: &Setup) -> State {
 }
 
 fn settings(setup: &Setup) -> Settings {
-    let &Setup { own, supplier, last_hour, .. } = setup;
-    Settings { own: own as u8, supplier: supplier as u8, last_hour }
+    let &Setup { own, supplier, last_hour, hours, .. } = setup;
+    Settings { own: own as u8, supplier: supplier as u8, last_hour, hours }
 }
 
 #[cfg(test)]
 mod tests {
     use super::*;
     use crate::forecast;
-    use crate::model::Kind;
+    use crate::model::{Hour, Hours, Kind};
 
     /// Document 01's last example.
     #[test]
@@ -51,6 +52,30 @@ mod tests {
         assert_eq!((message.kind, message.hour), (Kind::Delivery, 35));
         assert_eq!(&message.lamp, b"L00000000000000001");
         assert_eq!(after, State { failed: 2, fitted: 1, ..State::default() });
+    }
+
+    /// A district orders from an island store, which is empty, and this from a depot. Each lead time is that of the gateway that does
+    /// the message: the first Request comes by the district's hours, the second by the store's, the Delivery by the depot's, and the
+    /// lamp fails again by the district's.
+    #[test]
+    fn each_gateway_has_its_own_hours() {
+        let lamp = *b"L00000000000000001";
+        let mut setups = [
+            forecast::setup(3, 0, 1, 0, 20_000, &[forecast::failure(0, 10, lamp)]),
+            forecast::setup(3, 1, 2, 0, 20_000, &[]),
+            forecast::setup(3, 2, 2, 1, 20_000, &[]),
+        ];
+        setups[0].hours = Hours { request: 2, delivery: 3, life: 5_000 };
+        setups[1].hours = Hours { request: 70, delivery: 110, life: 130 };
+        setups[2].hours = Hours { request: 17_000, delivery: 190, life: 230 };
+        let records = records(&setups);
+        let done = |own: usize| -> Vec<(Kind, Hour)> {
+            records[own].iter().map(|done| (done.message.kind, done.message.hour)).collect()
+        };
+        let second = 272 + 5_000;
+        assert_eq!(done(0), [(Kind::Failure, 10), (Kind::Delivery, 272), (Kind::Failure, second)]);
+        assert_eq!(done(1), [(Kind::Request, 12), (Kind::Request, second + 2)]);
+        assert_eq!(done(2), [(Kind::Request, 82), (Kind::Request, second + 72)]);
     }
 
     /// What comes in the hour of a Request serves it, and a full shelf stops before the Request draws.

@@ -1,6 +1,6 @@
 //! A gateway's bytes in the lent memory: the header and the places (docs/ARCHITECTURE.md has the layout).
 
-use crate::message::{Kind, Message, Site, State};
+use crate::message::{Hours, Kind, Message, Site, State};
 
 pub const HEADER: usize = 256;
 pub const QUEUE_PLACE: usize = 64;
@@ -32,6 +32,7 @@ pub struct Header {
     /// The note; after the stop the value.
     pub note: u32,
     pub state: State,
+    pub hours: Hours,
 }
 
 /// A queue place.
@@ -73,6 +74,11 @@ impl Header {
                 fitted: word(memory, 32),
                 short: word(memory, 36),
             },
+            hours: Hours {
+                request: word(memory, 40),
+                delivery: word(memory, 44),
+                life: word(memory, 48),
+            },
         }
     }
 
@@ -85,14 +91,30 @@ impl Header {
         }
         let State { stock, failed, fitted, short } = self.state;
         memory[14..16].copy_from_slice(&stock.to_be_bytes());
-        let words = [self.last_hour, self.agreed, self.note, failed, fitted, short];
+        let Hours { request, delivery, life } = self.hours;
+        let words = [
+            self.last_hour,
+            self.agreed,
+            self.note,
+            failed,
+            fitted,
+            short,
+            request,
+            delivery,
+            life,
+        ];
         for (at, word) in (16..).step_by(4).zip(words) {
             memory[at..at + 4].copy_from_slice(&word.to_be_bytes());
         }
     }
 
     pub fn site(&self) -> Site {
-        Site { own: self.own, supplier: self.supplier, last_hour: self.last_hour }
+        Site {
+            own: self.own,
+            supplier: self.supplier,
+            last_hour: self.last_hour,
+            hours: self.hours,
+        }
     }
 
     pub fn outstanding_at(&self) -> usize {

@@ -1,6 +1,7 @@
 //! Messages, their order, and doing one.
 
 use core::cmp::Ordering;
+use interface::MOST_HOURS;
 
 /// The kinds, in the order of their numbers.
 #[derive(Clone, Copy, Debug, PartialEq, Eq)]
@@ -109,12 +110,29 @@ pub struct State {
     pub short: u32,
 }
 
+/// A gateway's hours from a message that it does to the one that it sends: a Request, a Delivery, or the Failure behind a Delivery.
+#[derive(Clone, Copy, Debug)]
+pub struct Hours {
+    pub request: u32,
+    pub delivery: u32,
+    pub life: u32,
+}
+
+impl Hours {
+    pub fn in_range(&self) -> bool {
+        [self.request, self.delivery, self.life]
+            .iter()
+            .all(|hours| (1..=MOST_HOURS).contains(hours))
+    }
+}
+
 /// What doing a message needs to know of its gateway.
 #[derive(Clone, Copy, Debug)]
 pub struct Site {
     pub own: u8,
     pub supplier: u8,
     pub last_hour: u32,
+    pub hours: Hours,
 }
 
 /// Does a message: the state after it, and what it sends.
@@ -123,19 +141,19 @@ pub fn perform(site: Site, state: State, message: &Message) -> (State, Option<Me
     let (delay, kind, origin, to) = match message.kind {
         Kind::Failure => {
             after.failed = state.failed.saturating_add(1);
-            (1, Kind::Request, site.own, site.supplier)
+            (site.hours.request, Kind::Request, site.own, site.supplier)
         }
         Kind::Request if state.stock > 0 => {
             after.stock -= 1;
-            (24, Kind::Delivery, message.origin, message.origin)
+            (site.hours.delivery, Kind::Delivery, message.origin, message.origin)
         }
         Kind::Request => {
             after.short = state.short.saturating_add(1);
-            (1, Kind::Request, message.origin, site.supplier)
+            (site.hours.request, Kind::Request, message.origin, site.supplier)
         }
         Kind::Delivery => {
             after.fitted = state.fitted.saturating_add(1);
-            (43_800, Kind::Failure, site.own, site.own)
+            (site.hours.life, Kind::Failure, site.own, site.own)
         }
         Kind::Restock => {
             after.stock = state.stock.saturating_add(message.quantity);
@@ -143,7 +161,7 @@ pub fn perform(site: Site, state: State, message: &Message) -> (State, Option<Me
         }
         Kind::Start | Kind::Lvt | Kind::Update => return (after, None),
     };
-    let hour = u64::from(message.hour) + delay;
+    let hour = u64::from(message.hour) + u64::from(delay);
     if hour > u64::from(site.last_hour) {
         return (after, None);
     }

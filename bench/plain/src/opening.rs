@@ -2,7 +2,7 @@
 
 use crate::frame::{self, Frame, Sense};
 use crate::memory::{put_entry, queue_at, queued_message, Header, IDLE, PENDING, QUEUE_PLACE};
-use crate::message::{Kind, State};
+use crate::message::{Hours, Kind, State};
 use crate::{check_limits, refusal};
 use interface::{memory_length, Opening, MOST_PLACES, NOTHING_DUE};
 
@@ -35,7 +35,16 @@ fn in_range(opening: &Opening, length: usize) -> bool {
         && opening.last_hour < NOTHING_DUE
         && places.contains(&opening.queue_places)
         && places.contains(&opening.outstanding_places)
+        && hours(opening).in_range()
         && length >= memory_length(opening.queue_places, opening.outstanding_places)
+}
+
+fn hours(opening: &Opening) -> Hours {
+    Hours {
+        request: opening.request_hours,
+        delivery: opening.delivery_hours,
+        life: opening.life_hours,
+    }
 }
 
 fn header(opening: &Opening) -> Header {
@@ -53,6 +62,7 @@ fn header(opening: &Opening) -> Header {
         agreed: 0,
         note: 0,
         state: State { stock: opening.stock as u16, ..State::default() },
+        hours: hours(opening),
     }
 }
 

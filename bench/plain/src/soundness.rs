@@ -29,6 +29,7 @@ fn header_sound(header: &Header, length: usize) -> bool {
         && header.last_hour < NOTHING_DUE
         && places.contains(&header.queue_places)
         && places.contains(&header.outstanding_places)
+        && header.hours.in_range()
         && length >= memory_length(header.queue_places as u32, header.outstanding_places as u32)
         && header.phase <= STOPPED
         && header.queued <= header.queue_places

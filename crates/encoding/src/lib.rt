@@ -19,7 +19,7 @@ ghost use lib.ListN.{length};
 ghost use Rattle.memory.specs.Layout.{queueSize, outstandingSize, messageSize, stateSize};
 ghost use Rattle.buffer.specs.Slice.{write};
 ghost use Rattle.buffer.specs.Number.{bytesOf};
-ghost use Rattle.memory.specs.inside.Pieces.{counterBytes};
+ghost use Rattle.memory.specs.inside.Pieces.{threeBytes};
 ghost use Rattle.memory.specs.Codec.{markNumber, cancelNumber, stateBytes, messageBytes, entryBytes, sentBytes};
 
 fn mark_number(mark: Mark) -> u8
@@ -98,15 +98,15 @@ pub fn write_state(memory: &mut [u8], at: usize, state: State)
     ensures { λ _. ⌜ now (memory .exit) ≡ write at (stateBytes state) (now (memory .entry)) ⌝ }
 {
     write16(memory, at, state.stock);
-    write_counters(memory, at + 2, state);
+    write_three(memory, at + 2, state.failed, state.fitted, state.short);
 }
 
-// Puts failed, fitted and short one behind the other.
-pub fn write_counters(memory: &mut [u8], at: usize, state: State)
+// Puts three numbers of four bytes one behind the other.
+pub fn write_three(memory: &mut [u8], at: usize, first: u32, second: u32, third: u32)
     requires { ⌜ at + 12 ≤ length (now memory) ⌝ }
-    ensures { λ _. ⌜ now (memory .exit) ≡ write at (counterBytes state) (now (memory .entry)) ⌝ }
+    ensures { λ _. ⌜ now (memory .exit) ≡ write at (threeBytes first second third) (now (memory .entry)) ⌝ }
 {
-    write32(memory, at, state.failed);
-    write32(memory, at + 4, state.fitted);
-    write32(memory, at + 8, state.short);
+    write32(memory, at, first);
+    write32(memory, at + 4, second);
+    write32(memory, at + 8, third);
 }

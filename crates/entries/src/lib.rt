@@ -3,7 +3,6 @@ use frame::Frame;
 use frame::Sense;
 use memory::Mark;
 use memory::Settings;
-use model::LeadTimes;
 use model::Message;
 use model::Site;
 use model::order::Comparison;
@@ -105,15 +104,11 @@ pub fn frame_if(cancel: bool, message: Message) -> Frame
     }
 }
 
-// Where a gateway's messages are done. Every gateway has the same lead times.
+// Where a gateway's messages are done.
 pub fn site_of(settings: Settings) -> Site
     ensures { λ r. ⌜ r ≡ siteOf settings ⌝ }
 {
-    let hours = LeadTimes {
-        request: 1,
-        delivery: 24,
-        life: 43800,
-    };
+    let hours = settings.hours;
     Site {
         own: settings.own,
         supplier: settings.supplier,

@@ -2,6 +2,7 @@
 use gateway::Opening;
 use lines::append;
 use lines::put_plain;
+use lines::town_hours;
 use model::Kind;
 use model::Message;
 use opening::set_up::set_up;
@@ -32,6 +33,7 @@ fn opening(own: u32, stock: u32) -> Opening
         last: 100,
         q: 512,
         u: 512,
+        hours: town_hours(),
     }
 }
 

@@ -8,6 +8,7 @@ pub mod Accepting
 pub mod Keeps
 pub mod Openings
 pub mod SoundAfter
+pub mod LaterMessages
 pub mod Table
 pub mod ReasonTable
 pub mod Calling

@@ -22,16 +22,19 @@ use Rattle.frame.specs.Reasons.{reading, formIn, formNumber}
 use Rattle.frame.specs.declared.Frame.{Frame}
 use Rattle.frame.specs.declared.Sense.{Sense}
 use Rattle.frame.specs.declared.Sense.the-variants.{Plain, Cancel, Acknowledgment, CancelAcknowledgment}
+use Rattle.memory.specs.Codec.{encode}
 use Rattle.memory.specs.Layout.{sizeFor}
 use Rattle.memory.specs.Validity.{isPending, roundPossible}
 use Rattle.memory.specs.declared.Settings.{Settings}
 use Rattle.memory.specs.declared.Entry.{Entry}
-use Rattle.memory.proofs.Validated.{settings-facts}
+use Rattle.memory.proofs.Validated.{ValidSettings, settings-facts}
 use Rattle.lists.proofs.BoolLaws.{and-left, and-right}
 use Rattle.lists.specs.Lists.{beforeFirst, fromFirst}
 use Rattle.gateway.specs.Taking.{isLater}
 use Rattle.gateway.specs.Undoing.{pendingEntry}
 use Rattle.gateway.specs.SettingUp.{settingsOf, openingValid, cutFrames, mayOpen, openingRefusal, firstRefusal, queued, opened, setUpRefusal}
+use Rattle.gateway.specs.Calls.{CallResult, refusedWith, setUp}
+use Rattle.gateway.specs.declared.Answer.{Answer}
 use Rattle.gateway.specs.declared.Opening.{Opening}
 use Rattle.lists.proofs.PieceLaws.{first-none}
 use Rattle.frame.proofs.PieceBytes.{cut-bytes}
@@ -138,6 +141,12 @@ opening-long o size list h =
     let valid : openingValid o size ≡ true = opening-passes o size list h .valid in
     leb-true (sizeFor (o .q) (o .u)) size (search (and-left, and-right))
 
+pub opening-settings : (o : Opening) (size : ℕ) (list : List ℕ) → setUpRefusal o size list ≡ 0 → ValidSettings (settingsOf o)
+unfolding openingValid
+opening-settings o size list h =
+    let valid : openingValid o size ≡ true = opening-passes o size list h .valid in
+    settings-facts (settingsOf o) (search (and-left, and-right))
+
 pub opened-keeps : (o : Opening) (size : ℕ) (list : List ℕ) → Bytes list → setUpRefusal o size list ≡ 0 → Kept (settingsOf o) (opened o
     (cutFrames (length list) list))
 unfolding opened roundPossible openingValid
@@ -150,7 +159,7 @@ opened-keeps o size list bytes h =
     enough
     (record {
       same = refl;
-      settings = settings-facts (settingsOf o) (search (and-left, and-right));
+      settings = opening-settings o size list h;
       state = record {
         stock = omega (arith, leb-true (o .stock) 65535 (search (and-left, and-right)));
         failed = omega arith;
@@ -166,3 +175,22 @@ opened-keeps o size list bytes h =
       outstanding = λ x m. absurd (List·Memᴰ·not-nil m);
     })
     (omega (arith, length-queued [] fs, passes .places)) (omega arith)
+
+-- set up that answers 0 is not refused
+pub set-up-accepted : (o : Opening) (list memory : List ℕ) → setUp o list memory .answer .number ≡ 0 → setUpRefusal o (length memory) list ≡ 0
+unfolding setUp
+set-up-accepted o list memory = by-case (eqb number 0) refl
+  where
+    number : ℕ
+    number = setUpRefusal o (length memory) list
+
+    left : Bool → CallResult Answer
+    left b = cond b (record {
+      answer = record { number = 0; written = 0 };
+      memory = encode (opened o (cutFrames (length list) list)) memory;
+      output = [];
+    }) (refusedWith number memory [])
+
+    by-case : (b : Bool) → eqb number 0 ≡ b → left b .answer .number ≡ 0 → number ≡ 0
+    by-case true e z = eqb-true number 0 e
+    by-case false e z = z

@@ -3,6 +3,7 @@ use mathlib.Core.Path.{refl}
 use Rattle.lists.specs.Lists.{tally, joined, every, any, beforeFirst, fromFirst, firstNumber, cutBy}
 use Rattle.buffer.specs.Slice.{part, write}
 use Rattle.buffer.specs.Number.{bytesOf, numberFrom, numberOf}
+use Rattle.model.specs.Doing.{leadTimesValid}
 use Rattle.model.specs.EventOrder.{key, compared}
 use Rattle.frame.specs.Layout.{standing, wholeLength, cut}
 use Rattle.frame.specs.Kinds.{mapOfKind, hasHour, hasLamp, mapOf}
@@ -21,7 +22,7 @@ use Rattle.gateway.specs.ReasonExamples.{FirstReasons}
 pub first-reasons : FirstReasons
 unfolding
     tally joined every any beforeFirst fromFirst part write bytesOf numberFrom numberOf key compared standing wholeLength cut mapOfKind hasHour hasLamp mapOf contents written
-    allBetween lampFits valuesOf fieldsOf mapFits fieldsForm formOf reading refusal refusalWhere settingsValid equal sound fits settled processedOf
+    allBetween lampFits valuesOf fieldsOf mapFits fieldsForm formOf reading refusal refusalWhere settingsValid leadTimesValid equal sound fits settled processedOf
     undone restored sentBack rolledBack sentAll takePlain openingValid cutBy openingRefusal firstNumber setUpRefusal onSound takeFrame takeBytes taken
 first-reasons =
     record {

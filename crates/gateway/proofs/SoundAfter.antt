@@ -6,7 +6,6 @@ use mathlib.Core.Bool.{Bool, true, false, cond}
 use mathlib.Core.List.{List, []}
 use lib.Dec.{eqb}
 use lib.ListN.{length}
-use borrow.Author.Tests.{eqb-true, eqb-false}
 use Rattle.buffer.specs.Slice.{Bytes, part, write}
 use Rattle.memory.specs.Records.{Gateway}
 use Rattle.memory.specs.Layout.{sizeFor}
@@ -17,14 +16,14 @@ use Rattle.memory.proofs.SoundMemory.{codec-laws}
 use Rattle.gateway.specs.Effects.{Outcome}
 use Rattle.gateway.specs.Rounds.{start}
 use Rattle.gateway.specs.Committing.{commit}
-use Rattle.gateway.specs.SettingUp.{settingsOf, cutFrames, opened, setUpRefusal}
+use Rattle.gateway.specs.SettingUp.{settingsOf}
 use Rattle.gateway.specs.Calls.{CallResult, refusedWith, leaving, onSound, takeBytes, taken, started, committed, workedOff, setUp, agreedTime}
 use Rattle.gateway.specs.Claims.{SoundBytes, StaysSound, NeverUnsound}
 use Rattle.gateway.specs.declared.Answer.{Answer}
 use Rattle.gateway.specs.declared.Opening.{Opening}
 use Rattle.gateway.proofs.Maintaining.{Proper, Kept, Answers, below-ten, Ends}
 use Rattle.gateway.proofs.Keeps.{start-keeps, commit-keeps, bytes-keep, work-keeps}
-use Rattle.gateway.proofs.Openings.{opened-keeps, opening-long}
+use Rattle.gateway.proofs.Openings.{set-up-accepted, opened-keeps, opening-long}
 
 -- a proper gateway written over memory that is long enough for it
 written : {s : Settings} {g : Gateway} (memory : List ℕ) → Bytes memory → Kept s g → sizeFor (s .q) (s .u) ≤ length memory → {number : ℕ} → Answers number
@@ -79,23 +78,10 @@ module _ (memory : List ℕ) (h : SoundBytes memory) where
 set-up-sound : (o : Opening) (list memory : List ℕ) → Bytes list → Bytes memory → setUp o list memory .answer .number ≡ 0
     → StaysSound (settingsOf o) memory 0 (setUp o list memory .memory)
 unfolding setUp
-set-up-sound o list memory list-bytes bytes = by-case (eqb number 0) refl
-  where
-    number : ℕ
-    number = setUpRefusal o (length memory) list
-
-    left : Bool → CallResult Answer
-    left b = cond b (record {
-      answer = record { number = 0; written = 0 };
-      memory = encode (opened o (cutFrames (length list) list)) memory;
-      output = [];
-    }) (refusedWith number memory [])
-
-    by-case : (b : Bool) → eqb number 0 ≡ b → left b .answer .number ≡ 0 → StaysSound (settingsOf o) memory 0 (left b .memory)
-    by-case true e z =
-        let accepted = eqb-true number 0 e in
-        written memory bytes (opened-keeps o (length memory) list list-bytes accepted) (opening-long o (length memory) list accepted) (below-ten (omega arith))
-    by-case false e z = absurd (eqb-false number 0 e z)
+set-up-sound o list memory list-bytes bytes z =
+    let accepted = set-up-accepted o list memory z in
+    rw accepted
+    (written memory bytes (opened-keeps o (length memory) list list-bytes accepted) (opening-long o (length memory) list accepted) (below-ten (omega arith)))
 
 pub never-unsound : NeverUnsound
 unfolding taken started committed

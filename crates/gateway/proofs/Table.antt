@@ -7,6 +7,7 @@ use Rattle.buffer.specs.Number.{bytesOf, numberFrom, numberOf}
 use Rattle.routing.specs.Figure2.{gvtcfg, widen, share, setFrom, setTo}
 use Rattle.routing.specs.Arcs.{from, to, mid0, mid1, arcs, arcsOfFirst, children, roundMessages}
 use Rattle.routing.specs.Answers.{neighboursOf, totalsOf}
+use Rattle.model.specs.Doing.{leadTimesValid}
 use Rattle.model.specs.EventOrder.{key, compared}
 use Rattle.frame.specs.Layout.{standing, wholeLength, cut}
 use Rattle.frame.specs.Kinds.{mapOfKind, hasHour, hasLamp, mapOf}
@@ -28,7 +29,7 @@ pub starred : Starred
 unfolding
     gvtcfg widen share setFrom setTo from to mid0 mid1 arcs arcsOfFirst sum together children roundMessages neighboursOf totalsOf
     part write bytesOf numberFrom numberOf stateBytes key compared standing tally joined wholeLength cut mapOfKind hasHour hasLamp mapOf contents written
-    allBetween lampFits wellFormed valuesOf fieldsOf mapFits formOf reading refusal refusalWhere every settingsValid roundPossible equal later ordered
+    allBetween lampFits wellFormed valuesOf fieldsOf mapFits formOf reading refusal refusalWhere every settingsValid leadTimesValid roundPossible equal later ordered
     processedFirst noneMeet storable entryValid sentValid valid fits settled sentAll processedOf undone restored sentBack
     rolledBack any withoutFirst beforeLast fromLast takeCancel leastOutstanding leastQueued finished begun start bitOf allBits
     oneStart takeStart oneLvt takeLvt takeUpdate recordFor commit openingValid setUpRefusal setUp takeFrame takeBytes roundOfTwo

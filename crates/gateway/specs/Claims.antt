@@ -1,11 +1,16 @@
--- What is proved of the calls beside their contracts: no call answers 10 to memory that the calls left.
+-- What is proved of the calls beside their contracts: no call answers 10 to memory that the calls left, and at every gateway that set up
+-- accepts a message is later than its cause.
 use mathlib.Core.Path.{_≡_}
-use Prim.Native.Nat.{ℕ}
+use Prim.Native.Nat.{ℕ, _<_}
 use mathlib.Core.Bool.{true}
-use mathlib.Core.List.{List}
+use mathlib.Core.List.{List, [], _∷_}
 use lib.ListN.{length}
 use Rattle.buffer.specs.Slice.{Bytes, part}
+use Rattle.model.specs.Doing.{sent}
+use Rattle.model.specs.declared.Message.{Message}
+use Rattle.model.specs.declared.State.{State}
 use Rattle.memory.specs.Layout.{sizeFor}
+use Rattle.memory.specs.Records.{siteOf}
 use Rattle.memory.specs.Codec.{decode}
 use Rattle.memory.specs.Soundness.{sound}
 use Rattle.memory.specs.declared.Settings.{Settings}
@@ -41,3 +46,12 @@ pub record NeverUnsound : Type 0 where
       → StaysSound (decode memory .settings) memory (workedOff b memory output .answer .why) (workedOff b memory output .memory)
   -- reading the agreed time then gives it
   pub byReading : (memory : List ℕ) → SoundBytes memory → agreedTime memory .number ≡ 0
+
+-- at a gateway of these settings, what doing a message sends, which is at most one message, is later than that message
+abbrev pub Later : Settings → Type 0
+Later settings = (s : State) (m x : Message) → sent (siteOf settings) s m ≡ x ∷ [] → m .hour < x .hour
+
+-- at every gateway that set up accepts, and at every one that sound memory holds
+pub record LaterThanItsCause : Type 0 where
+  pub bySetUp : (o : Opening) (list memory : List ℕ) → setUp o list memory .answer .number ≡ 0 → Later (settingsOf o)
+  pub inMemory : (memory : List ℕ) → SoundBytes memory → Later (decode memory .settings)

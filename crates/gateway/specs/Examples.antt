@@ -9,6 +9,7 @@ use Rattle.lists.specs.Lists.{every}
 use Rattle.lists.specs.Families.{together}
 use Rattle.routing.specs.Arcs.{figure2, from, to, mid0, mid1, arcs, roundMessages}
 use Rattle.routing.specs.Answers.{neighboursOf, totalsOf}
+use Rattle.model.specs.declared.LeadTimes.{LeadTimes}
 use Rattle.model.specs.declared.Message.{Message}
 use Rattle.model.specs.declared.Kind.the-variants.{Failure, Request}
 use Rattle.frame.specs.Writing.{written}
@@ -28,9 +29,13 @@ use Rattle.gateway.specs.declared.Opening.{Opening}
 abbrev inBothTrees : ℕ → List ℕ
 inBothTrees N = together N (λ (i : ℕ). cond (leb i (mid0 N) && leb (mid1 N) i) (i ∷ []) [])
 
+-- document 01's request, delivery and life hours, which suit a town
+abbrev pub townHours : LeadTimes
+townHours = record { request = 1; delivery = 24; life = 43800 }
+
 -- set up told N = 0, with the other settings as given
 abbrev noGateways : Opening → Opening
-noGateways o = record { n = 0; own = o .own; supplier = o .supplier; stock = o .stock; last = o .last; q = o .q; u = o .u }
+noGateways o = record { n = 0; own = o .own; supplier = o .supplier; stock = o .stock; last = o .last; q = o .q; u = o .u; hours = o .hours }
 
 -- lamps alike in sixteen characters: L and fifteen zeros, then one character twice
 abbrev lampWith : ℕ → List ℕ
@@ -43,7 +48,7 @@ failure own hour character = record { hour = hour; from = own; to = own; kind = 
 -- one of two gateways, with its agreed time and what is queued and outstanding
 abbrev pub amongTwo : ℕ → ℕ → List Entry → List Sent → Gateway
 amongTwo own agreed queue outstanding = record {
-  settings = record { n = 2; own = own; supplier = 0; last = 100; q = 4; u = 4 };
+  settings = record { n = 2; own = own; supplier = 0; last = 100; q = 4; u = 4; hours = townHours };
   state = noState;
   agreed = agreed;
   round = idle;

@@ -7,7 +7,7 @@ use lib.ListN.{take, drop, replicate}
 use Rattle.frame.specs.Lamps.{lampRefusal}
 use Rattle.gateway.specs.Calls.{takeBytes, taken}
 use Rattle.gateway.specs.SettingUp.{setUpRefusal}
-use Rattle.gateway.specs.Examples.{amongTwo}
+use Rattle.gateway.specs.Examples.{townHours, amongTwo}
 use Rattle.gateway.specs.declared.Opening.{Opening}
 
 -- gateway 0 of two, H = 100, with nothing queued; and the settings with which it is set up, in memory that is long enough
@@ -15,7 +15,7 @@ abbrev carried : List ℕ → ℕ
 carried bytes = takeBytes bytes 100 (amongTwo 0 0 [] []) .number
 
 abbrev asOpening : Opening
-asOpening = record { n = 2; own = 0; supplier = 0; stock = 0; last = 100; q = 4; u = 4 }
+asOpening = record { n = 2; own = 0; supplier = 0; stock = 0; last = 100; q = 4; u = 4; hours = townHours }
 
 abbrev listed : List ℕ → ℕ
 listed bytes = setUpRefusal asOpening 640 bytes

@@ -23,7 +23,7 @@ use Rattle.gateway.specs.declared.Opening.{Opening}
 
 -- the settings that set up was told
 abbrev pub settingsOf : Opening → Settings
-settingsOf o = record { n = o .n; own = o .own; supplier = o .supplier; last = o .last; q = o .q; u = o .u }
+settingsOf o = record { n = o .n; own = o .own; supplier = o .supplier; last = o .last; q = o .q; u = o .u; hours = o .hours }
 
 -- every setting in its range, and memory of at least 256 + 64 × Q + 32 × U bytes; else 8
 unfoldable pub openingValid : Opening → ℕ → Bool

@@ -1,4 +1,5 @@
 // The gateway's calls: what they are told and answer. Their code stands in the crates above.
+use model::LeadTimes;
 ghost use mathlib.Core.Path.{_≡_};
 
 // What taking a frame, the start call and commit answer: document 01's number, 0 where the call is accepted, and how many
@@ -16,7 +17,7 @@ pub struct Worked {
 }
 
 // What set up is told: document 01's N, own number, supplier, opening stock, last hour H, queue places Q and outstanding
-// places U, each wider than its range, so that every value outside is refused.
+// places U, and document 02's lead times, each wider than its range, so that every value outside is refused.
 pub struct Opening {
     pub n: u32,
     pub own: u32,
@@ -25,6 +26,7 @@ pub struct Opening {
     pub last: u32,
     pub q: u32,
     pub u: u32,
+    pub hours: LeadTimes,
 }
 
 // What reading the agreed time answers: 0 and the hour, or 10.

@@ -2,23 +2,21 @@
 use buffer::read16;
 use buffer::read32;
 use buffer::write16;
-use buffer::write32;
-use encoding::write_counters;
 use encoding::write_pair;
+use encoding::write_three;
 use memory::Header;
 use memory::OUTSTANDING_COUNT_AT;
 use memory::Phase;
 use memory::QUEUED_AT;
 use memory::Round;
 use memory::Settings;
+use model::LeadTimes;
 use model::State;
 ghost use mathlib.Core.Path.{_≡_};
-ghost use mathlib.Core.List.{_++_};
 ghost use Prim.Native.Nat.{_≤_};
 ghost use lib.ListN.{length};
 ghost use Rattle.memory.specs.Layout.{headerUsed, backAt};
 ghost use Rattle.buffer.specs.Slice.{write};
-ghost use Rattle.buffer.specs.Number.{bytesOf};
 ghost use Rattle.memory.specs.inside.Pieces.{smallBytes, countBytes, headerWritten};
 ghost use Rattle.memory.specs.Codec.{phaseNumber, phaseOf, headerAt};
 
@@ -50,6 +48,18 @@ pub fn read_settings(memory: &[u8]) -> Settings
         last: read32(memory, 16),
         q: read16(memory, 6),
         u: read16(memory, 8),
+        hours: read_hours(memory),
+    }
+}
+
+fn read_hours(memory: &[u8]) -> LeadTimes
+    requires { ⌜ headerUsed ≤ length (now memory) ⌝ }
+    ensures { λ r. ⌜ r ≡ headerAt (now (memory .entry)) .settings .hours ⌝ }
+{
+    LeadTimes {
+        request: read32(memory, 40),
+        delivery: read32(memory, 44),
+        life: read32(memory, 48),
     }
 }
 
@@ -97,12 +107,13 @@ fn phase_number(phase: Phase) -> u8
     }
 }
 
-// Puts a header; byte 5 and those from 40 on stay as they are.
+// Puts a header; byte 5 and those from 52 on stay as they are.
 pub fn write_header(memory: &mut [u8], header: Header)
     requires { ⌜ headerUsed ≤ length (now memory) ⌝ }
     ensures { λ _. ⌜ now (memory .exit) ≡ headerWritten header (now (memory .entry)) ⌝ }
 {
     let settings = header.settings;
+    let hours = settings.hours;
     let state = header.state;
     let round = header.round;
     write_front(memory, settings, round);
@@ -113,8 +124,9 @@ pub fn write_header(memory: &mut [u8], header: Header)
         header.outstanding,
         state.stock,
     );
-    write_times(memory, settings.last, header.agreed, round.note);
-    write_counters(memory, 28, state);
+    write_three(memory, 16, settings.last, header.agreed, round.note);
+    write_three(memory, 28, state.failed, state.fitted, state.short);
+    write_three(memory, 40, hours.request, hours.delivery, hours.life);
 }
 
 // The numbers of one byte, before byte 5.
@@ -138,14 +150,4 @@ fn write_counts(memory: &mut [u8], settings: Settings, queued: u16, outstanding:
     write16(memory, QUEUED_AT, queued);
     write16(memory, OUTSTANDING_COUNT_AT, outstanding);
     write16(memory, 14, stock);
-}
-
-// H, the agreed time and the note.
-fn write_times(memory: &mut [u8], last: u32, agreed: u32, note: u32)
-    requires { ⌜ 28 ≤ length (now memory) ⌝ }
-    ensures { λ _. ⌜ now (memory .exit) ≡ write 16 (bytesOf 4 last ++ (bytesOf 4 agreed ++ bytesOf 4 note)) (now (memory .entry)) ⌝ }
-{
-    write32(memory, 16, last);
-    write32(memory, 20, agreed);
-    write32(memory, 24, note);
 }

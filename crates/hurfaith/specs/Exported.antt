@@ -27,8 +27,17 @@ abbrev pub packedWork : CallResult Worked → CallResult ℕ
 packedWork l = record { answer = packed (l .answer .why) (l .answer .written) (l .answer .count); memory = l .memory; output = l .output }
 
 -- the settings of set up
-abbrev pub settingsGiven : (n own supplier stock last q u : ℕ) → Opening
-settingsGiven n own supplier stock last q u = record { n = n; own = own; supplier = supplier; stock = stock; last = last; q = q; u = u }
+abbrev pub settingsGiven : (n own supplier stock last q u request delivery life : ℕ) → Opening
+settingsGiven n own supplier stock last q u request delivery life = record {
+  n = n;
+  own = own;
+  supplier = supplier;
+  stock = stock;
+  last = last;
+  q = q;
+  u = u;
+  hours = record { request = request; delivery = delivery; life = life };
+}
 
 -- what set up leaves, with the answer's number alone: it writes no output
 abbrev pub numberAlone : CallResult Answer → CallResult ℕ

@@ -4,6 +4,7 @@ use commit::commit;
 use frame::lamps::LAMP_PLACE;
 use gateway::Opening;
 use lamp::lamp_number;
+use model::LeadTimes;
 use neighbours::neighbours_of;
 use opening::set_up::set_up;
 use packing::number_at;
@@ -57,12 +58,21 @@ pub extern "C" fn hurfaith_set_up(
     last_hour: u32,
     queue_places: u32,
     outstanding_places: u32,
+    request_hours: u32,
+    delivery_hours: u32,
+    life_hours: u32,
 ) -> u32
     ensures { λ r. ⌜ left r (now (memory .exit)) []
         ≡ numberAlone (setUp
-        (settingsGiven gateways own supplier stock «last_hour» «queue_places» «outstanding_places»)
+        (settingsGiven gateways own supplier stock «last_hour» «queue_places» «outstanding_places»
+        «request_hours» «delivery_hours» «life_hours»)
         (now (list .entry)) (now (memory .entry))) ⌝ }
 {
+    let hours = LeadTimes {
+        request: request_hours,
+        delivery: delivery_hours,
+        life: life_hours,
+    };
     let opening = Opening {
         n: gateways,
         own,
@@ -71,6 +81,7 @@ pub extern "C" fn hurfaith_set_up(
         last: last_hour,
         q: queue_places,
         u: outstanding_places,
+        hours,
     };
     let answer = set_up(memory, opening, list);
     answer.number as u32

@@ -9,6 +9,7 @@ use frame::WriteAnswer;
 use frame::tables::whole_length;
 use memory::HEADER_SIZE;
 use memory::QUEUE_SIZE;
+use model::LeadTimes;
 use model::Message;
 use model::event::Reply;
 use places::search::Search;
@@ -20,12 +21,24 @@ ghost use Prim.Native.Nat.{_+_, _≤_, _<_};
 ghost use lib.ListN.{length};
 ghost use Rattle.buffer.specs.Slice.{part};
 ghost use Rattle.memory.specs.Layout.{headerSize, queueAt};
+ghost use Rattle.gateway.specs.Examples.{townHours};
 ghost use Rattle.lines.specs.inside.Putting.{sizeAt, appended, copied, plainPut, enteredIn, replyEntered};
 
 // Where the records of the two gateways end.
 pub struct Ends {
     pub first: usize,
     pub second: usize,
+}
+
+// Request, delivery and life hours of both gateways.
+pub fn town_hours() -> LeadTimes
+    ensures { λ r. ⌜ r ≡ townHours ⌝ }
+{
+    LeadTimes {
+        request: 1,
+        delivery: 24,
+        life: 43800,
+    }
 }
 
 // The length of the frame at a position, which its map gives; no more than there is.

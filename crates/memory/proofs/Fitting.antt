@@ -7,6 +7,8 @@ use lib.Dec.{eqb, leb}
 use lib.ListN.{length}
 use borrow.Author.Tests.{eqb-true, leb-true}
 use Rattle.lists.proofs.ListLaws.{all-of, all-each}
+use Rattle.model.specs.Doing.{leadTimesValid}
+use Rattle.model.specs.declared.LeadTimes.{LeadTimes}
 use Rattle.model.specs.declared.Message.{Message}
 use Rattle.memory.specs.Records.{Gateway}
 use Rattle.routing.specs.Arcs.{from, to}
@@ -16,7 +18,8 @@ use Rattle.memory.specs.declared.Settings.{Settings}
 use Rattle.memory.specs.declared.Round.{Round}
 use Rattle.memory.specs.declared.Phase.{Phase}
 use Rattle.memory.specs.declared.Phase.the-variants.{Idle, Counting, Stopped}
-use Rattle.memory.specs.inside.Fits.{MessageFits, GatewayFits}
+use Rattle.memory.specs.inside.Fits.{LeadTimesFit, MessageFits, GatewayFits}
+use Rattle.memory.proofs.LeadTimeFacts.{at-most}
 use Rattle.memory.proofs.Validated.{Valid, ValidSettings, Storable}
 use Rattle.lists.proofs.BoolLaws.{and-left, and-right}
 
@@ -48,6 +51,11 @@ round-fits : (s : Settings) (r : Round) → roundPossible s r ≡ true → r .ar
 unfolding roundPossible
 round-fits s r h = omega (arith, arrivals-fit (r .arrived) (length (from (s .n) (s .own))) (length (to (s .n) (s .own))) (r .phase) h)
 
+lead-times-fit : (t : LeadTimes) → leadTimesValid t ≡ true → LeadTimesFit t
+lead-times-fit t h =
+    let most = at-most t h in
+    record { request = omega (arith, most .request); delivery = omega (arith, most .delivery); life = omega (arith, most .life) }
+
 pub valid-fits : (g : Gateway) → Valid g → Ranged g → GatewayFits g
 valid-fits g v r =
     let s = v .settings in
@@ -60,6 +68,7 @@ valid-fits g v r =
           last = omega (arith, s .last);
           q = omega (arith, s .q);
           u = omega (arith, s .u);
+          hours = lead-times-fit (g .settings .hours) (s .hours);
         };
         state = r .state;
         agreed = r .agreed;

@@ -127,6 +127,11 @@ module _ (m : List ℕ) (bytes : Bytes m) (long : headerUsed ≤ length m) where
       last = number-fits m 16 4 bytes (omega arith);
       q = number-fits m 6 2 bytes (omega arith);
       u = number-fits m 8 2 bytes (omega arith);
+      hours = record {
+        request = number-fits m 40 4 bytes (omega arith);
+        delivery = number-fits m 44 4 bytes (omega arith);
+        life = number-fits m 48 4 bytes (omega arith);
+      };
     };
     state = record {
       stock = number-fits m 14 2 bytes (omega arith);
@@ -150,14 +155,17 @@ module _ (m : List ℕ) (bytes : Bytes m) (long : headerUsed ≤ length m) where
   pub back-again : headerBack (headerAt m) ≡ part m 6 backSize
   unfolding headerBack headerAt
   back-again =
-      number-next m bytes 6 2 32 (omega arith)
-      (number-next m bytes 8 2 30 (omega arith)
-      (number-next m bytes 10 2 28 (omega arith)
-      (number-next m bytes 12 2 26 (omega arith)
-      (number-next m bytes 14 2 24 (omega arith)
-      (number-next m bytes 16 4 20 (omega arith)
-      (number-next m bytes 20 4 16 (omega arith)
-      (number-next m bytes 24 4 12 (omega arith)
-      (number-next m bytes 28 4 8 (omega arith)
-      (number-next m bytes 32 4 4 (omega arith)
-      (number-again m bytes 36 4 (omega arith)))))))))))
+      number-next m bytes 6 2 44 (omega arith)
+      (number-next m bytes 8 2 42 (omega arith)
+      (number-next m bytes 10 2 40 (omega arith)
+      (number-next m bytes 12 2 38 (omega arith)
+      (number-next m bytes 14 2 36 (omega arith)
+      (number-next m bytes 16 4 32 (omega arith)
+      (number-next m bytes 20 4 28 (omega arith)
+      (number-next m bytes 24 4 24 (omega arith)
+      (number-next m bytes 28 4 20 (omega arith)
+      (number-next m bytes 32 4 16 (omega arith)
+      (number-next m bytes 36 4 12 (omega arith)
+      (number-next m bytes 40 4 8 (omega arith)
+      (number-next m bytes 44 4 4 (omega arith)
+      (number-again m bytes 48 4 (omega arith))))))))))))))

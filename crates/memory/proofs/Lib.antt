@@ -4,6 +4,7 @@ pub mod Chains
 pub mod EventLaws
 pub mod Validated
 pub mod Places
+pub mod LeadTimeFacts
 pub mod Fitting
 pub mod RoundTrips
 pub mod FromBytes

@@ -173,6 +173,11 @@ module _ (h : Header) (r : HeaderFits h) (m : List ℕ) (front : part m 0 5 ≡ 
       last = header-number 10 4 (h .settings .last) (lit≤ tt) refl (r .settings .last) i;
       q = header-number 0 2 (h .settings .q) (lit≤ tt) refl (r .settings .q) i;
       u = header-number 2 2 (h .settings .u) (lit≤ tt) refl (r .settings .u) i;
+      hours = record {
+        request = header-number 34 4 (h .settings .hours .request) (lit≤ tt) refl (r .settings .hours .request) i;
+        delivery = header-number 38 4 (h .settings .hours .delivery) (lit≤ tt) refl (r .settings .hours .delivery) i;
+        life = header-number 42 4 (h .settings .hours .life) (lit≤ tt) refl (r .settings .hours .life) i;
+      };
     };
     state = record {
       stock = header-number 8 2 (h .state .stock) (lit≤ tt) refl (r .state .stock) i;

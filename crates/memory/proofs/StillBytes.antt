@@ -128,7 +128,10 @@ back-bytes h =
     (with-number 4 (h .round .note)
     (with-number 4 (h .state .failed)
     (with-number 4 (h .state .fitted)
-    (number-bytes 4 (h .state .short)))))))))))
+    (with-number 4 (h .state .short)
+    (with-number 4 (h .settings .hours .request)
+    (with-number 4 (h .settings .hours .delivery)
+    (number-bytes 4 (h .settings .hours .life))))))))))))))
 
 pub encode-bytes : (g : Gateway) (m : List ℕ) → Valid g → Bytes m → Bytes (encode g m)
 unfolding encode

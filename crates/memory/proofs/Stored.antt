@@ -16,6 +16,7 @@ use Rattle.model.specs.declared.State.{State}
 use Rattle.memory.specs.Layout.{headerUsed, messageSize, outstandingSize, queueSize, stateSize, zerosAt}
 use Rattle.memory.specs.Codec.{markOf, phaseOf, markNumber, phaseNumber, cancelNumber, stateBytes, messageBytes, entryBytes}
 use Rattle.memory.specs.Codec.{sentBytes, headerFront, headerBack}
+use Rattle.memory.specs.inside.Pieces.{threeBytes}
 use Rattle.memory.specs.declared.Header.{Header}
 use Rattle.memory.specs.declared.Entry.{Entry}
 use Rattle.memory.specs.declared.Sent.{Sent}
@@ -171,31 +172,35 @@ sent-stored m at s size fits number p q =
     (write-behind at messageSize (at + messageSize) (messageBytes mark (s .message)) (replicate 2 0) m (length-message mark (s .message)
     size) refl (omega arith))
 
--- the header, its four stretches behind byte 5 and the one before it
-pub header-stored : (m : List ℕ) (h : Header) {m₁ m₂ m₃ m₄ : List ℕ} → headerUsed ≤ length m
+-- the header, its five stretches behind byte 5 and the one before it
+pub header-stored : (m : List ℕ) (h : Header) {m₁ m₂ m₃ m₄ m₅ : List ℕ} → headerUsed ≤ length m
     → m₁ ≡ write 0 (bytesOf 1 (h .settings .n) ++ (bytesOf 1 (h .settings .own) ++ (bytesOf 1 (h .settings .supplier) ++ (bytesOf 1
     (phaseNumber (h .round .phase)) ++ bytesOf 1 (h .round .arrived))))) m
     → m₂ ≡ write 6 (bytesOf 2 (h .settings .q) ++ (bytesOf 2 (h .settings .u) ++ (bytesOf 2 (h .queued) ++ (bytesOf 2 (h .outstanding) ++
     bytesOf 2 (h .state .stock))))) m₁
-    → m₃ ≡ write 16 (bytesOf 4 (h .settings .last) ++ (bytesOf 4 (h .agreed) ++ bytesOf 4 (h .round .note))) m₂
-    → m₄ ≡ write 28 (bytesOf 4 (h .state .failed) ++ (bytesOf 4 (h .state .fitted) ++ bytesOf 4 (h .state .short))) m₃
-    → m₄ ≡ write 6 (headerBack h) (write 0 (headerFront h) m)
+    → m₃ ≡ write 16 (threeBytes (h .settings .last) (h .agreed) (h .round .note)) m₂
+    → m₄ ≡ write 28 (threeBytes (h .state .failed) (h .state .fitted) (h .state .short)) m₃
+    → m₅ ≡ write 40 (threeBytes (h .settings .hours .request) (h .settings .hours .delivery) (h .settings .hours .life)) m₄
+    → m₅ ≡ write 6 (headerBack h) (write 0 (headerFront h) m)
 unfolding headerFront headerBack
-header-stored m h fits p q r t =
+header-stored m h fits p q r t u =
     let counts = bytesOf 2 (h .settings .q) ++ (bytesOf 2 (h .settings .u) ++ (bytesOf 2 (h .queued) ++ (bytesOf 2 (h .outstanding) ++
     bytesOf 2 (h .state .stock)))) in
-    let times = bytesOf 4 (h .settings .last) ++ (bytesOf 4 (h .agreed) ++ bytesOf 4 (h .round .note)) in
+    let times = threeBytes (h .settings .last) (h .agreed) (h .round .note) in
+    let counters = threeBytes (h .state .failed) (h .state .fitted) (h .state .short) in
     let front = bytesOf 1 (h .settings .n) ++ (bytesOf 1 (h .settings .own) ++ (bytesOf 1 (h .settings .supplier) ++ (bytesOf 1 (phaseNumber
     (h .round .phase)) ++ bytesOf 1 (h .round .arrived)))) in
     let five : length front ≡ 5 = simp (length-append, length-bytesOf) in
     let whole : length (write 0 front m) ≡ length m = length-write 0 front m (omega arith) in
-    t
+    u
     ∙ rw (
+      t,
       r,
       q,
       p,
       write-behind 6 10 16 counts times (write 0 front m) (simp (length-append, length-bytesOf)) refl (omega arith),
-      write-behind 6 22 28 (counts ++ times) _ (write 0 front m) (simp (length-append, length-bytesOf)) refl (omega arith),
+      write-behind 6 22 28 (counts ++ times) counters (write 0 front m) (simp (length-append, length-bytesOf)) refl (omega arith),
+      write-behind 6 34 40 ((counts ++ times) ++ counters) _ (write 0 front m) (simp (length-append, length-bytesOf)) refl (omega arith),
     )
     (simp append-assoc)
 

@@ -9,6 +9,7 @@ use Rattle.frame.proofs.Presence.{lamp-kinds}
 use borrow.Author.Tests.{leb-true, ltb-true, eqb-true, not-true, le-leb, lt-ltb, eq-eqb}
 use Rattle.lists.specs.Lists.{_∈_, Ascending, none, more, every}
 use Rattle.model.specs.Messages.{kindNumber, originOf}
+use Rattle.model.specs.Doing.{leadTimesValid}
 use Rattle.model.specs.declared.Message.{Message}
 use Rattle.frame.specs.Writing.{wellFormed}
 use Rattle.frame.specs.Limits.{nothingDue}
@@ -48,6 +49,7 @@ pub record ValidSettings (s : Settings) : Type 0 where
   pub q : s .q ≤ 512
   pub u-some : 1 ≤ s .u
   pub u : s .u ≤ 512
+  pub hours : leadTimesValid (s .hours) ≡ true
 
 module _ (s : Settings) where
   pub settings-facts : settingsValid s ≡ true → ValidSettings s
@@ -63,6 +65,7 @@ module _ (s : Settings) where
         q = leb-true (s .q) 512 (search (and-left, and-right) depth 9);
         u-some = leb-true 1 (s .u) (search (and-left, and-right) depth 9);
         u = leb-true (s .u) 512 (search (and-left, and-right) depth 9);
+        hours = search (and-left, and-right) depth 9;
       }
 
   pub facts-settings : ValidSettings s → settingsValid s ≡ true
@@ -79,6 +82,7 @@ module _ (s : Settings) where
     le-leb 1 (s .u)
         (v .u-some),
     le-leb (s .u) 512 (v .u),
+    v .hours,
   )
 
 -- a stored message

@@ -107,6 +107,7 @@ headerAt m = record {
     last = numberOf (part m 16 4);
     q = numberOf (part m 6 2);
     u = numberOf (part m 8 2);
+    hours = record { request = numberOf (part m 40 4); delivery = numberOf (part m 44 4); life = numberOf (part m 48 4) };
   };
   state = record {
     stock = numberOf (part m 14 2);
@@ -120,7 +121,7 @@ headerAt m = record {
   outstanding = numberOf (part m outstandingCountAt 2);
 }
 
--- the header's bytes 0 to 4 and 6 to 39; byte 5 is not used
+-- the header's bytes 0 to 4 and 6 to 51; byte 5 is not used
 unfoldable pub headerFront : Header → List ℕ
 headerFront h =
     bytesOf 1 (h .settings .n)
@@ -141,7 +142,10 @@ headerBack h =
     ++ (bytesOf 4 (h .round .note)
     ++ (bytesOf 4 (h .state .failed)
     ++ (bytesOf 4 (h .state .fitted)
-    ++ bytesOf 4 (h .state .short))))))))))
+    ++ (bytesOf 4 (h .state .short)
+    ++ (bytesOf 4 (h .settings .hours .request)
+    ++ (bytesOf 4 (h .settings .hours .delivery)
+    ++ bytesOf 4 (h .settings .hours .life)))))))))))))
 
 -- count places of size bytes from position at on, each read by f
 unfoldable pub placesAt : {A : Type 0} → (List ℕ → A) → ℕ → List ℕ → ℕ → ℕ → List A

@@ -3,7 +3,7 @@
 -- Header, 256 bytes (what is not named is never read or written):
 --   0 N   1 own number   2 supplier   3 phase   4 arrivals   6 Q (2)   8 U (2)   10 queue places used (2)
 --   12 outstanding places used (2)   14 stock (2)   16 H (4)   20 agreed time (4)   24 note or value (4)
---   28 failed (4)   32 fitted (4)   36 short (4)
+--   28 failed (4)   32 fitted (4)   36 short (4)   40 request hours (4)   44 delivery hours (4)   48 life hours (4)
 -- Queue place, 64 bytes, and outstanding place, 32 bytes, begin alike:
 --   0 mark (queue: 0 pending, 1 processed, 2 waiting cancel; outstanding: 0 message, 1 cancel)   1 kind   2 from   3 to
 --   4 hour (4)   8 origin   9 zero   10 quantity (2)   12 lamp (18)
@@ -11,7 +11,7 @@
 --   44 zeros (20). Outstanding place, from 30: zeros (2).
 use Prim.Native.Nat.{ℕ, _+_, _*_}
 
--- the header, its bytes that are used, 0 to 4 and 6 to 39, and where it counts the places that are used
+-- the header, its bytes that are used, 0 to 4 and 6 to 51, and where it counts the places that are used
 abbrev pub headerSize : ℕ
 headerSize = 256
 
@@ -22,7 +22,7 @@ abbrev pub backAt : ℕ
 backAt = 6
 
 abbrev pub backSize : ℕ
-backSize = 34
+backSize = 46
 
 abbrev pub queuedAt : ℕ
 queuedAt = 10

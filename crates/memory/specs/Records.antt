@@ -3,7 +3,6 @@ use Prim.Native.Nat.{ℕ}
 use mathlib.Core.List.{List}
 use lib.ListN.{length}
 use Rattle.model.specs.declared.State.{State}
-use Rattle.model.specs.declared.LeadTimes.{LeadTimes}
 use Rattle.model.specs.declared.Site.{Site}
 use Rattle.memory.specs.declared.Settings.{Settings}
 use Rattle.memory.specs.declared.Entry.{Entry}
@@ -32,10 +31,6 @@ headerOf g = record {
   outstanding = length (g .outstanding);
 }
 
--- the lead times of every gateway
-abbrev pub usualHours : LeadTimes
-usualHours = record { request = 1; delivery = 24; life = 43800 }
-
 -- where its messages are done
 abbrev pub siteOf : Settings → Site
-siteOf s = record { own = s .own; supplier = s .supplier; last = s .last; hours = usualHours }
+siteOf s = record { own = s .own; supplier = s .supplier; last = s .last; hours = s .hours }

@@ -7,6 +7,7 @@ use lib.ListN.{length}
 use Rattle.lists.specs.Lists.{every}
 use Rattle.routing.specs.Arcs.{from, to}
 use Rattle.model.specs.Messages.{kindNumber}
+use Rattle.model.specs.Doing.{leadTimesValid}
 use Rattle.model.specs.EventOrder.{key, compared, different}
 use Rattle.model.specs.declared.Message.{Message}
 use Rattle.model.specs.declared.State.{State}
@@ -28,7 +29,7 @@ use Rattle.memory.specs.declared.Sent.{Sent}
 use Rattle.memory.specs.declared.Mark.{Mark}
 use Rattle.memory.specs.declared.Mark.the-variants.{Pending, Processed, Waiting}
 
--- N 1 to 255, own number and supplier below N, H below nothing due, Q and U 1 to 512
+-- N 1 to 255, own number and supplier below N, H below nothing due, Q and U 1 to 512, each lead time 1 to 1,000,000 hours
 unfoldable pub settingsValid : Settings → Bool
 settingsValid s =
     leb 1 (s .n) && leb (s .n) 255
@@ -36,6 +37,7 @@ settingsValid s =
     && ltb (s .last) nothingDue
     && leb 1 (s .q) && leb (s .q) 512
     && leb 1 (s .u) && leb (s .u) 512
+    && leadTimesValid (s .hours)
 
 -- some of two, not none and not all
 abbrev pub oneOfTwo : ℕ → Bool

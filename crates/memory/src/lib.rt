@@ -1,5 +1,6 @@
 // A gateway's lent memory: what stands where in its bytes, and when it is sound. The crates decoding, encoding and header read and
 // write the bytes, soundness tests them.
+use model::LeadTimes;
 use model::Message;
 use model::State;
 
@@ -22,7 +23,7 @@ pub const QUEUED_AT: usize = 10;
 
 pub const OUTSTANDING_COUNT_AT: usize = 12;
 
-// What set up was told. The letters are document 01's: n gateways, last hour H, q queue places, u outstanding places.
+// What set up was told. The letters are document 01's: n gateways, last hour H, q queue places, u outstanding places; then the lead times.
 pub struct Settings {
     pub n: u8,
     pub own: u8,
@@ -30,6 +31,7 @@ pub struct Settings {
     pub last: u32,
     pub q: u16,
     pub u: u16,
+    pub hours: LeadTimes,
 }
 
 // What a queue place holds: a plain message not processed, one that is, or a waiting cancel.

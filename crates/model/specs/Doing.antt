@@ -1,14 +1,23 @@
 -- Doing a message: the state after it, and what it sends.
 use Prim.Native.Nat.{ℕ, _+_, _-_, min}
-use mathlib.Core.Bool.{true, false, cond}
+use mathlib.Core.Bool.{Bool, true, false, cond, _&&_}
 use mathlib.Core.List.{List, [], _∷_}
 use lib.Dec.{leb, ltb}
 use Rattle.model.specs.declared.Kind.{Kind}
 use Rattle.model.specs.declared.Kind.the-variants.{Failure, Request, Delivery, Restock, Start, Lvt, Update}
 use Rattle.model.specs.declared.Message.{Message}
 use Rattle.model.specs.declared.State.{State}
+use Rattle.model.specs.declared.LeadTimes.{LeadTimes}
 use Rattle.model.specs.declared.Site.{Site}
 use Rattle.model.specs.declared.event.Reply.{Reply}
+
+-- a message must be later than its cause: each lead time is 1 to 1,000,000 hours
+abbrev pub hoursInRange : ℕ → Bool
+hoursInRange hours = leb 1 hours && leb hours 1000000
+
+-- a gateway's request, delivery and life hours, all three
+unfoldable pub leadTimesValid : LeadTimes → Bool
+leadTimesValid t = hoursInRange (t .request) && hoursInRange (t .delivery) && hoursInRange (t .life)
 
 -- a counter with one more; it stops at 4,294,967,295
 abbrev pub counted : ℕ → ℕ
@@ -36,7 +45,7 @@ after s Start = s
 after s Lvt = s
 after s Update = s
 
--- a message that doing m sends: so many hours later, from this gateway, with m's lamp
+-- a message that doing m sends: so many hours later, a sum that never wraps, from this gateway, with m's lamp
 abbrev pub reply : Site → Message → ℕ → ℕ → Kind → Message
 reply site m hours to kind = record { hour = m .hour + hours; from = site .own; to = to; kind = kind; lamp = m .lamp }
 
@@ -46,14 +55,15 @@ notPast last m = cond (leb (m .hour) last) (m ∷ []) []
 
 -- what doing m, of that kind, in that state sends: at most one message
 abbrev pub sentFor : Site → State → Message → Kind → List Message
--- Failure: a Request to the supplier, origin this gateway
+-- Failure: a Request to the supplier, this gateway's request hours later, origin this gateway
 sentFor site s m (Failure origin) = notPast (site .last) (reply site m (site .hours .request) (site .supplier) (Request (site .own)))
--- Request: with stock, a Delivery to the origin; without, a Request to the supplier, same origin
+-- Request: with stock, a Delivery to the origin, this gateway's delivery hours later; without, a Request to the supplier, its request hours
+-- later, same origin
 sentFor site s m (Request origin) =
     cond (ltb 0 (s .stock))
     (notPast (site .last) (reply site m (site .hours .delivery) origin (Delivery origin)))
     (notPast (site .last) (reply site m (site .hours .request) (site .supplier) (Request origin)))
--- Delivery: a Failure to itself
+-- Delivery: a Failure to itself, its life hours later
 sentFor site s m (Delivery origin) = notPast (site .last) (reply site m (site .hours .life) (site .own) (Failure (site .own)))
 -- Restock sends nothing, and neither does what is no event
 sentFor site s m (Restock quantity) = []

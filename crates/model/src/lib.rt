@@ -4,6 +4,7 @@ pub mod order; // order.rt: how two messages compare
 
 ghost use mathlib.Core.Path.{_≡_};
 ghost use Rattle.model.specs.Messages.{kindNumber, originOf, quantityOf, kindOf};
+ghost use Rattle.model.specs.Doing.{hoursInRange, leadTimesValid};
 
 // A message's kind, with the kind's own fields. The first four are events of the forecast. The last three are the
 // round's: no queue holds them, and doing one would change nothing.
@@ -47,6 +48,29 @@ pub struct Site {
     pub supplier: u8,
     pub last: u32,
     pub hours: LeadTimes,
+}
+
+// Whether each lead time is in its range.
+pub fn lead_times_valid(hours: LeadTimes) -> bool
+    ensures { λ r. ⌜ r ≡ leadTimesValid hours ⌝ }
+{
+    if !hours_in_range(hours.request) {
+        return false;
+    }
+    if !hours_in_range(hours.delivery) {
+        return false;
+    }
+    hours_in_range(hours.life)
+}
+
+// Whether a lead time is 1 to 1,000,000 hours.
+fn hours_in_range(hours: u32) -> bool
+    ensures { λ r. ⌜ r ≡ hoursInRange hours ⌝ }
+{
+    if hours < 1 {
+        return false;
+    }
+    hours <= 1000000
 }
 
 // The kind's number.

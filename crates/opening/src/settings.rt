@@ -8,6 +8,7 @@ use memory::QUEUE_SIZE;
 use memory::Round;
 use memory::Settings;
 use model::State;
+use model::lead_times_valid;
 ghost use mathlib.Core.Path.{_≡_};
 ghost use mathlib.Core.Bool.{true};
 ghost use Prim.Native.Nat.{_≤_};
@@ -29,7 +30,7 @@ pub fn opening_valid(opening: Opening, size: usize) -> bool
         <= size
 }
 
-// N 1 to 255, own number and supplier below N, H below nothing due, Q and U 1 to 512.
+// N 1 to 255, own number and supplier below N, H below nothing due, Q and U 1 to 512, lead times in their range.
 fn in_range(opening: Opening) -> bool
     ensures { λ r. ⌜ r ≡ settingsValid (settingsOf opening) ⌝ }
 {
@@ -57,7 +58,11 @@ fn in_range(opening: Opening) -> bool
     if opening.u < 1 {
         return false;
     }
-    opening.u <= 512
+    if opening.u > 512 {
+        return false;
+    }
+    let hours = opening.hours;
+    lead_times_valid(hours)
 }
 
 // The settings in the widths of their fields.
@@ -65,6 +70,7 @@ pub fn settings_of(opening: Opening) -> Settings
     requires { ⌜ settingsValid (settingsOf opening) ≡ true ⌝ }
     ensures { λ r. ⌜ r ≡ settingsOf opening ⌝ }
 {
+    let hours = opening.hours;
     Settings {
         n: opening.n as u8,
         own: opening.own as u8,
@@ -72,6 +78,7 @@ pub fn settings_of(opening: Opening) -> Settings
         last: opening.last,
         q: opening.q as u16,
         u: opening.u as u16,
+        hours,
     }
 }
 

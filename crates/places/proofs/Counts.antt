@@ -35,7 +35,10 @@ module _ (h : Header) (m : List ℕ) (long : headerUsed ≤ length m) (front : S
       ++ (bytesOf 4 (h .round .note)
       ++ (bytesOf 4 (h .state .failed)
       ++ (bytesOf 4 (h .state .fitted)
-      ++ bytesOf 4 (h .state .short))))))
+      ++ (bytesOf 4 (h .state .short)
+      ++ (bytesOf 4 (h .settings .hours .request)
+      ++ (bytesOf 4 (h .settings .hours .delivery)
+      ++ bytesOf 4 (h .settings .hours .life)))))))))
 
   front-stays : write 0 (headerFront h) m ≡ m
   front-stays = write-stands 0 (headerFront h) m (omega (arith, length-front h)) front

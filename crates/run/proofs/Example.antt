@@ -11,7 +11,7 @@ use Rattle.buffer.specs.Slice.{Bytes, sameBytes, part, write}
 use Rattle.buffer.specs.Number.{bytesOf, numberOf}
 use Rattle.routing.specs.Arcs.{from, to, mid0, mid1}
 use Rattle.routing.specs.Figure2.{gvtcfg, widen, share, setFrom, setTo}
-use Rattle.model.specs.Doing.{sent}
+use Rattle.model.specs.Doing.{leadTimesValid, sent}
 use Rattle.model.specs.EventOrder.{key, compared}
 use Rattle.frame.specs.Kinds.{hasHour, hasLamp, mapOf}
 use Rattle.frame.specs.Writing.{written, allBetween, wellFormed}
@@ -30,7 +30,8 @@ use Rattle.gateway.specs.Committing.{recordFor, commit}
 use Rattle.gateway.specs.SettingUp.{opened, setUpRefusal}
 use Rattle.gateway.specs.Calls.{taken, started, committed, workedOff, setUp, agreedTime}
 use Rattle.run.specs.Forecast.{SetUpInput, Forecast}
-use Rattle.run.specs.World.{roundFrames, acceptsLvt, tagOf, afterTaking, afterStarting, afterWorking, afterCommitting, afterCall, afterCalls, openingWorld}
+use Rattle.run.specs.Demand3.{Completed}
+use Rattle.run.specs.World.{Rounds, roundFrames, acceptsLvt, tagOf, afterTaking, afterStarting, afterWorking, afterCommitting, afterCall, afterCalls, openingWorld}
 use Rattle.run.specs.ExampleRun.{exampleMemory, oneSetUp, worldAtEnd, ExampleRuns}
 use Rattle.run.specs.ExampleRun.{twoSetUps, request, requestAcknowledged, startFrame, lvtFrame, updateFrame, twoCalls}
 
@@ -46,7 +47,7 @@ pub at-one : (p : ℕ → Type 0) → p 0 → (i : ℕ) → i < 1 → p i
 at-one p h zero l = h
 at-one p h (suc i) l = absurd (omega arith)
 
-at-two : (p : ℕ → Type 0) → p 0 → p 1 → (i : ℕ) → i < 2 → p i
+pub at-two : (p : ℕ → Type 0) → p 0 → p 1 → (i : ℕ) → i < 2 → p i
 at-two p h k zero l = h
 at-two p h k (suc zero) l = k
 at-two p h k (suc (suc i)) l = absurd (omega arith)
@@ -66,12 +67,41 @@ forecast-of-one last s memory n own hour memory-bytes list-bytes accepted =
       accepted = λ i h. accepted;
     }
 
+-- a forecast of two gateways
+pub forecast-of-two : (last : ℕ) (s : ℕ → SetUpInput) (memory : ℕ → List ℕ)
+    → (s 0 .opening .n ≡ 2) × (s 1 .opening .n ≡ 2) → (s 0 .opening .own ≡ 0) × (s 1 .opening .own ≡ 1)
+    → (s 0 .opening .last ≡ last) × (s 1 .opening .last ≡ last)
+    → (allBetween 0 255 (memory 0) ≡ true) × (allBetween 0 255 (memory 1) ≡ true)
+    → (allBetween 0 255 (s 0 .list) ≡ true) × (allBetween 0 255 (s 1 .list) ≡ true)
+    → (setUp (s 0 .opening) (s 0 .list) (memory 0) .answer .number ≡ 0) × (setUp (s 1 .opening) (s 1 .list) (memory 1) .answer .number ≡ 0)
+    → Forecast 2 last s memory
+forecast-of-two last s memory n own hour memory-bytes list-bytes accepted =
+    record {
+      some = omega arith;
+      most = omega arith;
+      gateways = at-two (λ i. s i .opening .n ≡ 2) (n .0) (n .1);
+      numbers = at-two (λ i. s i .opening .own ≡ i) (own .0) (own .1);
+      oneLast = at-two (λ i. s i .opening .last ≡ last) (hour .0) (hour .1);
+      bytes = at-two (λ i. Bytes (memory i) × Bytes (s i .list))
+          (bytes-by (memory 0) (memory-bytes .0), bytes-by (s 0 .list) (list-bytes .0))
+          (bytes-by (memory 1) (memory-bytes .1), bytes-by (s 1 .list) (list-bytes .1));
+      accepted = at-two (λ i. setUp (s i .opening) (s i .list) (memory i) .answer .number ≡ 0) (accepted .0) (accepted .1);
+    }
+
+-- a round of two gateways is completed
+pub completed-by-two : (r : Rounds) (t : ℕ) → r .closed t ≡ true → r .accepted t 1 ≡ true → Completed 2 r t
+completed-by-two r t closed accepted =
+    record {
+      isClosed = closed;
+      allAccepted = λ i p l. at-two (λ j. 0 < j → r .accepted t j ≡ true) (λ q. absurd (omega arith)) (λ q. accepted) i l p;
+    }
+
 pub examples : ExampleRuns
 unfolding
     bytesOf numberOf part sameBytes write hasHour hasLamp mapOf refusal reading allBetween wellFormed written agreedTime committed setUp started taken
     workedOff commit recordFor sentAll settled allBits bitOf leastOutstanding leastQueued start takeLvt takeStart takeUpdate opened
     setUpRefusal takeAcknowledgment takePlain processedOf rolledBack undone worked change every decode encode entryBytes entryOf
-    sentBytes sentOf sound entryValid equal later noneMeet ordered processedFirst roundPossible sentValid settingsValid storable valid
+    sentBytes sentOf sound entryValid equal later noneMeet ordered processedFirst roundPossible sentValid settingsValid leadTimesValid storable valid
     sent compared key from mid0 mid1 to gvtcfg setFrom setTo share widen worldAtEnd acceptsLvt afterCalls afterCall
     afterCommitting afterStarting afterTaking afterWorking openingWorld roundFrames tagOf
 examples =
@@ -89,20 +119,7 @@ examples =
           };
       two =
           record {
-            forecast =
-                record {
-                  some = omega arith;
-                  most = omega arith;
-                  gateways = at-two _ refl refl;
-                  numbers = at-two _ refl refl;
-                  oneLast = at-two _ refl refl;
-                  bytes =
-                      λ i h. (
-                        bytes-by (exampleMemory i) refl,
-                        at-two (λ j. Bytes (twoSetUps j .list)) (bytes-by (twoSetUps 0 .list) refl) (bytes-by [] refl) i h,
-                      );
-                  accepted = at-two _ refl refl;
-                };
+            forecast = forecast-of-two 10 twoSetUps exampleMemory (refl, refl) (refl, refl) (refl, refl) (refl, refl) (refl, refl) (refl, refl);
             allowed = (
               omega arith,
               (
@@ -129,12 +146,7 @@ examples =
             nothingIsDue = at-two _ refl refl;
             nothingLeft = at-two _ ([], refl) ([], refl);
             whole = at-two _ refl refl;
-            completed =
-                record {
-                  isClosed = refl;
-                  allAccepted =
-                      λ i p l. at-two (λ j. 0 < j → worldAtEnd 2 10 twoSetUps exampleMemory twoCalls .rounds .accepted 1 j ≡ true) (λ q. absurd (omega arith)) (λ q. refl) i l p;
-                };
+            completed = completed-by-two (worldAtEnd 2 10 twoSetUps exampleMemory twoCalls .rounds) 1 refl refl;
             took = refl;
           };
     }

@@ -9,7 +9,7 @@ use lib.ListN.{length}
 use borrow.Author.Tests.{ltb-true, leb-true, eqb-true, lt-ltb}
 use Rattle.lists.specs.Lists.{All, nil, cons}
 use Rattle.lists.proofs.ListLaws.{all-map}
-use Rattle.model.specs.Doing.{after, sent, sentFor, notPast, reply}
+use Rattle.model.specs.Doing.{leadTimesValid, after, sent, sentFor, notPast, reply}
 use Rattle.model.specs.Messages.{originOf}
 use Rattle.model.specs.declared.Kind.{Kind}
 use Rattle.model.specs.declared.Kind.the-variants.{Failure, Request, Delivery, Restock, Start, Lvt, Update}
@@ -17,12 +17,12 @@ use Rattle.model.specs.EventOrder.{key}
 use Rattle.model.specs.declared.Message.{Message}
 use Rattle.model.specs.declared.State.{State}
 use Rattle.model.specs.declared.Site.{Site}
-use Rattle.model.specs.Claims.{AtLeastOne}
+use Rattle.memory.proofs.LeadTimeFacts.{at-least-one}
 use Rattle.model.proofs.Ordered.{key-injective}
 use Rattle.model.proofs.Sending.{sending}
 use Rattle.frame.specs.Limits.{nothingDue}
 use Rattle.lists.proofs.BoolLaws.{and-left, and-right, and-both}
-use Rattle.memory.specs.Records.{siteOf, usualHours}
+use Rattle.memory.specs.Records.{siteOf}
 use Rattle.gateway.specs.SettingUp.{settingsOf, cutFrames, queued}
 use Rattle.gateway.specs.Working.{pendingOf}
 use Rattle.event_steps.specs.Models.{Model, ModelLaws, first}
@@ -75,10 +75,6 @@ all-of-one [] h f = nil
 all-of-one (x ∷ []) h f = cons (f x refl) nil
 all-of-one (x ∷ y ∷ xs) h f = absurd (omega arith)
 
--- the lead times of every gateway are at least an hour
-pub usual-timely : AtLeastOne usualHours
-usual-timely = record { request = omega arith; delivery = omega arith; life = omega arith }
-
 -- where gateway i does its messages
 abbrev pub siteAt : (ℕ → SetUpInput) → ℕ → Site
 siteAt setups i = siteOf (settingsOf (setups i .opening))
@@ -90,6 +86,7 @@ module _ (n last : ℕ) (setups : ℕ → SetUpInput) where
     pub count : setups i .opening .n ≡ n
     pub until : setups i .opening .last ≡ last
     pub supplied : setups i .opening .supplier < n
+    pub hours : leadTimesValid (setups i .opening .hours) ≡ true
 
   -- a message to one of the gateways, of an hour
   abbrev pub deliverable : Message → Bool
@@ -137,9 +134,9 @@ module _ (n last : ℕ) (setups : ℕ → SetUpInput) where
   sends-inside i s m =
       all-map (λ y h. omega (arith, ltb-true (y .to) n (and-left (ltb (y .to) n) (ltb (y .hour) nothingDue) h))) (sends-pass i s m)
 
-  sends-later : (i : ℕ) (s : State) (m : Message) → All (λ y. first (key m) < first (key y)) (sendsAt i s m)
+  sends-later : (i : ℕ) → Settled i → (s : State) (m : Message) → All (λ y. first (key m) < first (key y)) (sendsAt i s m)
   unfolding first key
-  sends-later i s m = sends-all i s m (λ x e. sending (siteAt setups i) s m .later usual-timely x e)
+  sends-later i settled s m = sends-all i s m (λ x e. sending (siteAt setups i) s m .later (at-least-one _ (settled .hours)) x e)
 
   sends-due : (i : ℕ) (s : State) (m : Message) → All (λ y. first (key y) < nothingDue) (sendsAt i s m)
   unfolding first key
@@ -172,7 +169,7 @@ module _ (n last : ℕ) (setups : ℕ → SetUpInput) where
         sends-one = λ i inside. sends-one i;
         sends-from = λ i inside. sends-from i (settled i (omega arith));
         sends-inside = λ i inside. sends-inside i;
-        sends-later = λ i inside. sends-later i;
+        sends-later = λ i inside. sends-later i (settled i (omega arith));
         sends-due = λ i inside. sends-due i;
       }
 

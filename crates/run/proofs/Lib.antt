@@ -59,6 +59,7 @@ pub mod KeptRelation
 pub mod Further
 pub mod Example
 pub mod OrderTable
+pub mod HoursTable
 pub mod RecordsTaken
 pub mod RecordExample
 pub mod Theorem

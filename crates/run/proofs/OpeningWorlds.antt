@@ -116,6 +116,7 @@ module _ (n last : ℕ) (setups : ℕ → SetUpInput) (lent : ℕ → List ℕ) 
         count = forecast .gateways i h;
         until = forecast .oneLast i h;
         supplied = omega (arith, v .supplier, forecast .gateways i h);
+        hours = v .hours;
       }
 
   hours-end : last < nothingDue

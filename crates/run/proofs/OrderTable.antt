@@ -6,7 +6,7 @@ use Rattle.lists.specs.Lists.{every}
 use Rattle.lists.specs.Families.{change, together}
 use Rattle.buffer.specs.Slice.{sameBytes, part, write}
 use Rattle.buffer.specs.Number.{bytesOf, numberOf}
-use Rattle.model.specs.Doing.{sent}
+use Rattle.model.specs.Doing.{leadTimesValid, sent}
 use Rattle.model.specs.EventOrder.{key, compared}
 use Rattle.frame.specs.Kinds.{hasHour, mapOf}
 use Rattle.frame.specs.Writing.{written, allBetween, wellFormed}
@@ -33,7 +33,7 @@ use Rattle.run.proofs.Example.{bytes-by, at-one, forecast-of-one}
 pub order-within-an-hour : OrderWithinAnHour
 unfolding
     every change together sameBytes part write bytesOf numberOf sent key compared hasHour mapOf written allBetween wellFormed reading
-    refusal entryBytes entryOf sentBytes sentOf decode encode sound settingsValid roundPossible equal later ordered processedFirst noneMeet
+    refusal entryBytes entryOf sentBytes sentOf decode encode sound settingsValid leadTimesValid roundPossible equal later ordered processedFirst noneMeet
     storable entryValid sentValid valid settled sentAll processedOf undone rolledBack takePlain takeCancel takeAcknowledgment worked leastOutstanding
     leastQueued start recordFor commit opened setUpRefusal taken started committed workedOff setUp agreedTime roundFrames afterTaking
     afterStarting afterWorking afterCommitting afterCall afterCalls openingWorld afterPlain openingMessages openingQueue earliest others

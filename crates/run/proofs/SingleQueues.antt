@@ -16,6 +16,7 @@ use Rattle.model.specs.EventOrder.{key, compared}
 use Rattle.model.specs.Messages.{originOf}
 use Rattle.model.specs.declared.Message.{Message}
 use Rattle.model.specs.declared.State.{State}
+use Rattle.memory.proofs.LeadTimeFacts.{at-least-one}
 use Rattle.model.proofs.Sending.{sending}
 use Rattle.frame.specs.Limits.{nothingDue}
 use Rattle.memory.specs.Validity.{later, isAfter}
@@ -27,7 +28,7 @@ use Rattle.gateway.specs.Committing.{recordFor}
 use Rattle.run.specs.Forecast.{SetUpInput}
 use Rattle.run.specs.SingleQueue.{Queue, openingQueue, earliest, others, doOne, stepOn, steps, turnsFor, wholeRecord}
 use Rattle.run.proofs.EventOrders.{keys-agree}
-use Rattle.run.proofs.ForecastModel.{forecastModel, usual-timely, siteAt, Settled, forecastLaws, sendsAt, sends-all-sent, sends-origins}
+use Rattle.run.proofs.ForecastModel.{forecastModel, siteAt, Settled, forecastLaws, sendsAt, sends-all-sent, sends-origins}
 use Rattle.run.proofs.SavedStates.{stateAt}
 
 -- equal lists but for their order: first of them, and the others
@@ -233,7 +234,7 @@ module _ (n last : ℕ) (setups : ℕ → SetUpInput) where
     sends-weight m h s =
         let z = siteAt setups (m .to) in
         sent-weight m (sent z s m) (sending z s m .one)
-        (λ x e. (sending z s m .later usual-timely x e, omega (arith, sending z s m .inside x e, settled (m .to) (h .to) .until)))
+        (λ x e. (sending z s m .later (at-least-one _ (settled (m .to) (h .to) .hours)) x e, omega (arith, sending z s m .inside x e, settled (m .to) (h .to) .until)))
 
     step-falls : (q : Queue) (x : Message) (k : List Message) → All Inside (x ∷ k) → suc (turnsFor last (stepOn setups q (x ∷ k) .list)) ≤ turnsFor last (x ∷ k)
     unfolding stepOn doOne weight

@@ -4,6 +4,7 @@ use Prim.Native.Nat.{ℕ, zero, suc, _<_}
 use mathlib.Core.List.{List, [], _∷_, _++_}
 use lib.ListN.{replicate}
 use Rattle.frame.specs.Limits.{nothingDue}
+use Rattle.gateway.specs.Examples.{townHours}
 use Rattle.run.specs.Forecast.{SetUpInput, Forecast}
 use Rattle.run.specs.World.{World, Call, works, takes, starts, commits, openingWorld, afterCalls, AllAllowed}
 use Rattle.run.specs.Demand3.{agreed, NothingToCommit, Completed}
@@ -37,7 +38,7 @@ abbrev restock : List ℕ
 restock = 79 ∷ 3 ∷ 0 ∷ 0 ∷ 0 ∷ 0 ∷ 0 ∷ 5 ∷ 0 ∷ 3 ∷ []
 
 abbrev pub oneSetUp : ℕ → SetUpInput
-oneSetUp i = record { opening = record { n = 1; own = 0; supplier = 0; stock = 2; last = 10; q = 1; u = 1 }; list = restock }
+oneSetUp i = record { opening = record { n = 1; own = 0; supplier = 0; stock = 2; last = 10; q = 1; u = 1; hours = townHours }; list = restock }
 
 -- work, a round, a commit
 abbrev pub oneCalls : List Call
@@ -55,8 +56,8 @@ abbrev failure : List ℕ
 failure = 63 ∷ 0 ∷ 0 ∷ 0 ∷ 0 ∷ 0 ∷ 0 ∷ 5 ∷ 0 ∷ lamp
 
 abbrev pub twoSetUps : ℕ → SetUpInput
-twoSetUps zero = record { opening = record { n = 2; own = 0; supplier = 1; stock = 0; last = 10; q = 1; u = 1 }; list = failure }
-twoSetUps (suc i) = record { opening = record { n = 2; own = 1; supplier = 1; stock = 1; last = 10; q = 1; u = 1 }; list = [] }
+twoSetUps zero = record { opening = record { n = 2; own = 0; supplier = 1; stock = 0; last = 10; q = 1; u = 1; hours = townHours }; list = failure }
+twoSetUps (suc i) = record { opening = record { n = 2; own = 1; supplier = 1; stock = 1; last = 10; q = 1; u = 1; hours = townHours }; list = [] }
 
 -- the frames in the order written: the Request at hour 6, its acknowledgment, Start, Lvt and Update, with nothing due in both
 abbrev pub request : List ℕ

@@ -7,4 +7,5 @@ pub mod Demand3
 pub mod Further
 pub mod ExampleRun
 pub mod OrderExamples
+pub mod HoursExamples
 pub mod RecordsTaken

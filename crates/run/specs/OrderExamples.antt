@@ -25,6 +25,7 @@ use Rattle.gateway.specs.Rounds.{idle}
 use Rattle.gateway.specs.Committing.{commit}
 use Rattle.gateway.specs.SettingUp.{queued}
 use Rattle.gateway.specs.Calls.{takeBytes, agreedTime}
+use Rattle.gateway.specs.Examples.{townHours}
 use Rattle.run.specs.Forecast.{SetUpInput}
 use Rattle.run.specs.World.{Call, works, takes, starts, commits}
 use Rattle.run.specs.Ledger.{Item, afterPlain}
@@ -63,7 +64,7 @@ delivery = messageAt 7 (Delivery 0)
 abbrev pub plain : Message → List ℕ
 plain m = written (frameIf false m)
 
-abbrev cancel : Message → List ℕ
+abbrev pub cancel : Message → List ℕ
 cancel m = written (frameIf true m)
 
 abbrev pub acknowledged : Message → List ℕ
@@ -79,7 +80,7 @@ state stock fitted short = record { stock = stock; failed = 0; fitted = fitted; 
 -- the gateway in that state, with what is queued and outstanding
 abbrev gateway : State → List Entry → List Sent → Gateway
 gateway state queue outstanding = record {
-  settings = record { n = 1; own = 0; supplier = 0; last = 50000; q = 4; u = 4 };
+  settings = record { n = 1; own = 0; supplier = 0; last = 50000; q = 4; u = 4; hours = townHours };
   state = state;
   agreed = 0;
   round = idle;
@@ -131,7 +132,7 @@ notYet m = record { message = m; done = false }
 -- A run: stock 0, the last hour 10, and an opening list of a Restock of 3 at hour 5 and a Failure at hour 4.
 abbrev pub sameHourSetUp : ℕ → SetUpInput
 sameHourSetUp i = record {
-  opening = record { n = 1; own = 0; supplier = 0; stock = 0; last = 10; q = 3; u = 1 };
+  opening = record { n = 1; own = 0; supplier = 0; stock = 0; last = 10; q = 3; u = 1; hours = townHours };
   list = plain (restockAt 5 3) ++ plain (messageAt 4 (Failure 0));
 }
 

@@ -10,6 +10,7 @@ use lines::append;
 use lines::enter_list;
 use lines::enter_sent;
 use lines::put_plain;
+use lines::town_hours;
 use memory::HEADER_SIZE;
 use memory::QUEUE_SIZE;
 use memory::STATE_SIZE;
@@ -166,6 +167,7 @@ fn reply_at(state: State, message: Message) -> Reply {
         last: 100,
         q: 512,
         u: 512,
+        hours: town_hours(),
     };
     reply_to(site_of(settings), state, message)
 }

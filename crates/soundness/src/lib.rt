@@ -16,6 +16,7 @@ use memory::Phase;
 use memory::QUEUE_SIZE;
 use memory::Round;
 use memory::Settings;
+use model::LeadTimes;
 use model::State;
 use validity::entry_valid;
 use validity::round_possible;
@@ -60,6 +61,11 @@ fn no_header() -> Header
             last: 0,
             q: 0,
             u: 0,
+            hours: LeadTimes {
+                request: 0,
+                delivery: 0,
+                life: 0,
+            },
         },
         state: State {
             stock: 0,

@@ -1,6 +1,8 @@
 // Taking a cancel: the last equal plain message goes, undone first if it was processed; with none the cancel waits.
 use buffer::move_down;
+use buffer::write16;
 use decoding::read_entry;
+use effects::insert::insert_place;
 use effects::insert::waiting;
 use effects::send::outstanding_at;
 use effects::send::put_frames;
@@ -12,13 +14,13 @@ use header::write_header;
 use memory::HEADER_SIZE;
 use memory::Header;
 use memory::QUEUE_SIZE;
+use memory::QUEUED_AT;
 use model::Message;
 use places::search::Search;
 use places::search::find;
 use places::search::past_last_equal;
 use rollback::room::acknowledgment;
 use rollback::room::count_sent;
-use rollback::room::enter;
 use rollback::room::has_room;
 use rollback::undo::undo;
 use rollback::undo::undo_entry;
@@ -46,7 +48,7 @@ pub fn take_cancel(memory: &mut [u8], output: &mut [u8], header: Header, message
     strike_out(memory, output, header, past - 1, message)
 }
 
-// The cancel waits in a queue place, after its equals.
+// The cancel waits in a queue place, after its equals. Of the header the count alone is written: nothing else of it changes.
 fn enter_cancel(memory: &mut [u8], output: &mut [u8], header: Header, message: Message) -> Answer
     requires { ⌜ Known (now memory) header × MessageFits message ⌝ }
     ensures { λ r. ⌜ Leaves r memory output (settling (waits message)) ⌝ }
@@ -64,7 +66,8 @@ fn enter_cancel(memory: &mut [u8], output: &mut [u8], header: Header, message: M
         return refused(5);
     }
     let written = put_frame(output, 0, reply);
-    enter(memory, header, k, waiting(message));
+    insert_place(memory, queued, k, waiting(message));
+    write16(memory, QUEUED_AT, header.queued + 1);
     Answer { number: 0, written }
 }
 

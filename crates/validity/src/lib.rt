@@ -15,6 +15,7 @@ use memory::Settings;
 use model::Message;
 use model::State;
 use model::kind_number;
+use model::lead_times_valid;
 use neighbours::neighbours_of;
 use rules::well_formed;
 ghost use mathlib.Core.Path.{_≡_};
@@ -30,7 +31,7 @@ pub fn size_for(settings: Settings) -> usize
     HEADER_SIZE + QUEUE_SIZE * (settings.q as usize) + OUTSTANDING_SIZE * (settings.u as usize)
 }
 
-// N 1 to 255, own number and supplier below N, H below nothing due, Q and U 1 to 512. N has one byte.
+// N 1 to 255, own number and supplier below N, H below nothing due, Q and U 1 to 512, lead times in their range. N has one byte.
 pub fn settings_valid(settings: Settings) -> bool
     ensures { λ r. ⌜ r ≡ settingsValid settings ⌝ }
 {
@@ -55,7 +56,11 @@ pub fn settings_valid(settings: Settings) -> bool
     if settings.u < 1 {
         return false;
     }
-    settings.u <= 512
+    if settings.u > 512 {
+        return false;
+    }
+    let hours = settings.hours;
+    lead_times_valid(hours)
 }
 
 // Whether the arrivals can be those of the phase, by the number of arcs from and to.

@@ -7,11 +7,11 @@ use Rattle.encoding.proofs.write_state.Tie as tie
 write16-requires : tie.Need-write16-requires
 write16-requires c κs = search needs
 
-add-write-counters : tie.Need-add-write-counters
-add-write-counters c = search needs
+add-write-three : tie.Need-add-write-three
+add-write-three c = search needs
 
-write-counters-requires : tie.Need-write-counters-requires
-write-counters-requires c κs = search needs
+write-three-requires : tie.Need-write-three-requires
+write-three-requires c κs = search needs
 
 same-length : tie.Need-same-length
 same-length c = search needs
@@ -22,4 +22,4 @@ returns c = search state-stored
 pub write-state-spec : {M : Type 1} → statement M
 write-state-spec =
     tie.close
-    (tie.spec write16-requires add-write-counters write-counters-requires same-length returns)
+    (tie.spec write16-requires add-write-three write-three-requires same-length returns)

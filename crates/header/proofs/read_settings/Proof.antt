@@ -22,6 +22,9 @@ read16-requires c κs = search needs
 read16-requires-2 : tie.Need-read16-requires-2
 read16-requires-2 c κs = search needs
 
+read-hours-requires : tie.Need-read-hours-requires
+read-hours-requires c κs = search needs
+
 returns : tie.Need-returns
 unfolding headerAt
 returns c = cc
@@ -36,4 +39,5 @@ read-settings-spec =
     read32-requires
     read16-requires
     read16-requires-2
+    read-hours-requires
     returns)

@@ -10,11 +10,14 @@ write-front-requires c κs = search needs
 write-counts-requires : tie.Need-write-counts-requires
 write-counts-requires c κs = search needs
 
-write-times-requires : tie.Need-write-times-requires
-write-times-requires c κs = search needs
+write-three-requires : tie.Need-write-three-requires
+write-three-requires c κs = search needs
 
-write-counters-requires : tie.Need-write-counters-requires
-write-counters-requires c κs = search needs
+write-three-requires-2 : tie.Need-write-three-requires-2
+write-three-requires-2 c κs = search needs
+
+write-three-requires-3 : tie.Need-write-three-requires-3
+write-three-requires-3 c κs = search needs
 
 same-length : tie.Need-same-length
 same-length c = search needs
@@ -28,7 +31,8 @@ write-header-spec =
     (tie.spec
     write-front-requires
     write-counts-requires
-    write-times-requires
-    write-counters-requires
+    write-three-requires
+    write-three-requires-2
+    write-three-requires-3
     same-length
     returns)

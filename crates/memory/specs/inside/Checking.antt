@@ -15,7 +15,7 @@ use Rattle.memory.specs.declared.Phase.the-variants.{Idle}
 -- a header of zeros
 abbrev pub blankHeader : Header
 blankHeader = record {
-  settings = record { n = 0; own = 0; supplier = 0; last = 0; q = 0; u = 0 };
+  settings = record { n = 0; own = 0; supplier = 0; last = 0; q = 0; u = 0; hours = record { request = 0; delivery = 0; life = 0 } };
   state = noState;
   agreed = 0;
   round = record { phase = Idle; arrived = 0; note = 0 };

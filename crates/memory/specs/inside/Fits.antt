@@ -7,6 +7,7 @@ use lib.ListN.{length}
 use Rattle.lists.specs.Lists.{All}
 use Rattle.model.specs.Messages.{originOf, quantityOf}
 use Rattle.model.specs.declared.Message.{Message}
+use Rattle.model.specs.declared.LeadTimes.{LeadTimes}
 use Rattle.memory.specs.Records.{Gateway, headerOf}
 use Rattle.memory.specs.Layout.{sizeFor}
 use Rattle.memory.specs.Ranges.{RangedState}
@@ -34,6 +35,12 @@ pub record EntryFits (e : Entry) : Type 0 where
 pub record SentFits (s : Sent) : Type 0 where
   pub message : MessageFits (s .message)
 
+-- the lead times'
+pub record LeadTimesFit (t : LeadTimes) : Type 0 where
+  pub request : t .request < 4294967296
+  pub delivery : t .delivery < 4294967296
+  pub life : t .life < 4294967296
+
 -- the settings'
 pub record SettingsFit (s : Settings) : Type 0 where
   pub n : s .n < 256
@@ -42,6 +49,7 @@ pub record SettingsFit (s : Settings) : Type 0 where
   pub last : s .last < 4294967296
   pub q : s .q < 65536
   pub u : s .u < 65536
+  pub hours : LeadTimesFit (s .hours)
 
 -- the round's
 pub record RoundFits (r : Round) : Type 0 where

@@ -3,16 +3,15 @@ use mathlib.Core.List.{List, _++_}
 use Prim.Native.Nat.{ℕ}
 use Rattle.buffer.specs.Slice.{write}
 use Rattle.buffer.specs.Number.{bytesOf}
-use Rattle.model.specs.declared.State.{State}
 use Rattle.memory.specs.Layout.{backAt}
 use Rattle.memory.specs.Codec.{phaseNumber, headerFront, headerBack}
 use Rattle.memory.specs.declared.Settings.{Settings}
 use Rattle.memory.specs.declared.Round.{Round}
 use Rattle.memory.specs.declared.Header.{Header}
 
--- failed, fitted and short
-abbrev pub counterBytes : State → List ℕ
-counterBytes s = bytesOf 4 (s .failed) ++ (bytesOf 4 (s .fitted) ++ bytesOf 4 (s .short))
+-- three numbers of four bytes
+abbrev pub threeBytes : ℕ → ℕ → ℕ → List ℕ
+threeBytes a b c = bytesOf 4 a ++ (bytesOf 4 b ++ bytesOf 4 c)
 
 -- the header's numbers of one byte
 abbrev pub smallBytes : Settings → Round → List ℕ

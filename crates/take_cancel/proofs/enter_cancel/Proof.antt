@@ -2,6 +2,8 @@
 use native.Mathlib.Omega.{arith}
 use Rattle.buffer.proofs.Lent.{bytes-known}
 use Rattle.take_cancel.proofs.CancelTakings.{waits-without-room, waits-bytes, may-wait, waits-done}
+use Rattle.take_cancel.proofs.CountAlone.{entered-alone}
+use Rattle.rollback.proofs.RoomLaws.{roomy}
 use borrow.Author.Needs.{needs}
 use Rattle.gateway.proofs.Knowing.{sizes}
 use Rattle.take_cancel.proofs.enter_cancel.Statement.{statement}
@@ -67,9 +69,11 @@ put-frame-requires c κs =
 waiting-requires : tie.Need-waiting-requires
 waiting-requires c κs = search needs
 
-enter-requires : tie.Need-enter-requires
-enter-requires c κs =
-    let at-if1 = c .before .before .before .before .before .before in
+insert-place-requires : tie.Need-insert-place-requires
+insert-place-requires c κs =
+    let at-waiting = c in
+    let at-put-frame = at-waiting .before .before .before .before in
+    let at-if1 = at-put-frame .before .before in
     let at-has-room = at-if1 .before in
     let at-whole-length = at-has-room .before in
     let at-map-of = at-whole-length .before in
@@ -77,13 +81,34 @@ enter-requires c κs =
     let at-find = at-acknowledgment .before in
     let at-slice-known = at-find .before .before .before .before in
     let start = at-slice-known .before in
-    let b = bytes-known (start .args .memory .now) (at-slice-known .slice-known .given) in (
-      _,
-      _,
-      may-wait (start .args .memory .now) (start .args .output .now) _ (start .pre .0) b _ (start .pre .1) _ (at-find .find .ensures)
-          (at-acknowledgment .acknowledgment .ensures) (at-map-of .map-of .ensures) (at-whole-length .whole-length .ensures)
-          (at-has-room .has-room .ensures) (at-if1 .if1 .left) (c .waiting .ensures),
-    )
+    let b = bytes-known (start .args .memory .now) (at-slice-known .slice-known .given) in
+    let w = may-wait (start .args .memory .now) (start .args .output .now) _ (start .pre .0) b _ (start .pre .1) _ (at-find .find .ensures)
+    (at-acknowledgment .acknowledgment .ensures) (at-map-of .map-of .ensures) (at-whole-length .whole-length .ensures)
+    (at-has-room .has-room .ensures) (at-if1 .if1 .left) (at-waiting .waiting .ensures) in
+    let r = roomy w in (r .place, r .long)
+
+add-write16 : tie.Need-add-write16
+add-write16 c =
+    let at-waiting = c .before .before .before .before .before in
+    let at-put-frame = at-waiting .before .before .before .before in
+    let at-if1 = at-put-frame .before .before in
+    let at-has-room = at-if1 .before in
+    let at-whole-length = at-has-room .before in
+    let at-map-of = at-whole-length .before in
+    let at-acknowledgment = at-map-of .before in
+    let at-find = at-acknowledgment .before in
+    let at-slice-known = at-find .before .before .before .before in
+    let start = at-slice-known .before in
+    let b = bytes-known (start .args .memory .now) (at-slice-known .slice-known .given) in
+    let w = may-wait (start .args .memory .now) (start .args .output .now) _ (start .pre .0) b _ (start .pre .1) _ (at-find .find .ensures)
+    (at-acknowledgment .acknowledgment .ensures) (at-map-of .map-of .ensures) (at-whole-length .whole-length .ensures)
+    (at-has-room .has-room .ensures) (at-if1 .if1 .left) (at-waiting .waiting .ensures) in
+    let r = roomy w in record { fits = omega (arith, r .counted) }
+
+write16-requires : tie.Need-write16-requires
+write16-requires c κs =
+    let start = c .before .before .before .before .before .before .before .before .before .before .before .before .before .before .before .before .before .before .before .before .before in
+    let z = sizes _ _ (start .pre .0) in omega (arith, z .long)
 
 same-length-2 : tie.Need-same-length-2
 same-length-2 c = search needs
@@ -93,8 +118,9 @@ same-length-3 c = search needs
 
 returns-2 : tie.Need-returns-2
 returns-2 c =
-    let at-enter = c .before .before in
-    let at-waiting = at-enter .before in
+    let at-write16 = c .before .before in
+    let at-insert-place = at-write16 .before .before .before .before .before in
+    let at-waiting = at-insert-place .before in
     let at-put-frame = at-waiting .before .before .before .before in
     let at-if1 = at-put-frame .before .before in
     let at-has-room = at-if1 .before in
@@ -111,7 +137,7 @@ returns-2 c =
     waits-done (start .args .memory .now) (start .args .output .now) _ (start .pre .0) b _ (start .pre .1) _ (at-find .find .ensures)
     (at-acknowledgment .acknowledgment .ensures) (at-map-of .map-of .ensures) (at-whole-length .whole-length .ensures)
     (at-has-room .has-room .ensures) (at-if1 .if1 .left) (at-waiting .waiting .ensures) (at-put-frame .put-frame .ensures)
-    (at-enter .enter .ensures _ _ w)
+    (entered-alone (start .args .memory .now) _ b (start .pre .0) w (at-insert-place .insert-place .ensures) (at-write16 .write16 .ensures))
 
 pub enter-cancel-spec : {M : Type 1} → statement M
 enter-cancel-spec =
@@ -129,7 +155,9 @@ enter-cancel-spec =
     returns
     put-frame-requires
     waiting-requires
-    enter-requires
+    insert-place-requires
+    add-write16
+    write16-requires
     same-length-2
     same-length-3
     returns-2)

@@ -1,4 +1,5 @@
 -- `validity::settings_valid` meets its contract.
+use borrow.Author.Needs.{needs}
 use borrow.Author.Tests.{lt-leb, le-leb, le-ltb}
 use Rattle.memory.specs.Validity.{settingsValid}
 use Rattle.lists.proofs.BoolLaws.{and-both}
@@ -36,9 +37,16 @@ returns-7 c = search (left-fails, right-fails, and-both, last-decides, fails, lt
 
 returns-8 : tie.Need-returns-8
 unfolding settingsValid
-returns-8 c = search (and-both, last-decides, byte-within, le-leb) depth 9
+returns-8 c = search (left-fails, right-fails, and-both, last-decides, fails, lt-leb, le-leb, le-ltb) depth 10
+
+lead-times-valid-requires : tie.Need-lead-times-valid-requires
+lead-times-valid-requires c κs = search needs
+
+returns-9 : tie.Need-returns-9
+unfolding settingsValid
+returns-9 c = search (and-both, last-decides, byte-within, le-leb) depth 10
 
 pub settings-valid-spec : {M : Type 1} → statement M
 settings-valid-spec =
     tie.close
-    (tie.spec returns returns-2 returns-3 returns-4 returns-5 returns-6 returns-7 returns-8)
+    (tie.spec returns returns-2 returns-3 returns-4 returns-5 returns-6 returns-7 returns-8 lead-times-valid-requires returns-9)

@@ -1,4 +1,5 @@
 -- `opening::settings::in_range` meets its contract.
+use borrow.Author.Needs.{needs}
 use borrow.Author.Tests.{lt-leb, le-leb, le-ltb}
 use Rattle.memory.specs.Validity.{settingsValid}
 use Rattle.lists.proofs.BoolLaws.{and-both}
@@ -40,7 +41,24 @@ returns-8 c = search (left-fails, right-fails, fails, lt-leb, le-ltb) depth 10
 
 returns-9 : tie.Need-returns-9
 unfolding settingsValid
-returns-9 c = search (and-both, last-decides, le-leb) depth 10
+returns-9 c = search (left-fails, right-fails, fails, lt-leb, le-ltb) depth 10
+
+lead-times-valid-requires : tie.Need-lead-times-valid-requires
+lead-times-valid-requires c κs = search needs
+
+returns-10 : tie.Need-returns-10
+unfolding settingsValid
+returns-10 c =
+    let left-9 = c .before .before .if9 .left in
+    let left-8 = c .before .before .before .before .if8 .left in
+    let left-7 = c .before .before .before .before .before .before .if7 .left in
+    let left-6 = c .before .before .before .before .before .before .before .before .if6 .left in
+    let left-5 = c .before .before .before .before .before .before .before .before .before .before .if5 .left in
+    let left-4 = c .before .before .before .before .before .before .before .before .before .before .before .before .if4 .left in
+    let left-3 = c .before .before .before .before .before .before .before .before .before .before .before .before .before .before .if3 .left in
+    let left-2 = c .before .before .before .before .before .before .before .before .before .before .before .before .before .before .before .before .if2 .left in
+    let left-1 = c .before .before .before .before .before .before .before .before .before .before .before .before .before .before .before .before .before .before .if1 .left in
+    search (and-both, last-decides, le-leb) depth 12
 
 pub in-range-spec : {M : Type 1} → statement M
 in-range-spec =
@@ -54,4 +72,6 @@ in-range-spec =
     returns-6
     returns-7
     returns-8
-    returns-9)
+    returns-9
+    lead-times-valid-requires
+    returns-10)

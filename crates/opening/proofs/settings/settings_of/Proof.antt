@@ -4,9 +4,6 @@ use borrow.Author.Needs.{needs}
 use Rattle.opening.proofs.settings.settings_of.Statement.{statement}
 use Rattle.opening.proofs.settings.settings_of.Tie as tie
 
-cast-t2 : tie.Need-cast-t2
-cast-t2 c = let v = settings-facts _ (c .before .pre) in search needs
-
 cast-t3 : tie.Need-cast-t3
 cast-t3 c = let v = settings-facts _ (c .before .before .pre) in search needs
 
@@ -19,8 +16,11 @@ cast-t5 c = let v = settings-facts _ (c .before .before .before .before .pre) in
 cast-t6 : tie.Need-cast-t6
 cast-t6 c = let v = settings-facts _ (c .before .before .before .before .before .pre) in search needs
 
+cast-t7 : tie.Need-cast-t7
+cast-t7 c = let v = settings-facts _ (c .before .before .before .before .before .before .pre) in search needs
+
 returns : tie.Need-returns
 returns c = search needs
 
 pub settings-of-spec : {M : Type 1} → statement M
-settings-of-spec = tie.close (tie.spec cast-t2 cast-t3 cast-t4 cast-t5 cast-t6 returns)
+settings-of-spec = tie.close (tie.spec cast-t3 cast-t4 cast-t5 cast-t6 cast-t7 returns)

@@ -32,7 +32,9 @@ lesser-requires : tie.Need-lesser-requires
 lesser-requires c κs = search needs
 
 finish-requires : tie.Need-finish-requires
-finish-requires c κs = search needs
+finish-requires c κs =
+    let start = c .before .before .before .before .before .before .before .before .before .before .before .before .before .before .before .before in
+    start .pre
 
 same-length : tie.Need-same-length
 same-length c = search needs

@@ -1,8 +1,8 @@
--- `encoding::write_counters` meets its contract.
+-- `encoding::write_three` meets its contract.
 use borrow.Author.Needs.{needs}
 use Rattle.memory.proofs.Stored.{three-stored}
-use Rattle.encoding.proofs.write_counters.Statement.{statement}
-use Rattle.encoding.proofs.write_counters.Tie as tie
+use Rattle.encoding.proofs.write_three.Statement.{statement}
+use Rattle.encoding.proofs.write_three.Tie as tie
 
 write32-requires : tie.Need-write32-requires
 write32-requires c κs = search needs
@@ -25,8 +25,8 @@ same-length c = search needs
 returns : tie.Need-returns
 returns c = search three-stored
 
-pub write-counters-spec : {M : Type 1} → statement M
-write-counters-spec =
+pub write-three-spec : {M : Type 1} → statement M
+write-three-spec =
     tie.close
     (tie.spec
     write32-requires
