@@ -34,29 +34,13 @@ const SENSE_BIT: u8 = 128;
 const LAMP_AT: usize = 9;
 const SENSE_AT: usize = 27;
 
-/// The whole length of a frame with each map.
-static LENGTHS: [u8; 256] = lengths();
+/// The widths of the fields, bit 0 first.
+const WIDTHS: [usize; 8] = [1, 1, 1, 4, 1, 18, 2, 1];
 
-const fn lengths() -> [u8; 256] {
-    const WIDTHS: [u8; 8] = [1, 1, 1, 4, 1, 18, 2, 1];
-    let mut lengths = [1; 256];
-    let mut map = 0;
-    while map < 256 {
-        let mut bit = 0;
-        while bit < 8 {
-            if map >> bit & 1 == 1 {
-                lengths[map] += WIDTHS[bit];
-            }
-            bit += 1;
-        }
-        map += 1;
-    }
-    lengths
-}
-
-/// The whole length of a frame with this map.
+/// The whole length of a frame with this map: the map's own byte and the fields whose bit stands.
 pub fn length(map: u8) -> usize {
-    LENGTHS[usize::from(map)].into()
+    let stands = |bit: &usize| map >> bit & 1 == 1;
+    1 + (0..8).filter(stands).map(|bit| WIDTHS[bit]).sum::<usize>()
 }
 
 /// The bytes of a plain event's frame.

@@ -3,17 +3,16 @@ use mathlib.Core.Path.{_≡_, refl, sym, _∙_, ap, subst}
 use mathlib.Core.List.{List, []}
 use Prim.Native.Nat.{ℕ}
 use denote.Ref.{RefT, now}
-use lib.Count.{ones, onesIn}
 use lib.ListN.{length}
 use Rattle.buffer.specs.Slice.{part}
 use Rattle.buffer.proofs.Writes.{length-part}
-use Rattle.frame.specs.Layout.{lampWidth, widths, standing}
+use Rattle.frame.specs.Layout.{lampWidth, widths}
 use Rattle.frame.specs.Writing.{wellFormed, written}
 use Rattle.frame.specs.Reasons.{reading}
 use Rattle.frame.specs.Lamps.{lampPlace, lampRefusal, IsLamp}
 use Rattle.frame.specs.Claims.{RangedFrame, OneToOne, FieldCount, LampAndNumber}
 use Rattle.frame.specs.declared.Frame.{Frame}
-use Rattle.frame.proofs.Entries.{tabulated, entry}
+use Rattle.frame.proofs.Widths.{standing-count}
 use Rattle.frame.proofs.Accepted.{accepted, lamp-carried, lamp-not-carried, lamp-maps, lamp-inside}
 use Rattle.frame.proofs.ReadFirst.{lamp-part, returned, returned-formed, returned-ranged}
 use Rattle.frame.proofs.WriteFirst.{read-after-write}
@@ -26,13 +25,8 @@ one-to-one = record {
   readRanged = λ s b e. let p = accepted s e in subst RangedFrame (sym (p .frame)) (returned-ranged s b p);
 }
 
--- one computation over the 256 maps
 pub field-count : FieldCount
-unfolding ones onesIn standing
-field-count = record {
-  fields = λ map h. sym (entry (λ m. length (standing m widths)) 256 {table = tabulated ones 0 256} refl map h) ∙ entry ones 256 {table =
-      tabulated ones 0 256} refl map h;
-}
+field-count = record { fields = standing-count widths }
 
 -- the part and the number go by one test
 module _ (frame p : RefT (List ℕ)) (is : IsLamp frame p) where

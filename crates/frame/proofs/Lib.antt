@@ -1,5 +1,5 @@
 -- Laws of frames.
-pub mod Entries
+pub mod Widths
 pub mod Presence
 pub mod FormNumbers
 pub mod Walking

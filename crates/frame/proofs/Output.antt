@@ -32,12 +32,13 @@ length-head : (map : ℕ) (m : Message) → length (headBytes map m) ≡ 4
 unfolding headBytes
 length-head map m = simp (length-append, length-bytesOf)
 
--- map, kind, from and to
-pub head-put : (map : ℕ) (message : Message) (at : ℕ) (m : List ℕ) {kind : ℕ}
+-- map, kind, from and to, each behind the one before
+pub head-put : (map : ℕ) (message : Message) (at : ℕ) (m : List ℕ) {kind from-at to-at behind : ℕ}
     → at + 4 ≤ length m → kind ≡ kindNumber (message .kind) → kind < 256 → message .from < 256 → message .to < 256
-    → Puts at (headBytes map message) m (set (set (set (set m at map) (at + 1) kind) (at + 2) (message .from)) (at + 3) (message .to)) (at + 4)
+    → from-at ≡ at + 2 → to-at ≡ at + 3 → behind ≡ at + 4
+    → Puts at (headBytes map message) m (set (set (set (set m at map) (at + 1) kind) from-at (message .from)) to-at (message .to)) behind
 unfolding headBytes
-head-put map message at m {kind} room e k f t =
+head-put map message at m {kind} room e k f t from-is to-is behind-is =
     let bytes : headBytes map message ≡ map ∷ kind ∷ message .from ∷ message .to ∷ [] = rw (
       one-byte (message .from) f,
       one-byte
@@ -46,9 +47,11 @@ head-put map message at m {kind} room e k f t =
       one-byte kind k,
     ) in
     record {
-      position = rw (length-head map message);
+      position = behind-is ∙ rw (length-head map message);
       output =
           rw (
+            from-is,
+            to-is,
             bytes,
             set-write m at map (omega arith),
             write-snoc at (map ∷ []) m kind (at + 1) (omega arith) refl,

@@ -10,14 +10,14 @@ use lib.Count.{ones, onesIn, ones-step}
 use lib.ListN.{length, take, drop, getD, replicate, drop-of-length-le, take-append-drop}
 use lib.Seq.{drop-cons, take-suc, length-take-le}
 use borrow.Author.Tests.{eq-eqb, ne-eqb}
-use Rattle.lists.specs.Lists.{tally}
 use Rattle.buffer.specs.Slice.{part}
 use Rattle.buffer.specs.Number.{numberOf}
 use Rattle.buffer.proofs.Writes.{part-nil, part-cons}
-use Rattle.frame.specs.Layout.{widths, odd, standing, wholeLength, cut}
+use Rattle.frame.specs.Layout.{widths, odd, wholeLength, cut}
 use Rattle.frame.specs.Reasons.{valuesOf, fieldsOf, lampOf}
 use Rattle.frame.specs.inside.Steps.{stored, noFields}
 use Rattle.frame.specs.declared.Fields.{Fields}
+use Rattle.frame.proofs.Widths.{ComesTo, none-added, width-next, width-fits, width-added, width-passed}
 
 -- a number with no one bits is zero
 none-stand : (k n : ℕ) → n < 2 ^ k → ones n ≡ 0 → n ≡ 0
@@ -81,17 +81,17 @@ lamp-bytes m at h = rw (part-cons m at 17 (omega arith))
 pub record Walking (s : List ℕ) (map at rest left bit : ℕ) (fields : Fields) : Type 0 where
   pub inside : bit ≤ 8
   pub ahead : cut at rest (drop bit widths) s ≡ drop bit (cut 1 map widths s)
-  pub until : length s ≡ at + tally (λ n. n) (standing rest (drop bit widths))
+  pub until : ComesTo (length s) at rest bit
   pub small : rest < 2 ^ length (drop bit widths)
   pub count : left ≡ ones rest
   pub so-far : fields ≡ valuesOf (take bit (cut 1 map widths s))
 
 pub walk-start : (s : List ℕ) (map : ℕ) → map < 256 → length s ≡ wholeLength map → Walking s map 1 map (ones map) 0 noFields
-unfolding cut valuesOf numberOf wholeLength
+unfolding cut valuesOf numberOf
 walk-start s map small size = record {
   inside = omega arith;
   ahead = refl;
-  until = size;
+  until = rw size (none-added map);
   small = small;
   count = refl;
   so-far = refl;
@@ -114,15 +114,8 @@ module _ {s : List ℕ} {map at rest left bit : ℕ} {fields : Fields} (w : Walk
       let l : left ≡ ones 0 = w .count ∙ ap ones none in
       omega arith
 
-  module _ (h : 0 < left) where
-    next : drop bit widths ≡ getD widths bit 0 ∷ drop (bit + 1) widths
-    next = rw add-one (drop-cons widths bit 0 (walk-bit h))
-
   pub walk-fits : 0 < left → rest % 2 ≡ 1 → at + getD widths bit 0 ≤ length s
-  unfolding standing tally
-  walk-fits h o =
-      let e = rw (next h, eq-eqb (rest % 2) 1 o) at (w .until) in
-      omega arith
+  walk-fits h = width-fits (walk-bit h) (w .until)
 
   -- the fields from the next one on, cut off the whole
   ahead-next : 0 < left
@@ -131,13 +124,13 @@ module _ {s : List ℕ} {map at rest left bit : ℕ} {fields : Fields} (w : Walk
   unfolding cut
   ahead-next h =
       let whole : List (List ℕ) = cut 1 map widths s in
-      let e = rw (next h) at (w .ahead) in
+      let e = rw (width-next (walk-bit h)) at (w .ahead) in
       let d : drop bit whole ≡ getD whole bit [] ∷ drop (bit + 1) whole = rw add-one (drop-cons whole bit [] (walk-bit h)) in
       (cc, cc)
 
   small-next : 0 < left → rest / 2 < 2 ^ length (drop (bit + 1) widths)
   small-next h =
-      let e : rest < 2 ^ suc (length (drop (bit + 1) widths)) = rw (next h) at (w .small) in
+      let e : rest < 2 ^ suc (length (drop (bit + 1) widths)) = rw (width-next (walk-bit h)) at (w .small) in
       omega arith
 
   read-next : 0 < left → take (bit + 1) (cut 1 map widths s) ≡ take bit (cut 1 map widths s) ++ (getD (cut 1 map widths s) bit [] ∷ [])
@@ -147,12 +140,10 @@ module _ {s : List ℕ} {map at rest left bit : ℕ} {fields : Fields} (w : Walk
   -- the next bit stands: its field is read
   pub walk-taken : 0 < left → rest % 2 ≡ 1
       → Walking s map (at + getD widths bit 0) (rest / 2) (left - 1) (bit + 1) (stored bit (part s at (getD widths bit 0)) fields)
-  unfolding standing tally
   walk-taken h o =
       let t : odd rest ≡ true = eq-eqb (rest % 2) 1 o in
       let whole : List (List ℕ) = cut 1 map widths s in
       let ahead = rw t at (ahead-next h) in
-      let e = rw (next h, t) at (w .until) in
       let step = ones-step rest in
       let count = w .count in
       let inside = walk-bit h in
@@ -160,7 +151,7 @@ module _ {s : List ℕ} {map at rest left bit : ℕ} {fields : Fields} (w : Walk
       record {
         inside = omega arith;
         ahead = ahead .1;
-        until = omega arith;
+        until = width-added (walk-bit h) (w .until) o;
         small = small-next h;
         count = omega arith;
         so-far = rw (w .so-far, read-next h, ahead .0) (rw size at (stored-next (take bit whole) (getD whole bit []) (rw size inside)));
@@ -168,19 +159,17 @@ module _ {s : List ℕ} {map at rest left bit : ℕ} {fields : Fields} (w : Walk
 
   -- the next bit does not stand
   pub walk-passed : 0 < left → (rest % 2 ≡ 1 → ⊥) → Walking s map at (rest / 2) left (bit + 1) fields
-  unfolding standing tally
   walk-passed h o =
       let t : odd rest ≡ false = ne-eqb (rest % 2) 1 o in
       let whole : List (List ℕ) = cut 1 map widths s in
       let ahead = rw (t, add-zero, part-nil) at (ahead-next h) in
-      let e = rw (next h, t) at (w .until) in
       let step = ones-step rest in
       let count = w .count in
       let inside = walk-bit h in
       record {
         inside = omega arith;
         ahead = ahead .1;
-        until = e;
+        until = width-passed (walk-bit h) (w .until) o;
         small = small-next h;
         count = omega arith;
         so-far = w .so-far ∙ rw (read-next h, ← ahead .0) (sym (values-behind (take bit whole) 1));

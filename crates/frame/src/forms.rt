@@ -18,19 +18,20 @@ pub fn is_good(form: Form) -> bool
     }
 }
 
-// The number with which a call refuses for that reason, or 0.
+// The number with which a call refuses for that reason, or 0. Asked in two steps: of one with eight answers the compiler makes a table
+// of branches in each call that asks.
 pub fn form_number(form: Form) -> u8
     ensures { λ r. ⌜ r ≡ formNumber form ⌝ }
 {
+    let other = match form {
+        Form::WrongLamp => 12,
+        _ => 1,
+    };
     match form {
         Form::Good => 0,
         Form::TooShort => 11,
-        Form::WrongMap => 1,
         Form::WrongLength => 11,
-        Form::WrongSense => 1,
-        Form::WrongLamp => 12,
-        Form::WrongGateways => 1,
-        Form::NotTaken => 1,
+        _ => other,
     }
 }
 

@@ -1,13 +1,15 @@
 // The bytes of a lamp.
+use crate::tables::ORIGIN_PLACE;
+use crate::tables::WIDTHS;
 ghost use mathlib.Core.Path.{_≡_};
 ghost use Prim.Native.Nat.{_+_, _≤_};
 ghost use lib.ListN.{length};
 ghost use Rattle.buffer.specs.Slice.{part};
 
 // Where the lamp begins in a frame that has one, and where it ends.
-pub const LAMP_PLACE: usize = 9;
+pub const LAMP_PLACE: usize = ORIGIN_PLACE + WIDTHS.origin;
 
-pub const LAMP_END: usize = 27;
+pub const LAMP_END: usize = LAMP_PLACE + WIDTHS.lamp;
 
 // The eighteen bytes from a position on.
 pub fn read_lamp(bytes: &[u8], at: usize) -> [u8; 18]

@@ -5,7 +5,7 @@ use model::Message;
 pub mod forms; // forms.rt: the reasons for which a byte string is refused
 pub mod lamps; // lamps.rt: a lamp's bytes
 pub mod pieces; // pieces.rt: frames one behind the other
-pub mod tables; // tables.rt: the table of kinds and the table of lengths
+pub mod tables; // tables.rt: the table of kinds, the widths of the fields and the whole length
 
 // What a frame says of its message. A plain message has no sense.
 pub enum Sense {

@@ -1,4 +1,4 @@
-// The table of kinds, the senses, the widths of the fields and the table of whole lengths.
+// The table of kinds, the widths of the fields and the whole length that follows from them, and the senses.
 use crate::Frame;
 use crate::Sense;
 use model::kind_number;
@@ -11,265 +11,39 @@ ghost use Rattle.frame.specs.Kinds.{mapOf, mapOfKind, hasLamp, senseNumb
 // The map of each kind.
 const MAPS: [u8; 7] = [63, 63, 63, 79, 7, 15, 15];
 
-// The whole length of a frame with each of the 256 maps.
-const LENGTHS: [u8; 256] = [
-    1,
-    2,
-    2,
-    3,
-    2,
-    3,
-    3,
-    4,
-    5,
-    6,
-    6,
-    7,
-    6,
-    7,
-    7,
-    8,
-    2,
-    3,
-    3,
-    4,
-    3,
-    4,
-    4,
-    5,
-    6,
-    7,
-    7,
-    8,
-    7,
-    8,
-    8,
-    9,
-    19,
-    20,
-    20,
-    21,
-    20,
-    21,
-    21,
-    22,
-    23,
-    24,
-    24,
-    25,
-    24,
-    25,
-    25,
-    26,
-    20,
-    21,
-    21,
-    22,
-    21,
-    22,
-    22,
-    23,
-    24,
-    25,
-    25,
-    26,
-    25,
-    26,
-    26,
-    27,
-    3,
-    4,
-    4,
-    5,
-    4,
-    5,
-    5,
-    6,
-    7,
-    8,
-    8,
-    9,
-    8,
-    9,
-    9,
-    10,
-    4,
-    5,
-    5,
-    6,
-    5,
-    6,
-    6,
-    7,
-    8,
-    9,
-    9,
-    10,
-    9,
-    10,
-    10,
-    11,
-    21,
-    22,
-    22,
-    23,
-    22,
-    23,
-    23,
-    24,
-    25,
-    26,
-    26,
-    27,
-    26,
-    27,
-    27,
-    28,
-    22,
-    23,
-    23,
-    24,
-    23,
-    24,
-    24,
-    25,
-    26,
-    27,
-    27,
-    28,
-    27,
-    28,
-    28,
-    29,
-    2,
-    3,
-    3,
-    4,
-    3,
-    4,
-    4,
-    5,
-    6,
-    7,
-    7,
-    8,
-    7,
-    8,
-    8,
-    9,
-    3,
-    4,
-    4,
-    5,
-    4,
-    5,
-    5,
-    6,
-    7,
-    8,
-    8,
-    9,
-    8,
-    9,
-    9,
-    10,
-    20,
-    21,
-    21,
-    22,
-    21,
-    22,
-    22,
-    23,
-    24,
-    25,
-    25,
-    26,
-    25,
-    26,
-    26,
-    27,
-    21,
-    22,
-    22,
-    23,
-    22,
-    23,
-    23,
-    24,
-    25,
-    26,
-    26,
-    27,
-    26,
-    27,
-    27,
-    28,
-    4,
-    5,
-    5,
-    6,
-    5,
-    6,
-    6,
-    7,
-    8,
-    9,
-    9,
-    10,
-    9,
-    10,
-    10,
-    11,
-    5,
-    6,
-    6,
-    7,
-    6,
-    7,
-    7,
-    8,
-    9,
-    10,
-    10,
-    11,
-    10,
-    11,
-    11,
-    12,
-    22,
-    23,
-    23,
-    24,
-    23,
-    24,
-    24,
-    25,
-    26,
-    27,
-    27,
-    28,
-    27,
-    28,
-    28,
-    29,
-    23,
-    24,
-    24,
-    25,
-    24,
-    25,
-    25,
-    26,
-    27,
-    28,
-    28,
-    29,
-    28,
-    29,
-    29,
-    30,
-];
+// The widths of the fields, in bytes.
+pub struct Widths {
+    pub kind: usize,
+    pub from: usize,
+    pub to: usize,
+    pub hour: usize,
+    pub origin: usize,
+    pub lamp: usize,
+    pub quantity: usize,
+    pub sense: usize,
+}
+
+// The whole length, the reader's walk and the writer go by these.
+pub const WIDTHS: Widths = Widths {
+    kind: 1,
+    from: 1,
+    to: 1,
+    hour: 4,
+    origin: 1,
+    lamp: 18,
+    quantity: 2,
+    sense: 1,
+};
+
+// Where fields stand in the frame of an event, behind the map and the fields before them: the hour; then the origin, which a lamp
+// follows, or else the quantity, and what follows that.
+pub const HOUR_PLACE: usize = 1 + WIDTHS.kind + WIDTHS.from + WIDTHS.to;
+
+pub const ORIGIN_PLACE: usize = HOUR_PLACE + WIDTHS.hour;
+
+pub const QUANTITY_PLACE: usize = HOUR_PLACE + WIDTHS.hour;
+
+pub const QUANTITY_END: usize = QUANTITY_PLACE + WIDTHS.quantity;
 
 // The map of the kind with that number; there is none past 6.
 pub fn map_of_kind(kind: u8) -> u8
@@ -281,7 +55,7 @@ pub fn map_of_kind(kind: u8) -> u8
     MAPS[kind as usize]
 }
 
-// The bits of the fields that not every kind has.
+// The bits of the fields that not every kind has, by their values in a map.
 pub const HOUR: u8 = 8;
 
 pub const ORIGIN: u8 = 16;
@@ -307,29 +81,39 @@ pub fn has_lamp(kind: u8) -> bool
     stands(LAMP, map_of_kind(kind))
 }
 
-// The width of the field of a bit. A match, as a constant array would be copied at each reading of it.
+// The width of the field of a bit.
 pub fn width_of(bit: usize) -> usize
     requires { ⌜ bit < 8 ⌝ }
     ensures { λ r. ⌜ r ≡ getD widths bit 0 ⌝ }
 {
     match bit {
-        3 => 4,
-        5 => 18,
-        6 => 2,
-        _ => 1,
+        0 => WIDTHS.kind,
+        1 => WIDTHS.from,
+        2 => WIDTHS.to,
+        3 => WIDTHS.hour,
+        4 => WIDTHS.origin,
+        5 => WIDTHS.lamp,
+        6 => WIDTHS.quantity,
+        _ => WIDTHS.sense,
     }
 }
 
+// The whole length of a frame with that map: the map's own byte and the fields whose bit stands. Summed in 32 bits, which takes less
+// code than 64.
 pub fn whole_length(map: u8) -> usize
     ensures { λ r. ⌜ r ≡ wholeLength map ⌝ }
 {
-    wide(LENGTHS[map as usize])
-}
-
-fn wide(byte: u8) -> usize
-    ensures { λ r. ⌜ r ≡ byte ⌝ }
-{
-    byte as usize
+    let mut size: u32 = 1;
+    let mut rest = map;
+    let mut bit = 0;
+    while bit < 8 {
+        if rest % 2 == 1 {
+            size += width_of(bit) as u32;
+        }
+        rest = rest / 2;
+        bit += 1;
+    }
+    size as usize
 }
 
 // The map of a frame: its kind's, with bit 7 added where there is a sense.

@@ -3,8 +3,13 @@ use buffer::read32;
 use frame::Frame;
 use frame::Reading;
 use frame::forms::number_where;
+use frame::lamps::LAMP_END;
+use frame::lamps::LAMP_PLACE;
 use frame::lamps::read_lamp;
 use frame::pieces::frame_end;
+use frame::tables::HOUR_PLACE;
+use frame::tables::ORIGIN_PLACE;
+use frame::tables::QUANTITY_END;
 use frame::tables::sense_number;
 use limits::check_where;
 use memory::STATE_SIZE;
@@ -33,11 +38,11 @@ const NO_GATEWAY: u8 = 255;
 // The map and the whole length of a Failure, Request or Delivery, and of a Restock.
 const LAMP_MAP: u8 = 63;
 
-const LAMP_EVENT: usize = 41;
+const LAMP_EVENT: usize = LAMP_END + STATE_SIZE;
 
 const RESTOCK_MAP: u8 = 79;
 
-const RESTOCK_EVENT: usize = 24;
+const RESTOCK_EVENT: usize = QUANTITY_END + STATE_SIZE;
 
 // What stands at a position of a record: 0, the event's kind and the position behind it, or what the event is refused with.
 pub struct Found {
@@ -165,13 +170,13 @@ fn good_with_lamp(event: &[u8]) -> bool
     if kind > 2 {
         return false;
     }
-    if !good_gateways(event[2], event[3], kind_of(kind, event[8], 0)) {
+    if !good_gateways(event[2], event[3], kind_of(kind, event[ORIGIN_PLACE], 0)) {
         return false;
     }
-    if read32(event, 4) > LATEST_HOUR {
+    if read32(event, HOUR_PLACE) > LATEST_HOUR {
         return false;
     }
-    all_between(read_lamp(event, 9), 33, 126)
+    all_between(read_lamp(event, LAMP_PLACE), 33, 126)
 }
 
 // Whether a Restock is good.
@@ -188,7 +193,7 @@ fn good_restock(event: &[u8]) -> bool
     if !good_gateways(event[2], event[3], Kind::Restock { quantity: 0 }) {
         return false;
     }
-    read32(event, 4) <= LATEST_HOUR
+    read32(event, HOUR_PLACE) <= LATEST_HOUR
 }
 
 // Whether the gateways agree and their numbers are below 255.

@@ -2,6 +2,12 @@
 // One pass checks the record and measures the view, one writes it.
 use buffer::copy_four;
 use buffer::copy_two;
+use frame::lamps::LAMP_END;
+use frame::lamps::LAMP_PLACE;
+use frame::tables::HOUR_PLACE;
+use frame::tables::ORIGIN_PLACE;
+use frame::tables::QUANTITY_END;
+use frame::tables::QUANTITY_PLACE;
 use memory::STATE_SIZE;
 use records::event_at;
 use records::event_length;
@@ -53,19 +59,10 @@ const MAINTENANCE_MAP: u8 = 15;
 
 const MAINTENANCE_RESTOCK_MAP: u8 = 3;
 
-// Where fields stand in an event of the record: its hour; of a Failure, Request or Delivery the origin, the lamp and the state; of a
-// Restock the quantity and the state.
-const HOUR: usize = 4;
+// Where the state stands in an event of the record, behind the frame: of a Failure, Request or Delivery, and of a Restock.
+const LAMP_STATE: usize = LAMP_END;
 
-const ORIGIN: usize = 8;
-
-const LAMP: usize = 9;
-
-const LAMP_STATE: usize = 27;
-
-const QUANTITY: usize = 8;
-
-const RESTOCK_STATE: usize = 10;
+const RESTOCK_STATE: usize = QUANTITY_END;
 
 // The view of a record for a reader, by its number.
 pub fn view(bytes: &[u8], output: &mut [u8], reader: u32) -> ViewAnswer
@@ -185,7 +182,7 @@ fn put_front(output: &mut [u8], at: usize, event: &[u8]) -> Front
 {
     if event[1] == 3 {
         put_head(output, at, PURCHASING_RESTOCK_MAP, event);
-        copy_two(output, at + 6, event, QUANTITY);
+        copy_two(output, at + 6, event, QUANTITY_PLACE);
         return Front {
             position: at + 8,
             state: RESTOCK_STATE,
@@ -209,7 +206,7 @@ fn put_for_maintenance(output: &mut [u8], at: usize, event: &[u8]) -> usize
     }
     put_head(output, at, MAINTENANCE_MAP, event);
     copy_lamp(output, at + 6, event);
-    output[at + 24] = event[ORIGIN];
+    output[at + 24] = event[ORIGIN_PLACE];
     at + 25
 }
 
@@ -219,7 +216,7 @@ fn put_head(output: &mut [u8], at: usize, map: u8, event: &[u8])
     ensures { λ _. ⌜ now (output .exit) ≡ write at (headOf map (now (event .entry))) (now (output .entry)) ⌝ }
 {
     output[at] = map;
-    copy_four(output, at + 1, event, HOUR);
+    copy_four(output, at + 1, event, HOUR_PLACE);
     output[at + 5] = event[1];
 }
 
@@ -239,9 +236,9 @@ fn copy_lamp(output: &mut [u8], at: usize, event: &[u8])
     requires { ⌜ (at + 18 ≤ length (now output)) × (27 ≤ length (now event)) ⌝ }
     ensures { λ _. ⌜ now (output .exit) ≡ write at (part (now (event .entry)) 9 18) (now (output .entry)) ⌝ }
 {
-    copy_four(output, at, event, LAMP);
-    copy_four(output, at + 4, event, LAMP + 4);
-    copy_four(output, at + 8, event, LAMP + 8);
-    copy_four(output, at + 12, event, LAMP + 12);
-    copy_two(output, at + 16, event, LAMP + 16);
+    copy_four(output, at, event, LAMP_PLACE);
+    copy_four(output, at + 4, event, LAMP_PLACE + 4);
+    copy_four(output, at + 8, event, LAMP_PLACE + 8);
+    copy_four(output, at + 12, event, LAMP_PLACE + 12);
+    copy_two(output, at + 16, event, LAMP_PLACE + 16);
 }

@@ -11,6 +11,7 @@ use frame::tables::LAMP;
 use frame::tables::ORIGIN;
 use frame::tables::QUANTITY;
 use frame::tables::SENSE;
+use frame::tables::WIDTHS;
 use frame::tables::map_of;
 use frame::tables::sense_number;
 use frame::tables::stands;
@@ -63,10 +64,13 @@ fn put_head(out: &mut [u8], at: usize, map: u8, message: Message) -> usize
     let kind = message.kind;
     let number = kind_number(kind);
     out[at] = map;
-    out[at + 1] = number;
-    out[at + 2] = message.from;
-    out[at + 3] = message.to;
-    at + 4
+    let kind_at = at + 1;
+    out[kind_at] = number;
+    let from_at = kind_at + WIDTHS.kind;
+    out[from_at] = message.from;
+    let to_at = from_at + WIDTHS.from;
+    out[to_at] = message.to;
+    to_at + WIDTHS.to
 }
 
 // Hour, origin, lamp and quantity, as far as the map has them.
@@ -91,7 +95,7 @@ fn put_hour(out: &mut [u8], at: usize, map: u8, hour: u32) -> usize
         return at;
     }
     write32(out, at, hour);
-    at + 4
+    at + WIDTHS.hour
 }
 
 // A field of one byte, where its bit stands in the map.
@@ -115,7 +119,7 @@ fn put_lamp(out: &mut [u8], at: usize, map: u8, lamp: [u8; 18]) -> usize
         return at;
     }
     copy(out, at, &lamp);
-    at + 18
+    at + WIDTHS.lamp
 }
 
 // The quantity, where it stands in the map.
@@ -127,5 +131,5 @@ fn put_quantity(out: &mut [u8], at: usize, map: u8, quantity: u16) -> usize
         return at;
     }
     write16(out, at, quantity);
-    at + 2
+    at + WIDTHS.quantity
 }

@@ -1,24 +1,9 @@
--- `frame::tables::width_of` meets its contract.
-use Prim.Native.Nat.{ℕ, zero, suc, _<_}
-use mathlib.Core.Path.{_≡_, refl}
-use native.Mathlib.Omega.{arith}
-use lib.ListN.{getD}
+-- `frame::tables::width_of` meets its contract: the constant holds the widths of the definition.
 use borrow.Author.Needs.{needs}
-use Rattle.frame.specs.Layout.{widths}
+use mathlib.Core.Path.{_≡_}
+use Rattle.frame.proofs.Walking.{last-bit}
 use Rattle.frame.proofs.tables.width_of.Statement.{statement}
 use Rattle.frame.proofs.tables.width_of.Tie as tie
-
--- a field that is no hour, lamp or quantity has one byte
-one-byte : (bit : ℕ) → bit < 8 → (bit ≡ 3 → ⊥) → (bit ≡ 5 → ⊥) → (bit ≡ 6 → ⊥) → 1 ≡ getD widths bit 0
-one-byte zero h a b c = refl
-one-byte (suc zero) h a b c = refl
-one-byte (suc (suc zero)) h a b c = refl
-one-byte (suc (suc (suc zero))) h a b c = absurd (a refl)
-one-byte (suc (suc (suc (suc zero)))) h a b c = refl
-one-byte (suc (suc (suc (suc (suc zero))))) h a b c = absurd (b refl)
-one-byte (suc (suc (suc (suc (suc (suc zero)))))) h a b c = absurd (c refl)
-one-byte (suc (suc (suc (suc (suc (suc (suc zero))))))) h a b c = refl
-one-byte (suc (suc (suc (suc (suc (suc (suc (suc n)))))))) h a b c = absurd (omega (arith, h))
 
 returns : tie.Need-returns
 returns c = search needs
@@ -30,7 +15,23 @@ returns-3 : tie.Need-returns-3
 returns-3 c = search needs
 
 returns-4 : tie.Need-returns-4
-returns-4 c = search one-byte
+returns-4 c = search needs
+
+returns-5 : tie.Need-returns-5
+returns-5 c = search needs
+
+returns-6 : tie.Need-returns-6
+returns-6 c = search needs
+
+returns-7 : tie.Need-returns-7
+returns-7 c = search needs
+
+returns-8 : tie.Need-returns-8
+returns-8 c =
+    let last : c .before .args .bit ≡ 7 = search last-bit in
+    rw last
 
 pub width-of-spec : {M : Type 1} → statement M
-width-of-spec = tie.close (tie.spec returns returns-2 returns-3 returns-4)
+width-of-spec =
+    tie.close
+    (tie.spec returns returns-2 returns-3 returns-4 returns-5 returns-6 returns-7 returns-8)
