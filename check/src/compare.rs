@@ -407,7 +407,7 @@ mod tests {
 
     #[test]
     fn only_an_unused_note_is_passed_over() {
-        assert_eq!(passed_over(0, 7), [24, 25, 26, 27]);
+        assert_eq!(passed_over(0, 7), [22, 23, 24, 25]);
         assert_eq!(passed_over(0, 0), []);
         assert_eq!(passed_over(1, 7), []);
         assert_eq!(passed_over(2, 7), []);

@@ -3,7 +3,7 @@
 use peer::frame::{self, Frame, Sense};
 use peer::generator::Generator;
 use peer::model::{Hour, Hours, Kind, Lamp, Message, MAX_LAST_HOUR, MOST_HOURS, NOTHING_DUE};
-use peer::routing;
+use peer::{memory, routing};
 
 /// The first two are alike in sixteen characters and more; the last has the outermost bytes.
 const LAMPS: [&Lamp; 3] = [b"L00000000000000001", b"L00000000000000002", b"~!L000000000000001"];
@@ -19,7 +19,7 @@ pub struct Site {
 impl Site {
     /// The gateway that a memory holds.
     pub fn of(memory: &[u8]) -> Site {
-        let last_hour = u32::from_be_bytes([memory[16], memory[17], memory[18], memory[19]]);
+        let last_hour = memory::number(&memory[memory::LAST_HOUR]);
         Site { gateways: memory[0], own: memory[1], last_hour }
     }
 }

@@ -8,7 +8,8 @@ use crate::Wrong;
 use interface::{memory_length, Opening};
 use peer::frame::{self, Frame, Sense};
 use peer::generator::Generator;
-use peer::model::{Hour, Hours, Kind, Lamp, Message, MAX_LAST_HOUR, MOST_HOURS};
+use peer::model::{Hour, Hours, Kind, Lamp, Message, State, MAX_LAST_HOUR, MOST_HOURS};
+use peer::{memory, record};
 
 const KINDS: [Kind; 4] = [Kind::Failure, Kind::Request, Kind::Delivery, Kind::Restock];
 const GATEWAYS: [u8; 6] = [0, 1, 127, 128, 253, 254];
@@ -112,10 +113,10 @@ fn distance(generator: &mut Generator, hours: &Hours) -> Hour {
 
 /// Writes a state into the header.
 fn write_state(generator: &mut Generator, memory: &mut [u8]) {
-    memory[14..16].copy_from_slice(&generator.pick(&STOCKS).to_be_bytes());
-    for counter in memory[28..40].chunks_mut(4) {
-        counter.copy_from_slice(&generator.pick(&COUNTERS).to_be_bytes());
-    }
+    let stock = generator.pick(&STOCKS);
+    let [failed, fitted, short] = [0; 3].map(|_| generator.pick(&COUNTERS));
+    let state = State { stock, failed, fitted, short };
+    memory[memory::STATE].copy_from_slice(&record::state_bytes(&state));
 }
 
 fn may_open(message: &Message) -> bool {

@@ -168,7 +168,7 @@ pub fn cancelled(memory: &[u8], output: &[u8]) -> Vec<(Lead, Met)> {
 }
 
 fn hours_at(memory: &[u8], lead: Lead) -> Hour {
-    memory[lead.place()].iter().fold(0, |hours, &byte| hours << 8 | Hour::from(byte))
+    memory::number(&memory[lead.place()])
 }
 
 /// Lead times in and out of their range: at set up, where 8 comes before all that is wrong with the list, and in memory.

@@ -3,6 +3,7 @@
 use crate::frame::{self, Frame, Sense};
 use crate::gateway::{self, Gateway, Processed, Sent};
 use crate::model::{self, Done, Hour, Hours, Kind, Message, Settings, State, MAX_LAST_HOUR};
+use crate::record::{state, state_bytes, STATE_LENGTH};
 use crate::round::{Phase, Round};
 use std::ops::Range;
 
@@ -10,12 +11,18 @@ const HEADER: usize = 256;
 const QUEUE_PLACE: usize = 64;
 const OUTSTANDING_PLACE: usize = 32;
 
-/// Where the phase, the note and the lead times stand in the header.
+/// Where the phase, hours and the state stand in the header.
 const PHASE: usize = 3;
-pub const NOTE: Range<usize> = 24..28;
-pub const REQUEST_HOURS: Range<usize> = 40..44;
-pub const DELIVERY_HOURS: Range<usize> = 44..48;
-pub const LIFE_HOURS: Range<usize> = 48..52;
+pub const LAST_HOUR: Range<usize> = 14..18;
+const AGREED: Range<usize> = 18..22;
+pub const NOTE: Range<usize> = 22..26;
+pub const REQUEST_HOURS: Range<usize> = 26..30;
+pub const DELIVERY_HOURS: Range<usize> = 30..34;
+pub const LIFE_HOURS: Range<usize> = 34..38;
+pub const STATE: Range<usize> = 38..38 + STATE_LENGTH;
+
+/// Where the state before a processed message stands in a queue place.
+const BEFORE: Range<usize> = 30..30 + STATE_LENGTH;
 
 /// Why memory is not sound: refusal 10's reasons, in the order in which they are looked for.
 #[derive(Clone, Copy, Debug, PartialEq, Eq, PartialOrd, Ord, Hash)]
@@ -75,7 +82,7 @@ pub fn read(memory: &[u8]) -> Result<Gateway, Unsound> {
     let (nodes, own, supplier) = (memory[0], memory[1], memory[2]);
     let places: [usize; 4] = [6, 8, 10, 12].map(|at| number(&memory[at..at + 2]) as usize);
     let [queue_places, outstanding_places, queued, sent] = places;
-    let last_hour = number(&memory[16..20]);
+    let last_hour = number(&memory[LAST_HOUR]);
     let in_range = |places| (1..=512).contains(&places);
     if nodes == 0
         || own >= nodes
@@ -113,7 +120,7 @@ pub fn read(memory: &[u8]) -> Result<Gateway, Unsound> {
     }
     check_queue(&entries)?;
 
-    let state = state(memory[14..16].iter().chain(&memory[28..40]));
+    let (state, _) = state(&memory[STATE]).ok_or(Unsound::TooShort)?;
     let of_mark = |mark| entries.iter().filter(move |entry| entry.mark == mark);
     Ok(Gateway {
         nodes,
@@ -121,7 +128,7 @@ pub fn read(memory: &[u8]) -> Result<Gateway, Unsound> {
         queue_places,
         outstanding_places,
         state,
-        agreed: number(&memory[20..24]),
+        agreed: number(&memory[AGREED]),
         processed: of_mark(Mark::Processed).map(|entry| processed(settings, entry)).collect(),
         pending: of_mark(Mark::Pending).map(|entry| entry.message).collect(),
         waiting: of_mark(Mark::Waiting).map(|entry| entry.message).collect(),
@@ -133,7 +140,6 @@ pub fn read(memory: &[u8]) -> Result<Gateway, Unsound> {
 /// Writes a gateway over its memory: header and used places; every other byte stays.
 pub fn write(gateway: &Gateway, memory: &mut [u8]) {
     let entries = entries(gateway);
-    let State { stock, failed, fitted, short } = gateway.state;
     let (phase, arrivals, note) = phase_numbers(&gateway.round);
     let Settings { own, supplier, last_hour, hours } = gateway.settings;
     memory[..5].copy_from_slice(&[gateway.nodes, own, supplier, phase, arrivals]);
@@ -142,22 +148,12 @@ pub fn write(gateway: &Gateway, memory: &mut [u8]) {
         gateway.outstanding_places as u16,
         entries.len() as u16,
         gateway.outstanding.len() as u16,
-        stock,
     ];
-    let words = [
-        last_hour,
-        gateway.agreed,
-        note,
-        failed,
-        fitted,
-        short,
-        hours.request,
-        hours.delivery,
-        hours.life,
-    ];
+    let words = [last_hour, gateway.agreed, note, hours.request, hours.delivery, hours.life];
     let mut numbers: Vec<u8> = halves.iter().flat_map(|half| half.to_be_bytes()).collect();
     numbers.extend(words.iter().flat_map(|word| word.to_be_bytes()));
-    memory[6..52].copy_from_slice(&numbers);
+    memory[6..STATE.start].copy_from_slice(&numbers);
+    memory[STATE].copy_from_slice(&state_bytes(&gateway.state));
 
     for (place, entry) in memory[HEADER..].chunks_mut(QUEUE_PLACE).zip(&entries) {
         place.copy_from_slice(&entry_bytes(entry));
@@ -265,7 +261,8 @@ fn entry(place: &[u8]) -> Option<Entry> {
         _ => return None,
     };
     let sense = if mark == Mark::Waiting { Sense::Cancel } else { Sense::Plain };
-    let entry = Entry { mark, message: message(place, sense)?, before: state(&place[30..44]) };
+    let (before, _) = state(&place[BEFORE])?;
+    let entry = Entry { mark, message: message(place, sense)?, before };
     let state_allowed = mark == Mark::Processed || entry.before == State::default();
     (state_allowed && entry_bytes(&entry) == place).then_some(entry)
 }
@@ -345,10 +342,8 @@ fn message_bytes(mark: u8, message: &Message) -> Vec<u8> {
 }
 
 fn entry_bytes(entry: &Entry) -> Vec<u8> {
-    let State { stock, failed, fitted, short } = entry.before;
     let mut bytes = message_bytes(entry.mark as u8, &entry.message);
-    bytes.extend(stock.to_be_bytes());
-    bytes.extend([failed, fitted, short].iter().flat_map(|counter| counter.to_be_bytes()));
+    bytes.extend(state_bytes(&entry.before));
     bytes.resize(QUEUE_PLACE, 0);
     bytes
 }
@@ -359,19 +354,8 @@ fn sent_bytes(sent: &Sent) -> Vec<u8> {
     bytes
 }
 
-/// The state in fourteen bytes: stock, failed, fitted and short.
-fn state<'a>(bytes: impl IntoIterator<Item = &'a u8>) -> State {
-    let bytes: Vec<u8> = bytes.into_iter().copied().collect();
-    State {
-        stock: number(&bytes[..2]) as u16,
-        failed: number(&bytes[2..6]),
-        fitted: number(&bytes[6..10]),
-        short: number(&bytes[10..14]),
-    }
-}
-
 /// The number that bytes give, high byte first.
-fn number(bytes: &[u8]) -> u32 {
+pub fn number(bytes: &[u8]) -> u32 {
     bytes.iter().fold(0, |value, &byte| value << 8 | u32::from(byte))
 }
 
@@ -395,10 +379,11 @@ mod tests {
     }
 
     #[test]
-    fn the_lead_times_stand_behind_the_counters() {
+    fn the_state_stands_behind_the_lead_times() {
         let hours = Hours { request: 0x0102, delivery: 0x0f_4240, life: 1 };
         let (gateway, memory) = gateway_and_memory(hours);
-        assert_eq!(memory[40..52], [0, 0, 1, 2, 0, 0x0f, 0x42, 0x40, 0, 0, 0, 1]);
+        assert_eq!(memory[26..38], [0, 0, 1, 2, 0, 0x0f, 0x42, 0x40, 0, 0, 0, 1]);
+        assert_eq!(memory[38..52], [0, 0, 0, 0, 0, 1, 0, 0, 0, 0, 0, 0, 0, 0]);
         assert_eq!(memory[5], 0x5a);
         assert!(memory[52..256].iter().all(|&byte| byte == 0x5a), "what is not named stays");
         assert_eq!(read(&memory), Ok(gateway), "what a processed event sent by its hours too");

@@ -7,14 +7,21 @@ use crate::refusal::{Reason, Refusal};
 /// N, where a record is read: it is that of no forecast in particular.
 const NODES: u32 = 255;
 
-/// The bytes that a commit writes: the event's frame, then the state after it, high byte first.
+/// How many bytes a state has.
+pub const STATE_LENGTH: usize = 14;
+
+/// The bytes that a commit writes: the event's frame, then the state after it.
 pub fn bytes(done: &Done) -> Vec<u8> {
-    let State { stock, failed, fitted, short } = done.after;
     let mut bytes = frame::write(&plain(done));
-    bytes.extend(stock.to_be_bytes());
-    for counter in [failed, fitted, short] {
-        bytes.extend(counter.to_be_bytes());
-    }
+    bytes.extend(state_bytes(&done.after));
+    bytes
+}
+
+/// The bytes of a state, in records and in memory: stock, failed, fitted and short, high byte first.
+pub fn state_bytes(state: &State) -> Vec<u8> {
+    let State { stock, failed, fitted, short } = *state;
+    let mut bytes = stock.to_be_bytes().to_vec();
+    bytes.extend([failed, fitted, short].iter().flat_map(|counter| counter.to_be_bytes()));
     bytes
 }
 
@@ -53,7 +60,7 @@ fn event(bytes: &[u8]) -> Result<Message, Refusal> {
 }
 
 /// The state at the front of some bytes, and the bytes behind it; `None` where it is cut.
-fn state(bytes: &[u8]) -> Option<(State, &[u8])> {
+pub fn state(bytes: &[u8]) -> Option<(State, &[u8])> {
     let (stock, bytes) = bytes.split_first_chunk()?;
     let (failed, bytes) = bytes.split_first_chunk()?;
     let (fitted, bytes) = bytes.split_first_chunk()?;

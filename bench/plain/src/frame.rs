@@ -1,5 +1,6 @@
 //! Reading frames, and putting them one behind the other into an output.
 
+use crate::memory::state_bytes;
 use crate::message::{Kind, Message, State};
 use crate::refusal;
 
@@ -145,10 +146,7 @@ impl<'a> Output<'a> {
     }
 
     pub fn put_state(&mut self, state: &State) {
-        self.put(&state.stock.to_be_bytes());
-        for counter in [state.failed, state.fitted, state.short] {
-            self.put(&counter.to_be_bytes());
-        }
+        self.put(&state_bytes(state));
     }
 
     fn put_head(&mut self, map: u8, message: &Message) {

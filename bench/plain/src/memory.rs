@@ -6,6 +6,20 @@ pub const HEADER: usize = 256;
 pub const QUEUE_PLACE: usize = 64;
 pub const OUTSTANDING_PLACE: usize = 32;
 
+/// The bytes of a state, which is one stretch wherever it stands: the stock, then the counters.
+const STOCK_SIZE: usize = 2;
+const COUNTER_SIZE: usize = 4;
+pub const STATE_SIZE: usize = STOCK_SIZE + 3 * COUNTER_SIZE;
+
+/// Where numbers stand in the header: four counts of places, then six hours, then the state.
+const COUNTS_AT: usize = 6;
+const HOURS_AT: usize = COUNTS_AT + 4 * 2;
+const STATE_AT: usize = HOURS_AT + 6 * 4;
+
+/// Where a message ends in a place. In a queue place the state before it follows, and then nothing.
+pub const MESSAGE_END: usize = 30;
+pub const BEFORE_END: usize = MESSAGE_END + STATE_SIZE;
+
 /// Phases of the round.
 pub const IDLE: u8 = 0;
 pub const COUNTING: u8 = 1;
@@ -31,8 +45,8 @@ pub struct Header {
     pub agreed: u32,
     /// The note; after the stop the value.
     pub note: u32,
-    pub state: State,
     pub hours: Hours,
+    pub state: State,
 }
 
 /// A queue place.
@@ -61,24 +75,19 @@ impl Header {
             supplier: memory[2],
             phase: memory[3],
             arrivals: memory[4],
-            queue_places: half(memory, 6).into(),
-            outstanding_places: half(memory, 8).into(),
-            queued: half(memory, 10).into(),
-            outstanding: half(memory, 12).into(),
-            last_hour: word(memory, 16),
-            agreed: word(memory, 20),
-            note: word(memory, 24),
-            state: State {
-                stock: half(memory, 14),
-                failed: word(memory, 28),
-                fitted: word(memory, 32),
-                short: word(memory, 36),
-            },
+            queue_places: half(memory, COUNTS_AT).into(),
+            outstanding_places: half(memory, COUNTS_AT + 2).into(),
+            queued: half(memory, COUNTS_AT + 4).into(),
+            outstanding: half(memory, COUNTS_AT + 6).into(),
+            last_hour: word(memory, HOURS_AT),
+            agreed: word(memory, HOURS_AT + 4),
+            note: word(memory, HOURS_AT + 8),
             hours: Hours {
-                request: word(memory, 40),
-                delivery: word(memory, 44),
-                life: word(memory, 48),
+                request: word(memory, HOURS_AT + 12),
+                delivery: word(memory, HOURS_AT + 16),
+                life: word(memory, HOURS_AT + 20),
             },
+            state: state(&memory[STATE_AT..]),
         }
     }
 
@@ -86,26 +95,15 @@ impl Header {
         let round = [self.gateways, self.own, self.supplier, self.phase, self.arrivals];
         memory[..5].copy_from_slice(&round);
         let places = [self.queue_places, self.outstanding_places, self.queued, self.outstanding];
-        for (at, places) in (6..).step_by(2).zip(places) {
+        for (at, places) in (COUNTS_AT..).step_by(2).zip(places) {
             memory[at..at + 2].copy_from_slice(&(places as u16).to_be_bytes());
         }
-        let State { stock, failed, fitted, short } = self.state;
-        memory[14..16].copy_from_slice(&stock.to_be_bytes());
         let Hours { request, delivery, life } = self.hours;
-        let words = [
-            self.last_hour,
-            self.agreed,
-            self.note,
-            failed,
-            fitted,
-            short,
-            request,
-            delivery,
-            life,
-        ];
-        for (at, word) in (16..).step_by(4).zip(words) {
-            memory[at..at + 4].copy_from_slice(&word.to_be_bytes());
+        let hours = [self.last_hour, self.agreed, self.note, request, delivery, life];
+        for (at, hour) in (HOURS_AT..).step_by(4).zip(hours) {
+            memory[at..at + 4].copy_from_slice(&hour.to_be_bytes());
         }
+        memory[STATE_AT..][..STATE_SIZE].copy_from_slice(&state_bytes(&self.state));
     }
 
     pub fn site(&self) -> Site {
@@ -130,7 +128,7 @@ pub fn queue_at(k: usize) -> usize {
 /// The mark, the message and the state of a queue place that is sound.
 pub fn entry(memory: &[u8], k: usize) -> Entry {
     let place = &memory[queue_at(k)..][..QUEUE_PLACE];
-    Entry { mark: place[0], message: sound_message(place), before: state(&place[30..44]) }
+    Entry { mark: place[0], message: sound_message(place), before: state(&place[MESSAGE_END..]) }
 }
 
 pub fn mark(memory: &[u8], k: usize) -> u8 {
@@ -153,7 +151,7 @@ pub fn message(place: &[u8]) -> Option<Message> {
         hour: word(place, 4),
         kind: Kind::from_number(place[1])?,
         origin: place[8],
-        lamp: place[12..30].try_into().ok()?,
+        lamp: place[12..MESSAGE_END].try_into().ok()?,
         quantity: half(place, 10),
         from: place[2],
         to: place[3],
@@ -165,14 +163,22 @@ pub fn sound_message(place: &[u8]) -> Message {
     message(place).expect("the memory is sound")
 }
 
-/// The state in fourteen bytes.
+/// The state in the first bytes.
 pub fn state(bytes: &[u8]) -> State {
-    State {
-        stock: half(bytes, 0),
-        failed: word(bytes, 2),
-        fitted: word(bytes, 6),
-        short: word(bytes, 10),
+    let counter = |number| word(bytes, STOCK_SIZE + COUNTER_SIZE * number);
+    State { stock: half(bytes, 0), failed: counter(0), fitted: counter(1), short: counter(2) }
+}
+
+/// The bytes of a state, as memory and records have them.
+pub fn state_bytes(state: &State) -> [u8; STATE_SIZE] {
+    let mut bytes = [0; STATE_SIZE];
+    let (stock, counters) = bytes.split_at_mut(STOCK_SIZE);
+    stock.copy_from_slice(&state.stock.to_be_bytes());
+    let numbers = [state.failed, state.fitted, state.short];
+    for (counter, number) in counters.chunks_exact_mut(COUNTER_SIZE).zip(numbers) {
+        counter.copy_from_slice(&number.to_be_bytes());
     }
+    bytes
 }
 
 fn put_message(place: &mut [u8], mark: u8, message: &Message) {
@@ -180,34 +186,31 @@ fn put_message(place: &mut [u8], mark: u8, message: &Message) {
     place[4..8].copy_from_slice(&message.hour.to_be_bytes());
     place[8..10].copy_from_slice(&[message.origin, 0]);
     place[10..12].copy_from_slice(&message.quantity.to_be_bytes());
-    place[12..30].copy_from_slice(&message.lamp);
+    place[12..MESSAGE_END].copy_from_slice(&message.lamp);
 }
 
 pub fn put_entry(memory: &mut [u8], k: usize, mark: u8, message: &Message) {
     let place = &mut memory[queue_at(k)..][..QUEUE_PLACE];
     put_message(place, mark, message);
-    place[30..].fill(0);
+    place[MESSAGE_END..].fill(0);
 }
 
 pub fn put_sent(memory: &mut [u8], at: usize, cancel: bool, message: &Message) {
     let place = &mut memory[at..][..OUTSTANDING_PLACE];
     put_message(place, cancel.into(), message);
-    place[30..].fill(0);
+    place[MESSAGE_END..].fill(0);
 }
 
 /// Marks queue place `k` as processed, with the state before it.
 pub fn put_processed(memory: &mut [u8], k: usize, before: &State) {
     let place = &mut memory[queue_at(k)..][..QUEUE_PLACE];
     place[0] = PROCESSED;
-    place[30..32].copy_from_slice(&before.stock.to_be_bytes());
-    for (at, counter) in (32..).step_by(4).zip([before.failed, before.fitted, before.short]) {
-        place[at..at + 4].copy_from_slice(&counter.to_be_bytes());
-    }
+    place[MESSAGE_END..BEFORE_END].copy_from_slice(&state_bytes(before));
 }
 
 /// Marks queue place `k` as pending, with no state.
 pub fn put_pending(memory: &mut [u8], k: usize) {
     let place = &mut memory[queue_at(k)..][..QUEUE_PLACE];
     place[0] = PENDING;
-    place[30..44].fill(0);
+    place[MESSAGE_END..BEFORE_END].fill(0);
 }

@@ -61,8 +61,8 @@ fn header(opening: &Opening) -> Header {
         last_hour: opening.last_hour,
         agreed: 0,
         note: 0,
-        state: State { stock: opening.stock as u16, ..State::default() },
         hours: hours(opening),
+        state: State { stock: opening.stock as u16, ..State::default() },
     }
 }
 

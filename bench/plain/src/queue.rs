@@ -4,7 +4,7 @@ use crate::frame::{plain_length, Output, Sense};
 use crate::memory::{
     entry, mark, put_entry, put_pending, put_processed, put_sent, queue_at, queued_message,
     sound_message, Entry, Header, COUNTING, OUTSTANDING_PLACE, PENDING, PROCESSED, QUEUE_PLACE,
-    WAITING,
+    STATE_SIZE, WAITING,
 };
 use crate::message::{perform, Message};
 use crate::refusal;
@@ -12,9 +12,6 @@ use crate::refusal;
 /// Bytes of a frame with a lamp, without and with a sense.
 const PLAIN: usize = 27;
 const WITH_SENSE: usize = 28;
-
-/// Bytes of a state in a record.
-const STATE: usize = 14;
 
 /// Works off up to `budget` events; the count done and why it stopped.
 pub fn work(
@@ -157,7 +154,7 @@ pub fn commit(memory: &mut [u8], mut header: Header, output: &mut Output) -> Res
     if event.message.hour >= header.agreed {
         return Err(refusal::NOTHING);
     }
-    check_room(output, plain_length(event.message.kind) + STATE)?;
+    check_room(output, plain_length(event.message.kind) + STATE_SIZE)?;
     let (after, _) = perform(header.site(), event.before, &event.message);
     output.put_event(Sense::Plain, &event.message);
     output.put_state(&after);

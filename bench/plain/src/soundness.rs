@@ -1,8 +1,8 @@
 //! Whether lent memory is sound: refusal 10.
 
 use crate::memory::{
-    message, state, Header, COUNTING, HEADER, IDLE, OUTSTANDING_PLACE, PENDING, PROCESSED,
-    QUEUE_PLACE, STOPPED, WAITING,
+    message, state, Header, BEFORE_END, COUNTING, HEADER, IDLE, MESSAGE_END, OUTSTANDING_PLACE,
+    PENDING, PROCESSED, QUEUE_PLACE, STOPPED, WAITING,
 };
 use crate::message::{Kind, Message, State};
 use crate::routing;
@@ -58,14 +58,17 @@ fn queue_sound(header: &Header, memory: &[u8]) -> bool {
             return false;
         };
         let mark = place[0];
-        let no_state = state(&place[30..44]) == State::default();
+        let no_state = state(&place[MESSAGE_END..]) == State::default();
         let mark_fits = match mark {
             PENDING => no_state,
             PROCESSED => !pending_seen,
             WAITING => no_state && message.kind.has_lamp(),
             _ => false,
         };
-        if !mark_fits || message.to != header.own || place[44..] != [0; 20] {
+        if !mark_fits
+            || message.to != header.own
+            || place[BEFORE_END..] != [0; QUEUE_PLACE - BEFORE_END]
+        {
             return false;
         }
         if let Some((mark_before, message_before)) = before {
@@ -89,7 +92,7 @@ fn outstanding_sound(header: &Header, memory: &[u8]) -> bool {
         place[0] <= 1
             && message.kind.has_lamp()
             && message.from == header.own
-            && place[30..] == [0; 2]
+            && place[MESSAGE_END..] == [0; OUTSTANDING_PLACE - MESSAGE_END]
     })
 }
 

@@ -9,10 +9,11 @@ use lib.ListN.{length, getD, drop, replicate, drop-of-length-le}
 use borrow.Author.Tests.{eq-eqb, ne-eqb, le-leb, lt-leb}
 use Rattle.buffer.specs.Slice.{Bytes, part, sameBytes}
 use Rattle.buffer.specs.Number.{bytesOf, numberOf}
-use Rattle.buffer.proofs.Writes.{part-part}
+use Rattle.buffer.proofs.Writes.{length-part}
+use Rattle.buffer.proofs.Lent.{bytes-part}
 use Rattle.model.specs.Messages.{kindNumber, originOf, quantityOf}
 use Rattle.model.specs.declared.Message.{Message}
-use Rattle.memory.specs.Layout.{messageSize, outstandingSize, queueSize, stateSize, zerosAt}
+use Rattle.memory.specs.Layout.{messageSize, outstandingSize, queueSize, stateSize, zerosAt, zerosSize}
 use Rattle.memory.specs.Codec.{markNumber, markOf, cancelNumber, stateBytes, stateOf, messageBytes, messageOf, entryBytes, entryOf, sentBytes, sentOf}
 use Rattle.exactness.specs.inside.Exact.{messageExact}
 use Rattle.memory.specs.declared.Entry.{Entry}
@@ -21,7 +22,7 @@ use Rattle.memory.specs.declared.Mark.{Mark}
 use Rattle.memory.specs.declared.Mark.the-variants.{Pending, Processed, Waiting}
 use Rattle.memory.proofs.Chains.{refuted, granted}
 use Rattle.memory.proofs.RoundTrips.{kind-fits}
-use Rattle.memory.proofs.FromBytes.{message-fits}
+use Rattle.memory.proofs.FromBytes.{message-fits, state-again}
 use Rattle.exactness.proofs.SameBytes.{part-there, number-test, number-there, byte-test, byte-there}
 
 -- the first byte is the number of what it is read as
@@ -84,29 +85,17 @@ module _ (b : List ℕ) (bytes : Bytes b) where
   -- the saved state, which is read from all its bytes
   state-there : zerosAt ≤ length b → (rest : List ℕ) → sameBytes (stateBytes (stateOf (part b messageSize stateSize)) ++ rest) (drop
       messageSize b) ≡ sameBytes rest (drop zerosAt b)
-  unfolding stateBytes stateOf
   state-there long rest =
-      let short = bytesOf 4 (numberOf (part b 40 4)) ++ rest in
-      let fitted = bytesOf 4 (numberOf (part b 36 4)) ++ short in
-      let failed = bytesOf 4 (numberOf (part b 32 4)) ++ fitted in
-      rw (
-        part-part b messageSize stateSize 0 2 (lit≤ tt),
-        part-part b messageSize stateSize 2 4 (lit≤ tt),
-        part-part b messageSize
-            stateSize 6 4 (lit≤ tt),
-        part-part b messageSize stateSize 10 4 (lit≤ tt),
-      )
-      (simp append-assoc
-      (number-there b bytes 30 2 failed (omega arith)
-      ∙ (number-there b bytes 32 4 fitted (omega arith) ∙ (number-there b bytes 36 4 short (omega arith) ∙ number-there b bytes 40 4 rest (omega arith)))))
+      rw (state-again (part b messageSize stateSize) (length-part b messageSize stateSize (omega arith)) (bytes-part b messageSize stateSize bytes))
+      (part-there b messageSize stateSize rest (omega arith))
 
   entry-tests : length b ≡ queueSize
-      → sameBytes (entryBytes (entryOf b)) b ≡ (leb (getD b 0 0) 2 && (messageExact b (messageOf b) && sameBytes (replicate 20 0) (drop zerosAt b)))
+      → sameBytes (entryBytes (entryOf b)) b ≡ (leb (getD b 0 0) 2 && (messageExact b (messageOf b) && sameBytes (replicate zerosSize 0) (drop zerosAt b)))
   unfolding entryBytes entryOf
   entry-tests size =
-      message-tests (omega arith) (markNumber (markOf (getD b 0 0))) (stateBytes (stateOf (part b messageSize stateSize)) ++ replicate 20 0)
+      message-tests (omega arith) (markNumber (markOf (getD b 0 0))) (stateBytes (stateOf (part b messageSize stateSize)) ++ replicate zerosSize 0)
       (mark-small (markOf (getD b 0 0)))
-      ∙ rw (mark-kept (getD b 0 0), state-there (omega arith) (replicate 20 0))
+      ∙ rw (mark-kept (getD b 0 0), state-there (omega arith) (replicate zerosSize 0))
 
   sent-tests : length b ≡ outstandingSize → sameBytes (sentBytes (sentOf b)) b ≡ (leb (getD b 0 0) 1 && (messageExact b (messageOf b) && eqb
       (numberOf (part b messageSize 2)) 0))
@@ -121,7 +110,7 @@ module _ (b : List ℕ) (bytes : Bytes b) where
 
   -- a queue place, by the test that fails and by the last
   module _ (size : length b ≡ queueSize) {e : Entry} (read : e ≡ entryOf b) where
-    entry-whole : sameBytes (entryBytes e) b ≡ (leb (getD b 0 0) 2 && (messageExact b (e .message) && sameBytes (replicate 20 0) (drop zerosAt b)))
+    entry-whole : sameBytes (entryBytes e) b ≡ (leb (getD b 0 0) 2 && (messageExact b (e .message) && sameBytes (replicate zerosSize 0) (drop zerosAt b)))
     unfolding entryOf
     entry-whole = rw read (entry-tests size)
 
@@ -132,7 +121,7 @@ module _ (b : List ℕ) (bytes : Bytes b) where
       pub entry-message-refused : not exact ≡ true → false ≡ sameBytes (entryBytes e) b
       entry-message-refused k = sym (entry-whole ∙ rw (le-leb (getD b 0 0) 2 h, refuted p k))
 
-      pub entry-decided : {r : Bool} → not exact ≡ false → r ≡ sameBytes (replicate 20 0) (drop zerosAt b) → r ≡ sameBytes (entryBytes e) b
+      pub entry-decided : {r : Bool} → not exact ≡ false → r ≡ sameBytes (replicate zerosSize 0) (drop zerosAt b) → r ≡ sameBytes (entryBytes e) b
       entry-decided k q = q ∙ sym (entry-whole ∙ rw (le-leb (getD b 0 0) 2 h, granted p k))
 
   -- an outstanding place
@@ -153,7 +142,7 @@ module _ (b : List ℕ) (bytes : Bytes b) where
 
   -- five numbers, each zero
   zero-tests : length b ≡ queueSize
-      → sameBytes (replicate 20 0) (drop zerosAt b)
+      → sameBytes (replicate zerosSize 0) (drop zerosAt b)
       ≡ (eqb (numberOf (part b zerosAt 4)) 0 && (eqb (numberOf (part b 48 4)) 0 && (eqb (numberOf (part b 52 4)) 0 && (eqb (numberOf (part b 56
       4)) 0 && eqb (numberOf (part b 60 4)) 0))))
   unfolding sameBytes bytesOf
@@ -194,20 +183,20 @@ module _ (b : List ℕ) (m : Message) {kind : ℕ} (k : kind ≡ kindNumber (m .
 
 -- the tests of the zeros, by the one that fails and by the last
 module _ (b : List ℕ) (bytes : Bytes b) (size : length b ≡ queueSize) {n₁ : ℕ} (p₁ : n₁ ≡ numberOf (part b zerosAt 4)) where
-  pub zeros-first : (n₁ ≡ 0 → ⊥) → false ≡ sameBytes (replicate 20 0) (drop zerosAt b)
+  pub zeros-first : (n₁ ≡ 0 → ⊥) → false ≡ sameBytes (replicate zerosSize 0) (drop zerosAt b)
   zeros-first d = sym (zero-tests b bytes size ∙ rw (← p₁, ne-eqb n₁ 0 d))
 
   module _ (z₁ : n₁ ≡ 0) {n₂ : ℕ} (p₂ : n₂ ≡ numberOf (part b 48 4)) where
-    pub zeros-second : (n₂ ≡ 0 → ⊥) → false ≡ sameBytes (replicate 20 0) (drop zerosAt b)
+    pub zeros-second : (n₂ ≡ 0 → ⊥) → false ≡ sameBytes (replicate zerosSize 0) (drop zerosAt b)
     zeros-second d = sym (zero-tests b bytes size ∙ rw (← p₁, ← p₂, eq-eqb n₁ 0 z₁, ne-eqb n₂ 0 d))
 
     module _ (z₂ : n₂ ≡ 0) {n₃ : ℕ} (p₃ : n₃ ≡ numberOf (part b 52 4)) where
-      pub zeros-third : (n₃ ≡ 0 → ⊥) → false ≡ sameBytes (replicate 20 0) (drop zerosAt b)
+      pub zeros-third : (n₃ ≡ 0 → ⊥) → false ≡ sameBytes (replicate zerosSize 0) (drop zerosAt b)
       zeros-third d = sym (zero-tests b bytes size ∙ rw (← p₁, ← p₂, ← p₃, eq-eqb n₁ 0 z₁, eq-eqb n₂ 0 z₂, ne-eqb n₃ 0 d))
 
       module _ (z₃ : n₃ ≡ 0) {n₄ : ℕ} (p₄ : n₄ ≡ numberOf (part b 56 4)) where
-        pub zeros-fourth : (n₄ ≡ 0 → ⊥) → false ≡ sameBytes (replicate 20 0) (drop zerosAt b)
+        pub zeros-fourth : (n₄ ≡ 0 → ⊥) → false ≡ sameBytes (replicate zerosSize 0) (drop zerosAt b)
         zeros-fourth d = sym (zero-tests b bytes size ∙ rw (← p₁, ← p₂, ← p₃, ← p₄, eq-eqb n₁ 0 z₁, eq-eqb n₂ 0 z₂, eq-eqb n₃ 0 z₃, ne-eqb n₄ 0 d))
 
-        pub zeros-decided : {n₅ : ℕ} → n₄ ≡ 0 → n₅ ≡ numberOf (part b 60 4) → eqb n₅ 0 ≡ sameBytes (replicate 20 0) (drop zerosAt b)
+        pub zeros-decided : {n₅ : ℕ} → n₄ ≡ 0 → n₅ ≡ numberOf (part b 60 4) → eqb n₅ 0 ≡ sameBytes (replicate zerosSize 0) (drop zerosAt b)
         zeros-decided z₄ p₅ = sym (zero-tests b bytes size ∙ rw (← p₁, ← p₂, ← p₃, ← p₄, ← p₅, eq-eqb n₁ 0 z₁, eq-eqb n₂ 0 z₂, eq-eqb n₃ 0 z₃, eq-eqb n₄ 0 z₄))

@@ -2,13 +2,17 @@
 use buffer::read16;
 use buffer::read32;
 use buffer::write16;
+use decoding::state_of;
 use encoding::write_pair;
+use encoding::write_state;
 use encoding::write_three;
 use memory::Header;
 use memory::OUTSTANDING_COUNT_AT;
 use memory::Phase;
 use memory::QUEUED_AT;
 use memory::Round;
+use memory::STATE_AT;
+use memory::STATE_SIZE;
 use memory::Settings;
 use model::LeadTimes;
 use model::State;
@@ -30,7 +34,7 @@ pub fn read_header(memory: &[u8]) -> Header
     Header {
         settings,
         state,
-        agreed: read32(memory, 20),
+        agreed: read32(memory, 18),
         round,
         queued: read16(memory, QUEUED_AT),
         outstanding: read16(memory, OUTSTANDING_COUNT_AT),
@@ -45,7 +49,7 @@ pub fn read_settings(memory: &[u8]) -> Settings
         n: memory[0],
         own: memory[1],
         supplier: memory[2],
-        last: read32(memory, 16),
+        last: read32(memory, 14),
         q: read16(memory, 6),
         u: read16(memory, 8),
         hours: read_hours(memory),
@@ -57,9 +61,9 @@ fn read_hours(memory: &[u8]) -> LeadTimes
     ensures { λ r. ⌜ r ≡ headerAt (now (memory .entry)) .settings .hours ⌝ }
 {
     LeadTimes {
-        request: read32(memory, 40),
-        delivery: read32(memory, 44),
-        life: read32(memory, 48),
+        request: read32(memory, 26),
+        delivery: read32(memory, 30),
+        life: read32(memory, 34),
     }
 }
 
@@ -67,12 +71,7 @@ fn read_state(memory: &[u8]) -> State
     requires { ⌜ headerUsed ≤ length (now memory) ⌝ }
     ensures { λ r. ⌜ r ≡ headerAt (now (memory .entry)) .state ⌝ }
 {
-    State {
-        stock: read16(memory, 14),
-        failed: read32(memory, 28),
-        fitted: read32(memory, 32),
-        short: read32(memory, 36),
-    }
+    state_of(&memory[STATE_AT..STATE_AT + STATE_SIZE])
 }
 
 fn read_round(memory: &[u8]) -> Round
@@ -83,7 +82,7 @@ fn read_round(memory: &[u8]) -> Round
     Round {
         phase,
         arrived: memory[4],
-        note: read32(memory, 24),
+        note: read32(memory, 22),
     }
 }
 
@@ -117,16 +116,10 @@ pub fn write_header(memory: &mut [u8], header: Header)
     let state = header.state;
     let round = header.round;
     write_front(memory, settings, round);
-    write_counts(
-        memory,
-        settings,
-        header.queued,
-        header.outstanding,
-        state.stock,
-    );
-    write_three(memory, 16, settings.last, header.agreed, round.note);
-    write_three(memory, 28, state.failed, state.fitted, state.short);
-    write_three(memory, 40, hours.request, hours.delivery, hours.life);
+    write_counts(memory, settings, header.queued, header.outstanding);
+    write_three(memory, 14, settings.last, header.agreed, round.note);
+    write_three(memory, 26, hours.request, hours.delivery, hours.life);
+    write_state(memory, STATE_AT, state);
 }
 
 // The numbers of one byte, before byte 5.
@@ -141,13 +134,12 @@ fn write_front(memory: &mut [u8], settings: Settings, round: Round)
 }
 
 // The numbers of two bytes.
-fn write_counts(memory: &mut [u8], settings: Settings, queued: u16, outstanding: u16, stock: u16)
-    requires { ⌜ 16 ≤ length (now memory) ⌝ }
-    ensures { λ _. ⌜ now (memory .exit) ≡ write backAt (countBytes settings queued outstanding stock) (now (memory .entry)) ⌝ }
+fn write_counts(memory: &mut [u8], settings: Settings, queued: u16, outstanding: u16)
+    requires { ⌜ 14 ≤ length (now memory) ⌝ }
+    ensures { λ _. ⌜ now (memory .exit) ≡ write backAt (countBytes settings queued outstanding) (now (memory .entry)) ⌝ }
 {
     write16(memory, 6, settings.q);
     write16(memory, 8, settings.u);
     write16(memory, QUEUED_AT, queued);
     write16(memory, OUTSTANDING_COUNT_AT, outstanding);
-    write16(memory, 14, stock);
 }

@@ -16,7 +16,7 @@ use Rattle.buffer.proofs.Writes.{length-part, part-cons, part-nil}
 use Rattle.model.specs.Messages.{originOf, quantityOf, kindOf}
 use Rattle.model.specs.declared.Kind.{Kind}
 use Rattle.model.specs.declared.Kind.the-variants.{Failure, Request, Delivery, Restock, Start, Lvt, Update}
-use Rattle.memory.specs.Layout.{backSize, headerUsed, messageSize, outstandingSize, queueSize, stateSize}
+use Rattle.memory.specs.Layout.{backSize, headerUsed, messageSize, outstandingSize, queueSize, stateAt, stateSize, stockWidth}
 use Rattle.memory.specs.Ranges.{RangedState}
 use Rattle.memory.specs.Codec.{phaseNumber, phaseOf, stateBytes, stateOf, messageOf, entryOf, sentOf, headerAt, headerFront, headerBack, placesAt}
 use Rattle.memory.specs.inside.Fits.{MessageFits, EntryFits, SentFits, HeaderFits}
@@ -60,18 +60,19 @@ kind-read n o q = kind-within (eqb n 0) (eqb n 1) (eqb n 2) (eqb n 3) (eqb n 4) 
 pub state-ranged : (b : List ℕ) → stateSize ≤ length b → Bytes b → RangedState (stateOf b)
 unfolding stateOf
 state-ranged b h bytes = record {
-  stock = number-fits b 0 2 bytes (omega arith);
-  failed = number-fits b 2 4 bytes (omega arith);
-  fitted = number-fits b 6 4 bytes (omega arith);
-  short = number-fits b 10 4 bytes (omega arith);
+  stock = number-fits b 0 stockWidth bytes (omega arith);
+  failed = number-fits b stockWidth 4 bytes (omega arith);
+  fitted = number-fits b (stockWidth + 4) 4 bytes (omega arith);
+  short = number-fits b (stockWidth + 8) 4 bytes (omega arith);
 }
 
 pub state-again : (b : List ℕ) → length b ≡ stateSize → Bytes b → stateBytes (stateOf b) ≡ b
 unfolding stateBytes stateOf
 state-again b h bytes =
-    number-next b bytes 0 2 12 (omega arith)
-    (number-next b bytes 2 4 8 (omega arith) (number-next b bytes 6 4 4 (omega arith) (number-again b bytes 10 4 (omega arith))))
-    ∙ part-whole b 14 (omega arith)
+    number-next b bytes 0 stockWidth 12 (omega arith)
+    (number-next b bytes stockWidth 4 8 (omega arith)
+    (number-next b bytes (stockWidth + 4) 4 4 (omega arith) (number-again b bytes (stockWidth + 8) 4 (omega arith))))
+    ∙ part-whole b stateSize (omega arith)
 
 pub message-fits : (b : List ℕ) → messageSize ≤ length b → Bytes b → MessageFits (messageOf b)
 unfolding messageOf
@@ -117,6 +118,9 @@ phase-again (suc (suc zero)) h = refl
 phase-again (suc (suc (suc n))) h = absurd (let z : _≡_ {A = ℕ} 0 1 = omega arith in omega arith)
 
 module _ (m : List ℕ) (bytes : Bytes m) (long : headerUsed ≤ length m) where
+  state-size : length (part m stateAt stateSize) ≡ stateSize
+  state-size = length-part m stateAt stateSize (omega arith)
+
   pub header-fits : HeaderFits (headerAt m)
   unfolding headerAt
   header-fits = record {
@@ -124,23 +128,18 @@ module _ (m : List ℕ) (bytes : Bytes m) (long : headerUsed ≤ length m) where
       n = bytes 0;
       own = bytes 1;
       supplier = bytes 2;
-      last = number-fits m 16 4 bytes (omega arith);
+      last = number-fits m 14 4 bytes (omega arith);
       q = number-fits m 6 2 bytes (omega arith);
       u = number-fits m 8 2 bytes (omega arith);
       hours = record {
-        request = number-fits m 40 4 bytes (omega arith);
-        delivery = number-fits m 44 4 bytes (omega arith);
-        life = number-fits m 48 4 bytes (omega arith);
+        request = number-fits m 26 4 bytes (omega arith);
+        delivery = number-fits m 30 4 bytes (omega arith);
+        life = number-fits m 34 4 bytes (omega arith);
       };
     };
-    state = record {
-      stock = number-fits m 14 2 bytes (omega arith);
-      failed = number-fits m 28 4 bytes (omega arith);
-      fitted = number-fits m 32 4 bytes (omega arith);
-      short = number-fits m 36 4 bytes (omega arith);
-    };
-    agreed = number-fits m 20 4 bytes (omega arith);
-    round = record { arrived = bytes 4; note = number-fits m 24 4 bytes (omega arith) };
+    state = state-ranged (part m stateAt stateSize) (omega (arith, state-size)) (bytes-part m stateAt stateSize bytes);
+    agreed = number-fits m 18 4 bytes (omega arith);
+    round = record { arrived = bytes 4; note = number-fits m 22 4 bytes (omega arith) };
     queued = number-fits m 10 2 bytes (omega arith);
     outstanding = number-fits m 12 2 bytes (omega arith);
   }
@@ -155,17 +154,14 @@ module _ (m : List ℕ) (bytes : Bytes m) (long : headerUsed ≤ length m) where
   pub back-again : headerBack (headerAt m) ≡ part m 6 backSize
   unfolding headerBack headerAt
   back-again =
-      number-next m bytes 6 2 44 (omega arith)
-      (number-next m bytes 8 2 42 (omega arith)
-      (number-next m bytes 10 2 40 (omega arith)
-      (number-next m bytes 12 2 38 (omega arith)
-      (number-next m bytes 14 2 36 (omega arith)
-      (number-next m bytes 16 4 32 (omega arith)
-      (number-next m bytes 20 4 28 (omega arith)
-      (number-next m bytes 24 4 24 (omega arith)
-      (number-next m bytes 28 4 20 (omega arith)
-      (number-next m bytes 32 4 16 (omega arith)
-      (number-next m bytes 36 4 12 (omega arith)
-      (number-next m bytes 40 4 8 (omega arith)
-      (number-next m bytes 44 4 4 (omega arith)
-      (number-again m bytes 48 4 (omega arith))))))))))))))
+      number-next m bytes 6 2 (30 + stateSize) (omega arith)
+      (number-next m bytes 8 2 (28 + stateSize) (omega arith)
+      (number-next m bytes 10 2 (26 + stateSize) (omega arith)
+      (number-next m bytes 12 2 (24 + stateSize) (omega arith)
+      (number-next m bytes 14 4 (20 + stateSize) (omega arith)
+      (number-next m bytes 18 4 (16 + stateSize) (omega arith)
+      (number-next m bytes 22 4 (12 + stateSize) (omega arith)
+      (number-next m bytes 26 4 (8 + stateSize) (omega arith)
+      (number-next m bytes 30 4 (4 + stateSize) (omega arith)
+      (number-next m bytes 34 4 stateSize (omega arith)
+      (state-again (part m stateAt stateSize) state-size (bytes-part m stateAt stateSize bytes)))))))))))

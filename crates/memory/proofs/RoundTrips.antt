@@ -18,7 +18,7 @@ use Rattle.model.specs.declared.Kind.{Kind}
 use Rattle.model.specs.declared.Kind.the-variants.{Failure, Request, Delivery, Restock, Start, Lvt, Update}
 use Rattle.model.specs.declared.Message.{Message}
 use Rattle.model.specs.declared.State.{State}
-use Rattle.memory.specs.Layout.{backSize, messageSize, outstandingSize, queueSize, stateSize}
+use Rattle.memory.specs.Layout.{backSize, messageSize, outstandingSize, queueSize, stateSize, stockWidth, zerosSize}
 use Rattle.memory.specs.Ranges.{RangedState}
 use Rattle.memory.specs.Codec.{markNumber, markOf, phaseNumber, phaseOf, cancelNumber, stateBytes, stateOf, messageBytes, messageOf}
 use Rattle.memory.specs.Codec.{entryBytes, entryOf, sentBytes, sentOf, headerAt, headerFront, headerBack}
@@ -70,7 +70,7 @@ cancel-back false = refl
 pub state-back : (s : State) → RangedState s → stateOf (stateBytes s) ≡ s
 unfolding stateBytes stateOf bytesOf part
 state-back s r = λ i. record {
-  stock = number-of-bytes 2 (s .stock) (r .stock) i;
+  stock = number-of-bytes stockWidth (s .stock) (r .stock) i;
   failed = number-of-bytes 4 (s .failed) (r .failed) i;
   fitted = number-of-bytes 4 (s .fitted) (r .fitted) i;
   short = number-of-bytes 4 (s .short) (r .short) i;
@@ -106,9 +106,9 @@ module _ (e : Entry) (r : EntryFits e) where
   saved : part (entryBytes e) messageSize stateSize ≡ stateBytes (e .before)
   unfolding entryBytes
   saved =
-      part-back (messageBytes (markNumber (e .mark)) (e .message)) (stateBytes (e .before) ++ replicate 20 0) messageSize 0 stateSize (length-message
+      part-back (messageBytes (markNumber (e .mark)) (e .message)) (stateBytes (e .before) ++ replicate zerosSize 0) messageSize 0 stateSize (length-message
       (markNumber (e .mark)) (e .message) (r .message .lamp))
-      ∙ part-front (stateBytes (e .before)) (replicate 20 0) stateSize (length-state (e .before))
+      ∙ part-front (stateBytes (e .before)) (replicate zerosSize 0) stateSize (length-state (e .before))
 
   entry-mark : markOf (getD (entryBytes e) 0 0) ≡ e .mark
   unfolding entryBytes messageBytes bytesOf
@@ -116,7 +116,7 @@ module _ (e : Entry) (r : EntryFits e) where
 
   entry-message : messageOf (entryBytes e) ≡ e .message
   unfolding entryBytes
-  entry-message = message-back (markNumber (e .mark)) (e .message) (stateBytes (e .before) ++ replicate 20 0) (r .message)
+  entry-message = message-back (markNumber (e .mark)) (e .message) (stateBytes (e .before) ++ replicate zerosSize 0) (r .message)
 
   pub entry-kept : ReadBack entryBytes entryOf queueSize e
   unfolding entryOf
@@ -156,8 +156,11 @@ module _ (h : Header) (r : HeaderFits h) (m : List ℕ) (front : part m 0 5 ≡ 
   header-byte : (k x : ℕ) → k < 5 → getD (headerFront h) k 0 ≡ x / 256 ^ 0 % 256 → x < 256 → getD m (0 + k) 0 ≡ x
   header-byte k x lt e small = sym (getD-part m 0 5 k lt) ∙ (ap (λ l. getD l k 0) front ∙ (e ∙ byte-back x small))
 
+  header-part : (k n : ℕ) → k + n ≤ backSize → part m (6 + k) n ≡ part (headerBack h) k n
+  header-part k n lt = sym (part-part m 6 backSize k n lt) ∙ ap (λ l. part l k n) back
+
   header-number : (k n x : ℕ) → k + n ≤ backSize → part (headerBack h) k n ≡ bytesOf n x → x < 256 ^ n → numberOf (part m (6 + k) n) ≡ x
-  header-number k n x lt e small = ap numberOf (sym (part-part m 6 backSize k n lt) ∙ (ap (λ l. part l k n) back ∙ e)) ∙ number-of-bytes n x small
+  header-number k n x lt e small = ap numberOf (header-part k n lt ∙ e) ∙ number-of-bytes n x small
 
   pub phase-byte : getD m 3 0 ≡ phaseNumber (h .round .phase)
   unfolding headerFront bytesOf
@@ -170,26 +173,21 @@ module _ (h : Header) (r : HeaderFits h) (m : List ℕ) (front : part m 0 5 ≡ 
       n = header-byte 0 (h .settings .n) (lit< tt) refl (r .settings .n) i;
       own = header-byte 1 (h .settings .own) (lit< tt) refl (r .settings .own) i;
       supplier = header-byte 2 (h .settings .supplier) (lit< tt) refl (r .settings .supplier) i;
-      last = header-number 10 4 (h .settings .last) (lit≤ tt) refl (r .settings .last) i;
+      last = header-number 8 4 (h .settings .last) (lit≤ tt) refl (r .settings .last) i;
       q = header-number 0 2 (h .settings .q) (lit≤ tt) refl (r .settings .q) i;
       u = header-number 2 2 (h .settings .u) (lit≤ tt) refl (r .settings .u) i;
       hours = record {
-        request = header-number 34 4 (h .settings .hours .request) (lit≤ tt) refl (r .settings .hours .request) i;
-        delivery = header-number 38 4 (h .settings .hours .delivery) (lit≤ tt) refl (r .settings .hours .delivery) i;
-        life = header-number 42 4 (h .settings .hours .life) (lit≤ tt) refl (r .settings .hours .life) i;
+        request = header-number 20 4 (h .settings .hours .request) (lit≤ tt) refl (r .settings .hours .request) i;
+        delivery = header-number 24 4 (h .settings .hours .delivery) (lit≤ tt) refl (r .settings .hours .delivery) i;
+        life = header-number 28 4 (h .settings .hours .life) (lit≤ tt) refl (r .settings .hours .life) i;
       };
     };
-    state = record {
-      stock = header-number 8 2 (h .state .stock) (lit≤ tt) refl (r .state .stock) i;
-      failed = header-number 22 4 (h .state .failed) (lit≤ tt) refl (r .state .failed) i;
-      fitted = header-number 26 4 (h .state .fitted) (lit≤ tt) refl (r .state .fitted) i;
-      short = header-number 30 4 (h .state .short) (lit≤ tt) refl (r .state .short) i;
-    };
-    agreed = header-number 14 4 (h .agreed) (lit≤ tt) refl (r .agreed) i;
+    state = (ap stateOf (header-part 32 stateSize (lit≤ tt)) ∙ state-back (h .state) (r .state)) i;
+    agreed = header-number 12 4 (h .agreed) (lit≤ tt) refl (r .agreed) i;
     round = record {
       phase = (ap phaseOf phase-byte ∙ phase-back (h .round .phase)) i;
       arrived = header-byte 4 (h .round .arrived) (lit< tt) refl (r .round .arrived) i;
-      note = header-number 18 4 (h .round .note) (lit≤ tt) refl (r .round .note) i;
+      note = header-number 16 4 (h .round .note) (lit≤ tt) refl (r .round .note) i;
     };
     queued = header-number 4 2 (h .queued) (lit≤ tt) refl (r .queued) i;
     outstanding = header-number 6 2 (h .outstanding) (lit≤ tt) refl (r .outstanding) i;

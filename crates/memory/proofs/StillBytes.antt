@@ -17,7 +17,7 @@ use Rattle.model.specs.declared.State.{State}
 use Rattle.frame.specs.Kinds.{hasLamp}
 use Rattle.frame.specs.Writing.{allBetween, lampFits, wellFormed}
 use Rattle.memory.specs.Records.{Gateway, headerOf}
-use Rattle.memory.specs.Layout.{headerSize, outstandingAt}
+use Rattle.memory.specs.Layout.{headerSize, outstandingAt, stockWidth, zerosSize}
 use Rattle.memory.specs.Codec.{markNumber, phaseNumber, cancelNumber, stateBytes, messageBytes, entryBytes, sentBytes, headerFront, headerBack, encode}
 use Rattle.memory.specs.Validity.{isWaiting, frameIf}
 use Rattle.memory.specs.declared.Header.{Header}
@@ -84,7 +84,7 @@ lamp-bytes cancel m e = by-case (hasLamp (kindNumber (m .kind))) (search (and-le
 -- states, messages, places and the header
 state-bytes : (s : State) → All Byte (stateBytes s)
 unfolding stateBytes
-state-bytes s = with-number 2 (s .stock) (with-number 4 (s .failed) (with-number 4 (s .fitted) (number-bytes 4 (s .short))))
+state-bytes s = with-number stockWidth (s .stock) (with-number 4 (s .failed) (with-number 4 (s .fitted) (number-bytes 4 (s .short))))
 
 message-bytes : (mark : ℕ) (m : Message) → All Byte (m .lamp) → All Byte (messageBytes mark m)
 unfolding messageBytes
@@ -100,7 +100,7 @@ message-bytes mark m p =
 
 entry-bytes : (e : Entry) → All Byte (e .message .lamp) → All Byte (entryBytes e)
 unfolding entryBytes
-entry-bytes e p = all-append (message-bytes (markNumber (e .mark)) (e .message) p) (all-append (state-bytes (e .before)) (zeros 20))
+entry-bytes e p = all-append (message-bytes (markNumber (e .mark)) (e .message) p) (all-append (state-bytes (e .before)) (zeros zerosSize))
 
 sent-bytes : (s : Sent) → All Byte (s .message .lamp) → All Byte (sentBytes s)
 unfolding sentBytes
@@ -122,16 +122,12 @@ back-bytes h =
     (with-number 2 (h .settings .u)
     (with-number 2 (h .queued)
     (with-number 2 (h .outstanding)
-    (with-number 2 (h .state .stock)
     (with-number 4 (h .settings .last)
     (with-number 4 (h .agreed)
     (with-number 4 (h .round .note)
-    (with-number 4 (h .state .failed)
-    (with-number 4 (h .state .fitted)
-    (with-number 4 (h .state .short)
     (with-number 4 (h .settings .hours .request)
     (with-number 4 (h .settings .hours .delivery)
-    (number-bytes 4 (h .settings .hours .life))))))))))))))
+    (with-number 4 (h .settings .hours .life) (state-bytes (h .state)))))))))))
 
 pub encode-bytes : (g : Gateway) (m : List ℕ) → Valid g → Bytes m → Bytes (encode g m)
 unfolding encode

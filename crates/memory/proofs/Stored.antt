@@ -13,10 +13,10 @@ use Rattle.buffer.proofs.Numbers.{length-bytesOf}
 use Rattle.model.specs.Messages.{kindNumber, originOf, quantityOf}
 use Rattle.model.specs.declared.Message.{Message}
 use Rattle.model.specs.declared.State.{State}
-use Rattle.memory.specs.Layout.{headerUsed, messageSize, outstandingSize, queueSize, stateSize, zerosAt}
+use Rattle.memory.specs.Layout.{headerUsed, messageSize, outstandingSize, queueSize, stateAt, stateSize, stockWidth, zerosAt, zerosSize}
 use Rattle.memory.specs.Codec.{markOf, phaseOf, markNumber, phaseNumber, cancelNumber, stateBytes, messageBytes, entryBytes}
 use Rattle.memory.specs.Codec.{sentBytes, headerFront, headerBack}
-use Rattle.memory.specs.inside.Pieces.{threeBytes}
+use Rattle.memory.specs.inside.Pieces.{threeBytes, countBytes}
 use Rattle.memory.specs.declared.Header.{Header}
 use Rattle.memory.specs.declared.Entry.{Entry}
 use Rattle.memory.specs.declared.Sent.{Sent}
@@ -65,33 +65,28 @@ three-stored m at a b c fits p q r =
     )
     (simp append-assoc)
 
--- five numbers of two bytes
-pub five-stored : (m : List ℕ) (at a b c d e : ℕ) {m₁ m₂ m₃ m₄ m₅ : List ℕ} → at + 10 ≤ length m
+-- four numbers of two bytes
+pub four-stored : (m : List ℕ) (at a b c d : ℕ) {m₁ m₂ m₃ m₄ : List ℕ} → at + 8 ≤ length m
     → m₁ ≡ write at (bytesOf 2 a) m → m₂ ≡ write (at + 2) (bytesOf 2 b) m₁ → m₃ ≡ write (at + 4) (bytesOf 2 c) m₂
-    → m₄ ≡ write (at + 6) (bytesOf 2 d) m₃ → m₅ ≡ write (at + 8) (bytesOf 2 e) m₄
-    → m₅ ≡ write at (bytesOf 2 a ++ (bytesOf 2 b ++ (bytesOf 2 c ++ (bytesOf 2 d ++ bytesOf 2 e)))) m
-five-stored m at a b c d e fits p q r t u =
-    u
+    → m₄ ≡ write (at + 6) (bytesOf 2 d) m₃
+    → m₄ ≡ write at (bytesOf 2 a ++ (bytesOf 2 b ++ (bytesOf 2 c ++ bytesOf 2 d))) m
+four-stored m at a b c d fits p q r t =
+    t
     ∙ rw (
-      t,
       r,
       q,
       p,
       write-behind at 2 (at + 2) (bytesOf 2 a) (bytesOf 2 b) m (length-bytesOf 2 a) refl (omega arith),
       write-behind at 4 (at + 4) (bytesOf 2 a ++ bytesOf 2 b) (bytesOf 2 c) m (simp (length-append, length-bytesOf)) refl (omega arith),
       write-behind at 6 (at + 6) ((bytesOf 2 a ++ bytesOf 2 b) ++ bytesOf 2 c) (bytesOf 2 d) m (simp (length-append, length-bytesOf)) refl (omega arith),
-      write-behind at 8 (at + 8) (((bytesOf 2 a ++ bytesOf 2 b) ++ bytesOf 2 c) ++ bytesOf 2 d) (bytesOf 2 e) m (simp (
-        length-append,
-        length-bytesOf,
-      )) refl (omega arith),
     )
     (simp append-assoc)
 
 pub state-stored : (m : List ℕ) (at : ℕ) (s : State) {m₁ m₂ : List ℕ} → at + stateSize ≤ length m
-    → m₁ ≡ write at (bytesOf 2 (s .stock)) m → m₂ ≡ write (at + 2) (bytesOf 4 (s .failed) ++ (bytesOf 4 (s .fitted) ++ bytesOf 4 (s .short))) m₁
+    → m₁ ≡ write at (bytesOf stockWidth (s .stock)) m → m₂ ≡ write (at + stockWidth) (bytesOf 4 (s .failed) ++ (bytesOf 4 (s .fitted) ++ bytesOf 4 (s .short))) m₁
     → m₂ ≡ write at (stateBytes s) m
 unfolding stateBytes
-state-stored m at s fits p q = q ∙ rw p (write-behind at 2 (at + 2) (bytesOf 2 (s .stock)) _ m (length-bytesOf 2 (s .stock)) refl (omega arith))
+state-stored m at s fits p q = q ∙ rw p (write-behind at stockWidth (at + stockWidth) (bytesOf stockWidth (s .stock)) _ m (length-bytesOf stockWidth (s .stock)) refl (omega arith))
 
 pub length-state : (s : State) → length (stateBytes s) ≡ stateSize
 unfolding stateBytes
@@ -139,7 +134,7 @@ length-entry e h = simp (length-append, length-bytesOf) (omega arith)
 pub entry-stored : (m : List ℕ) (at : ℕ) (e : Entry) {m₁ m₂ m₃ : List ℕ} {mark : ℕ} → length (e .message .lamp) ≡ 18 → at + queueSize ≤ length m →
     mark ≡ markNumber (e .mark)
     → m₁ ≡ write at (messageBytes mark (e .message)) m → m₂ ≡ write (at + messageSize) (stateBytes (e .before)) m₁ → m₃ ≡ write (at +
-    zerosAt) (replicate 20 0) m₂
+    zerosAt) (replicate zerosSize 0) m₂
     → m₃ ≡ write at (entryBytes e) m
 unfolding entryBytes
 entry-stored m at e size fits mark p q r =
@@ -151,7 +146,7 @@ entry-stored m at e size fits mark p q r =
       p,
       mark,
       write-behind at messageSize (at + messageSize) a (stateBytes (e .before)) m l refl (omega arith),
-      write-behind at zerosAt (at + zerosAt) (a ++ stateBytes (e .before)) (replicate 20 0) m (simp (length-append, length-bytesOf) (omega
+      write-behind at zerosAt (at + zerosAt) (a ++ stateBytes (e .before)) (replicate zerosSize 0) m (simp (length-append, length-bytesOf) (omega
           arith)) refl (omega arith),
     )
     (simp append-assoc)
@@ -176,18 +171,16 @@ sent-stored m at s size fits number p q =
 pub header-stored : (m : List ℕ) (h : Header) {m₁ m₂ m₃ m₄ m₅ : List ℕ} → headerUsed ≤ length m
     → m₁ ≡ write 0 (bytesOf 1 (h .settings .n) ++ (bytesOf 1 (h .settings .own) ++ (bytesOf 1 (h .settings .supplier) ++ (bytesOf 1
     (phaseNumber (h .round .phase)) ++ bytesOf 1 (h .round .arrived))))) m
-    → m₂ ≡ write 6 (bytesOf 2 (h .settings .q) ++ (bytesOf 2 (h .settings .u) ++ (bytesOf 2 (h .queued) ++ (bytesOf 2 (h .outstanding) ++
-    bytesOf 2 (h .state .stock))))) m₁
-    → m₃ ≡ write 16 (threeBytes (h .settings .last) (h .agreed) (h .round .note)) m₂
-    → m₄ ≡ write 28 (threeBytes (h .state .failed) (h .state .fitted) (h .state .short)) m₃
-    → m₅ ≡ write 40 (threeBytes (h .settings .hours .request) (h .settings .hours .delivery) (h .settings .hours .life)) m₄
+    → m₂ ≡ write 6 (countBytes (h .settings) (h .queued) (h .outstanding)) m₁
+    → m₃ ≡ write 14 (threeBytes (h .settings .last) (h .agreed) (h .round .note)) m₂
+    → m₄ ≡ write 26 (threeBytes (h .settings .hours .request) (h .settings .hours .delivery) (h .settings .hours .life)) m₃
+    → m₅ ≡ write stateAt (stateBytes (h .state)) m₄
     → m₅ ≡ write 6 (headerBack h) (write 0 (headerFront h) m)
 unfolding headerFront headerBack
 header-stored m h fits p q r t u =
-    let counts = bytesOf 2 (h .settings .q) ++ (bytesOf 2 (h .settings .u) ++ (bytesOf 2 (h .queued) ++ (bytesOf 2 (h .outstanding) ++
-    bytesOf 2 (h .state .stock)))) in
+    let counts = countBytes (h .settings) (h .queued) (h .outstanding) in
     let times = threeBytes (h .settings .last) (h .agreed) (h .round .note) in
-    let counters = threeBytes (h .state .failed) (h .state .fitted) (h .state .short) in
+    let hours = threeBytes (h .settings .hours .request) (h .settings .hours .delivery) (h .settings .hours .life) in
     let front = bytesOf 1 (h .settings .n) ++ (bytesOf 1 (h .settings .own) ++ (bytesOf 1 (h .settings .supplier) ++ (bytesOf 1 (phaseNumber
     (h .round .phase)) ++ bytesOf 1 (h .round .arrived)))) in
     let five : length front ≡ 5 = simp (length-append, length-bytesOf) in
@@ -198,9 +191,9 @@ header-stored m h fits p q r t u =
       r,
       q,
       p,
-      write-behind 6 10 16 counts times (write 0 front m) (simp (length-append, length-bytesOf)) refl (omega arith),
-      write-behind 6 22 28 (counts ++ times) counters (write 0 front m) (simp (length-append, length-bytesOf)) refl (omega arith),
-      write-behind 6 34 40 ((counts ++ times) ++ counters) _ (write 0 front m) (simp (length-append, length-bytesOf)) refl (omega arith),
+      write-behind 6 8 14 counts times (write 0 front m) (simp (length-append, length-bytesOf)) refl (omega arith),
+      write-behind 6 20 26 (counts ++ times) hours (write 0 front m) (simp (length-append, length-bytesOf)) refl (omega arith),
+      write-behind 6 32 stateAt ((counts ++ times) ++ hours) _ (write 0 front m) (simp (length-append, length-bytesOf)) refl (omega arith),
     )
     (simp append-assoc)
 

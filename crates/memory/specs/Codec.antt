@@ -12,7 +12,7 @@ use Rattle.model.specs.declared.Message.{Message}
 use Rattle.model.specs.declared.State.{State}
 use Rattle.memory.specs.Records.{Gateway, headerOf}
 use Rattle.memory.specs.Layout.{headerSize, backAt, queuedAt, outstandingCountAt, queueSize, outstandingSize, messageSize, stateSize}
-use Rattle.memory.specs.Layout.{zerosSize, outstandingAt}
+use Rattle.memory.specs.Layout.{stockWidth, stateAt, zerosSize, outstandingAt}
 use Rattle.memory.specs.declared.Header.{Header}
 use Rattle.memory.specs.declared.Entry.{Entry}
 use Rattle.memory.specs.declared.Sent.{Sent}
@@ -43,15 +43,15 @@ cancelNumber cancel = cond cancel 1 0
 
 -- a state's bytes
 unfoldable pub stateBytes : State → List ℕ
-stateBytes s = bytesOf 2 (s .stock) ++ (bytesOf 4 (s .failed) ++ (bytesOf 4 (s .fitted) ++ bytesOf 4 (s .short)))
+stateBytes s = bytesOf stockWidth (s .stock) ++ (bytesOf 4 (s .failed) ++ (bytesOf 4 (s .fitted) ++ bytesOf 4 (s .short)))
 
--- the state that fourteen bytes hold
+-- the state that they hold
 unfoldable pub stateOf : List ℕ → State
 stateOf b = record {
-  stock = numberOf (part b 0 2);
-  failed = numberOf (part b 2 4);
-  fitted = numberOf (part b 6 4);
-  short = numberOf (part b 10 4);
+  stock = numberOf (part b 0 stockWidth);
+  failed = numberOf (part b stockWidth 4);
+  fitted = numberOf (part b (stockWidth + 4) 4);
+  short = numberOf (part b (stockWidth + 8) 4);
 }
 
 -- a stored message's bytes, behind those of its mark
@@ -99,24 +99,20 @@ sentOf b = record { message = messageOf b; cancel = eqb (getD b 0 0) 1 }
 
 -- the header that the memory's first bytes hold
 unfoldable pub headerAt : List ℕ → Header
+unfolding stateOf
 headerAt m = record {
   settings = record {
     n = getD m 0 0;
     own = getD m 1 0;
     supplier = getD m 2 0;
-    last = numberOf (part m 16 4);
+    last = numberOf (part m 14 4);
     q = numberOf (part m 6 2);
     u = numberOf (part m 8 2);
-    hours = record { request = numberOf (part m 40 4); delivery = numberOf (part m 44 4); life = numberOf (part m 48 4) };
+    hours = record { request = numberOf (part m 26 4); delivery = numberOf (part m 30 4); life = numberOf (part m 34 4) };
   };
-  state = record {
-    stock = numberOf (part m 14 2);
-    failed = numberOf (part m 28 4);
-    fitted = numberOf (part m 32 4);
-    short = numberOf (part m 36 4);
-  };
-  agreed = numberOf (part m 20 4);
-  round = record { phase = phaseOf (getD m 3 0); arrived = getD m 4 0; note = numberOf (part m 24 4) };
+  state = stateOf (part m stateAt stateSize);
+  agreed = numberOf (part m 18 4);
+  round = record { phase = phaseOf (getD m 3 0); arrived = getD m 4 0; note = numberOf (part m 22 4) };
   queued = numberOf (part m queuedAt 2);
   outstanding = numberOf (part m outstandingCountAt 2);
 }
@@ -131,21 +127,19 @@ headerFront h =
     ++ bytesOf 1 (h .round .arrived))))
 
 unfoldable pub headerBack : Header → List ℕ
+unfolding stateBytes
 headerBack h =
     bytesOf 2 (h .settings .q)
     ++ (bytesOf 2 (h .settings .u)
     ++ (bytesOf 2 (h .queued)
     ++ (bytesOf 2 (h .outstanding)
-    ++ (bytesOf 2 (h .state .stock)
     ++ (bytesOf 4 (h .settings .last)
     ++ (bytesOf 4 (h .agreed)
     ++ (bytesOf 4 (h .round .note)
-    ++ (bytesOf 4 (h .state .failed)
-    ++ (bytesOf 4 (h .state .fitted)
-    ++ (bytesOf 4 (h .state .short)
     ++ (bytesOf 4 (h .settings .hours .request)
     ++ (bytesOf 4 (h .settings .hours .delivery)
-    ++ bytesOf 4 (h .settings .hours .life)))))))))))))
+    ++ (bytesOf 4 (h .settings .hours .life)
+    ++ stateBytes (h .state))))))))))
 
 -- count places of size bytes from position at on, each read by f
 unfoldable pub placesAt : {A : Type 0} → (List ℕ → A) → ℕ → List ℕ → ℕ → ℕ → List A

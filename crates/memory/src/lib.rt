@@ -16,12 +16,14 @@ pub const MESSAGE_SIZE: usize = 30;
 
 pub const STATE_SIZE: usize = 14;
 
-pub const ZEROS_AT: usize = 44;
+pub const ZEROS_AT: usize = MESSAGE_SIZE + STATE_SIZE;
 
-// Where the header counts the queue places and the outstanding places that are used.
+// Where the header counts the queue places and the outstanding places that are used, and where its state stands.
 pub const QUEUED_AT: usize = 10;
 
 pub const OUTSTANDING_COUNT_AT: usize = 12;
+
+pub const STATE_AT: usize = 38;
 
 // What set up was told. The letters are document 01's: n gateways, last hour H, q queue places, u outstanding places; then the lead times.
 pub struct Settings {

@@ -8,7 +8,7 @@ use Rattle.buffer.specs.Slice.{write}
 use Rattle.buffer.specs.Number.{bytesOf}
 use Rattle.buffer.proofs.Numbers.{length-bytesOf}
 use Rattle.memory.specs.Layout.{headerUsed}
-use Rattle.memory.specs.Codec.{headerFront, headerBack}
+use Rattle.memory.specs.Codec.{stateBytes, headerFront, headerBack}
 use Rattle.memory.specs.declared.Header.{Header}
 use Rattle.memory.proofs.RoundTrips.{length-front}
 use Rattle.buffer.proofs.Standing.{Stands, write-stands, write-replaced}
@@ -29,16 +29,13 @@ module _ (h : Header) (m : List ℕ) (long : headerUsed ≤ length m) (front : S
   -- what stands behind the counts
   abbrev rest : List ℕ
   rest =
-      bytesOf 2 (h .state .stock)
-      ++ (bytesOf 4 (h .settings .last)
+      bytesOf 4 (h .settings .last)
       ++ (bytesOf 4 (h .agreed)
       ++ (bytesOf 4 (h .round .note)
-      ++ (bytesOf 4 (h .state .failed)
-      ++ (bytesOf 4 (h .state .fitted)
-      ++ (bytesOf 4 (h .state .short)
       ++ (bytesOf 4 (h .settings .hours .request)
       ++ (bytesOf 4 (h .settings .hours .delivery)
-      ++ bytesOf 4 (h .settings .hours .life)))))))))
+      ++ (bytesOf 4 (h .settings .hours .life)
+      ++ stateBytes (h .state))))))
 
   front-stays : write 0 (headerFront h) m ≡ m
   front-stays = write-stands 0 (headerFront h) m (omega (arith, length-front h)) front

@@ -140,8 +140,8 @@ pub record HoursOfEachGateway : Type 0 where
   pub farTooLong : refusedWith (hours 1 4294967295 43800) ≡ 8
   -- before any frame of the opening list is looked at
   pub beforeFrames : (setUpRefusal (told (hours 0 24 43800)) 640 (63 ∷ []) ≡ 8) × (setUpRefusal (told (hours 1 24 43800)) 640 (63 ∷ []) ≡ 11)
-  -- they stand in the header from byte 40 on, four bytes each; byte 52 stays as it was
-  pub stored : (part (afterSetUp (hours 1 258 1000000)) 40 12 ≡ 0 ∷ 0 ∷ 0 ∷ 1 ∷ 0 ∷ 0 ∷ 1 ∷ 2 ∷ 0 ∷ 15 ∷ 66 ∷ 64 ∷ [])
+  -- they stand in the header from byte 26 on, four bytes each; byte 52, behind the header, stays as it was
+  pub stored : (part (afterSetUp (hours 1 258 1000000)) 26 12 ≡ 0 ∷ 0 ∷ 0 ∷ 1 ∷ 0 ∷ 0 ∷ 1 ∷ 2 ∷ 0 ∷ 15 ∷ 66 ∷ 64 ∷ [])
       × (getD (afterSetUp (hours 1 258 1000000)) 52 0 ≡ 7)
   -- memory with hours in their range is sound; 10 where one is 0 or 1,000,001
   pub sound : (answerWith (hours 1 1000000 1) ≡ 0) × (answerWith (hours 1000000 1 1000000) ≡ 0)

@@ -16,8 +16,8 @@ write-three-requires c κs = search needs
 write-three-requires-2 : tie.Need-write-three-requires-2
 write-three-requires-2 c κs = search needs
 
-write-three-requires-3 : tie.Need-write-three-requires-3
-write-three-requires-3 c κs = search needs
+write-state-requires : tie.Need-write-state-requires
+write-state-requires c κs = search needs
 
 same-length : tie.Need-same-length
 same-length c = search needs
@@ -33,6 +33,6 @@ write-header-spec =
     write-counts-requires
     write-three-requires
     write-three-requires-2
-    write-three-requires-3
+    write-state-requires
     same-length
     returns)

@@ -19,9 +19,8 @@ smallBytes s r =
     bytesOf 1 (s .n) ++ (bytesOf 1 (s .own) ++ (bytesOf 1 (s .supplier) ++ (bytesOf 1 (phaseNumber (r .phase)) ++ bytesOf 1 (r .arrived))))
 
 -- its numbers of two bytes
-abbrev pub countBytes : Settings → ℕ → ℕ → ℕ → List ℕ
-countBytes s queued outstanding stock =
-    bytesOf 2 (s .q) ++ (bytesOf 2 (s .u) ++ (bytesOf 2 queued ++ (bytesOf 2 outstanding ++ bytesOf 2 stock)))
+abbrev pub countBytes : Settings → ℕ → ℕ → List ℕ
+countBytes s queued outstanding = bytesOf 2 (s .q) ++ (bytesOf 2 (s .u) ++ (bytesOf 2 queued ++ bytesOf 2 outstanding))
 
 -- the memory with a header written over it
 abbrev pub headerWritten : Header → List ℕ → List ℕ
