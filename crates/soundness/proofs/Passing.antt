@@ -9,9 +9,10 @@ use Rattle.lists.specs.Lists.{every}
 use Rattle.buffer.specs.Slice.{part, sameBytes}
 use Rattle.memory.specs.Layout.{headerSize, outstandingSize, queueSize}
 use Rattle.memory.specs.Codec.{entryBytes, entryOf, sentBytes, sentOf, placesAt}
-use Rattle.memory.specs.Validity.{isPending, isProcessed, isWaiting, pendingMark, equal, later, ordered, processedFirst, meet, noneMeet, entryValid, sentValid}
+use Rattle.memory.specs.Validity.{isPending, isProcessed, isWaiting, equal, later, ordered, processedFirst, meet, noneMeet, entryValid, sentValid}
 use Rattle.memory.specs.Soundness.{entryExact, sentExact}
-use Rattle.soundness.specs.inside.Passes.{entryAccepted, queueSound, outstandingSound}
+use Rattle.soundness.specs.inside.Passes.{nonePassed, passedOn, entryAccepted, queueSound, outstandingSound}
+use Rattle.soundness.specs.declared.Passed.{Passed}
 use Rattle.memory.specs.declared.Settings.{Settings}
 use Rattle.memory.specs.declared.Entry.{Entry}
 use Rattle.memory.specs.declared.Sent.{Sent}
@@ -75,30 +76,30 @@ none-meet-twice : (e : Entry) (es : List Entry) → noneMeet (e ∷ e ∷ es) �
 unfolding noneMeet
 none-meet-twice e es = rw (no-meeting e)
 
--- the queue's pass, behind an entry; `seen`: an unprocessed plain message was passed
-unfoldable pub passed : Settings → Entry → Bool → List (List ℕ) → Bool
-passed s before seen [] = true
-passed s before seen (b ∷ bs) = entryExact b && (entryAccepted s before seen (entryOf b) && passed s (entryOf b) (seen || isPending (entryOf b)) bs)
+-- the queue's pass, behind an entry
+unfoldable pub passed : Settings → Entry → Passed → List (List ℕ) → Bool
+passed s before p [] = true
+passed s before p (b ∷ bs) = entryExact b && (entryAccepted s before p (entryOf b) && passed s (entryOf b) (passedOn p (entryOf b)) bs)
 
-passed-each : (s : Settings) (before : Entry) (seen : Bool) (bs : List (List ℕ))
-    → passed s before seen bs
-    ≡ (every entryExact bs && (every (entryValid s) (map entryOf bs) && (ordered (before ∷ map entryOf bs) && (processedFirst seen (map
+passed-each : (s : Settings) (before : Entry) (p : Passed) (bs : List (List ℕ))
+    → passed s before p bs
+    ≡ (every entryExact bs && (every (entryValid s) (map entryOf bs) && (ordered (before ∷ map entryOf bs) && (processedFirst (p .pending) (map
     entryOf bs) && noneMeet (before ∷ map entryOf bs)))))
 unfolding passed every ordered processedFirst noneMeet entryAccepted
-passed-each s before seen [] = refl
-passed-each s before seen (b ∷ bs) =
+passed-each s before p [] = refl
+passed-each s before p (b ∷ bs) =
     let e = entryOf b in
     let es = map entryOf bs in
-    rw (passed-each s e (seen || isPending e) bs)
-    (gathered (entryExact b) (entryValid s e) (not (later (before .message) (e .message))) (not (seen && isProcessed e)) (not (meet before e))
-    (every entryExact bs) (every (entryValid s) es) (ordered (e ∷ es)) (processedFirst (seen || isPending e) es) (noneMeet (e ∷ es)))
+    rw (passed-each s e (passedOn p e) bs)
+    (gathered (entryExact b) (entryValid s e) (not (later (before .message) (e .message))) (not (p .pending && isProcessed e)) (not (meet before e))
+    (every entryExact bs) (every (entryValid s) es) (ordered (e ∷ es)) (processedFirst (p .pending || isPending e) es) (noneMeet (e ∷ es)))
 
-queue-none : (s : Settings) (m : List ℕ) (before : Entry) → queueSound s m 0 ≡ passed s before false []
+queue-none : (s : Settings) (m : List ℕ) (before : Entry) → queueSound s m 0 ≡ passed s before nonePassed []
 unfolding queueSound placesAt every ordered processedFirst noneMeet passed
 queue-none s m before = refl
 
 -- the pass begins with the first entry behind itself
-pub queue-passed : (s : Settings) (m : List ℕ) (count : ℕ) → queueSound s m count ≡ passed s (entryOf (part m headerSize queueSize)) false
+pub queue-passed : (s : Settings) (m : List ℕ) (count : ℕ) → queueSound s m count ≡ passed s (entryOf (part m headerSize queueSize)) nonePassed
     (placesAt (λ b. b) queueSize m headerSize count)
 unfolding queueSound placesAt
 queue-passed s m zero = queue-none s m (entryOf (part m headerSize queueSize))
@@ -106,32 +107,32 @@ queue-passed s m (suc n) =
     let e = entryOf (part m headerSize queueSize) in
     let es = placesAt entryOf queueSize m (headerSize + queueSize) n in
     rw (
-      passed-each s e false (placesAt (λ b. b) queueSize m headerSize (suc n)),
+      passed-each s e nonePassed (placesAt (λ b. b) queueSize m headerSize (suc n)),
       ← places-map entryOf queueSize m headerSize (suc n),
       ordered-twice e es,
       none-meet-twice e es,
     )
 
-pub queue-start : (s : Settings) (m : List ℕ) (count : ℕ) {e : Entry} → e ≡ entryOf (take queueSize (drop headerSize m)) → queueSound s m count ≡ passed s
-    e false (placesAt (λ b. b) queueSize m headerSize count)
+pub queue-start : (s : Settings) (m : List ℕ) (count : ℕ) {e : Entry} {p : Passed} → e ≡ entryOf (take queueSize (drop headerSize m)) → p ≡ nonePassed
+    → queueSound s m count ≡ passed s e p (placesAt (λ b. b) queueSize m headerSize count)
 unfolding part
-queue-start s m count p = queue-passed s m count ∙ ap (λ (e : Entry). passed s e false (placesAt (λ b. b) queueSize m headerSize count)) (sym p)
+queue-start s m count d n = rw (d, n) (queue-passed s m count)
 
-module _ (s : Settings) (m : List ℕ) (at left : ℕ) (seen : Bool) (before : Entry) {whole : Bool}
-    (so-far : whole ≡ passed s before seen (placesAt (λ b. b) queueSize m at left)) where
+module _ (s : Settings) (m : List ℕ) (at left : ℕ) (p : Passed) (before : Entry) {whole : Bool}
+    (so-far : whole ≡ passed s before p (placesAt (λ b. b) queueSize m at left)) where
   pub queue-end : left ≤ 0 → true ≡ whole
   unfolding passed
   queue-end h = sym (so-far ∙ rw (no-place (λ b. b) queueSize m at left h))
 
-  module _ (some : 0 < left) {e : Entry} (p : e ≡ entryOf (take (at + queueSize - at) (drop at m))) {exact : Bool}
+  module _ (some : 0 < left) {e : Entry} (d : e ≡ entryOf (take (at + queueSize - at) (drop at m))) {exact : Bool}
       (q : exact ≡ sameBytes (entryBytes e) (take (at + queueSize - at) (drop at m))) where
     read-as : e ≡ entryOf (part m at queueSize)
-    read-as = rw part-between at p
+    read-as = rw part-between at d
 
     exact-as : exact ≡ entryExact (part m at queueSize)
     exact-as = q ∙ rw (part-between m at queueSize, read-as)
 
-    by-place : whole ≡ (entryExact (part m at queueSize) && (entryAccepted s before seen e && passed s e (seen || isPending e) (placesAt (λ b. b)
+    by-place : whole ≡ (entryExact (part m at queueSize) && (entryAccepted s before p e && passed s e (passedOn p e) (placesAt (λ b. b)
         queueSize m (at + queueSize) (left - 1))))
     unfolding passed
     by-place = so-far ∙ rw (next-place (λ b. b) queueSize m at left some, read-as)
@@ -139,11 +140,11 @@ module _ (s : Settings) (m : List ℕ) (at left : ℕ) (seen : Bool) (before : E
     pub queue-place : not exact ≡ true → false ≡ whole
     queue-place h = sym (by-place ∙ rw (refuted exact-as h))
 
-    module _ (h : not exact ≡ false) {fits : Bool} (f : fits ≡ entryAccepted s before seen e) where
+    module _ (h : not exact ≡ false) {fits : Bool} (f : fits ≡ entryAccepted s before p e) where
       pub queue-entry : not fits ≡ true → false ≡ whole
       queue-entry k = sym (by-place ∙ rw (granted exact-as h, refuted f k))
 
-      pub queue-turn : {next : Bool} → not fits ≡ false → next ≡ (seen || pendingMark (e .mark))
+      pub queue-turn : {next : Passed} → not fits ≡ false → next ≡ passedOn p e
           → whole ≡ passed s e next (placesAt (λ b. b) queueSize m (at + queueSize) (left - 1))
       queue-turn k n = by-place ∙ rw (granted exact-as h, granted f k, n)
 

@@ -30,7 +30,12 @@ ghost use Rattle.memory.specs.Layout.{headerSize, queueSize, outstandingSize, q
 ghost use Rattle.memory.specs.Codec.{headerAt};
 ghost use Rattle.memory.specs.Soundness.{sound};
 ghost use Rattle.memory.specs.inside.Checking.{blankHeader, checkedAs};
-ghost use Rattle.soundness.specs.inside.Passes.{headerSound, entryAccepted, queueSound, outstandingSound};
+ghost use Rattle.soundness.specs.inside.Passes.{headerSound, nonePassed, passedOn, entryAccepted, queueSound, outstandingSound};
+
+// What the pass over the queue carries from place to place: whether an unprocessed plain message was passed.
+pub struct Passed {
+    pub pending: bool,
+}
 
 // Whether lent memory is sound, and its header. To memory that is not, every call answers 10.
 pub fn checked(memory: &[u8]) -> Checked
@@ -132,7 +137,7 @@ fn queue_sound(memory: &[u8], settings: Settings, count: usize) -> bool
     ensures { λ r. ⌜ r ≡ queueSound settings (now (memory .entry)) count ⌝ }
 {
     let mut before = entry_of(&memory[256..320]);
-    let mut seen = false;
+    let mut passed = none_passed();
     let mut at = HEADER_SIZE;
     let mut left = count;
     while left > 0 {
@@ -142,16 +147,32 @@ fn queue_sound(memory: &[u8], settings: Settings, count: usize) -> bool
         if !entry_exact(place, entry) {
             return false;
         }
-        if !entry_fits(settings, before, seen, entry) {
+        if !entry_fits(settings, before, passed, entry) {
             return false;
         }
-        let mark = entry.mark;
-        seen = pending_seen(seen, mark);
+        passed = pass(passed, entry);
         before = entry;
         at += QUEUE_SIZE;
         left -= 1;
     }
     true
+}
+
+// What is carried to the first place.
+fn none_passed() -> Passed
+    ensures { λ r. ⌜ r ≡ nonePassed ⌝ }
+{
+    Passed { pending: false }
+}
+
+// What is carried on behind an entry.
+fn pass(passed: Passed, entry: Entry) -> Passed
+    ensures { λ r. ⌜ r ≡ passedOn passed entry ⌝ }
+{
+    let mark = entry.mark;
+    Passed {
+        pending: pending_seen(passed.pending, mark),
+    }
 }
 
 // One pass: each place in its one form, and what it holds valid.
@@ -178,14 +199,14 @@ fn outstanding_sound(memory: &[u8], settings: Settings, start: usize, count: usi
 }
 
 // Whether an entry is valid and may stand behind another.
-fn entry_fits(settings: Settings, before: Entry, seen: bool, entry: Entry) -> bool
-    ensures { λ r. ⌜ r ≡ entryAccepted settings before seen entry ⌝ }
+fn entry_fits(settings: Settings, before: Entry, passed: Passed, entry: Entry) -> bool
+    ensures { λ r. ⌜ r ≡ entryAccepted settings before passed entry ⌝ }
 {
     let mark = entry.mark;
     if !entry_valid(settings, entry) {
         return false;
     }
-    if processed_behind(seen, mark) {
+    if processed_behind(passed.pending, mark) {
         return false;
     }
     follows(before, entry)

@@ -12,11 +12,11 @@ use Rattle.soundness.proofs.queue_sound.Statement.{statement}
 use Rattle.soundness.proofs.queue_sound.Tie as tie
 
 abbrev Inv-loop : tie.InvT-loop
-Inv-loop memory settings count before₀ seen₀ at₀ left₀ before seen at left = (at + queueSize * left ≤ length memory) × (queueSound settings memory
-    count ≡ passed settings before seen (placesAt (λ b. b) queueSize memory at left))
+Inv-loop memory settings count before₀ passed₀ at₀ left₀ before carried at left = (at + queueSize * left ≤ length memory) × (queueSound settings memory
+    count ≡ passed settings before carried (placesAt (λ b. b) queueSize memory at left))
 
 abbrev μ-loop : tie.MeasureT-loop
-μ-loop memory settings count before₀ seen₀ at₀ left₀ before seen at left = left
+μ-loop memory settings count before₀ passed₀ at₀ left₀ before carried at left = left
 
 sub-entry-of : tie.Need-sub-entry-of Inv-loop μ-loop
 sub-entry-of c = search needs
@@ -29,6 +29,9 @@ part-entry-of-end c = search needs
 
 entry-of-requires : tie.Need-entry-of-requires Inv-loop μ-loop
 entry-of-requires c κs = search needs
+
+none-passed-requires : tie.Need-none-passed-requires Inv-loop μ-loop
+none-passed-requires c κs = search needs
 
 loop-holds : tie.Need-loop-holds Inv-loop μ-loop
 loop-holds c = (omega arith, search queue-start)
@@ -60,8 +63,8 @@ entry-fits-requires c κs = search needs
 returns-2 : tie.Need-returns-2 Inv-loop μ-loop
 returns-2 c = search queue-entry
 
-pending-seen-requires : tie.Need-pending-seen-requires Inv-loop μ-loop
-pending-seen-requires c κs = search needs
+pass-requires : tie.Need-pass-requires Inv-loop μ-loop
+pass-requires c κs = search needs
 
 add-at : tie.Need-add-at Inv-loop μ-loop
 add-at c = search needs
@@ -88,6 +91,7 @@ queue-sound-spec =
     part-entry-of-start
     part-entry-of-end
     entry-of-requires
+    none-passed-requires
     loop-holds
     add-end
     sub-place
@@ -98,7 +102,7 @@ queue-sound-spec =
     returns
     entry-fits-requires
     returns-2
-    pending-seen-requires
+    pass-requires
     add-at
     sub-left
     loop-less

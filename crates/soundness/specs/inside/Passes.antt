@@ -1,21 +1,29 @@
 -- What the internal functions of the test of soundness are proved to compute; no reader has to believe them.
 use Prim.Native.Nat.{ℕ}
-use mathlib.Core.Bool.{Bool, false, not, _&&_}
+use mathlib.Core.Bool.{Bool, false, not, _&&_, _||_}
 use mathlib.Core.List.{List}
 use lib.Dec.{leb}
 use lib.ListN.{length, getD}
 use Rattle.lists.specs.Lists.{every}
 use Rattle.memory.specs.Layout.{headerSize, queueSize, outstandingSize, sizeFor}
 use Rattle.memory.specs.Codec.{headerAt, entryOf, sentOf, placesAt}
-use Rattle.memory.specs.Validity.{settingsValid, isProcessed, ordered, processedFirst, noneMeet, entryValid, sentValid}
+use Rattle.memory.specs.Validity.{settingsValid, isPending, isProcessed, ordered, processedFirst, noneMeet, entryValid, sentValid}
 use Rattle.memory.specs.Soundness.{entryExact, sentExact}
 use Rattle.memory.specs.declared.Settings.{Settings}
 use Rattle.memory.specs.declared.Entry.{Entry}
 use Rattle.following.specs.inside.Follows.{entryFollows}
+use Rattle.soundness.specs.declared.Passed.{Passed}
 
--- an entry behind another; `seen`: an unprocessed plain message was passed
-unfoldable pub entryAccepted : Settings → Entry → Bool → Entry → Bool
-entryAccepted s before seen e = entryValid s e && (not (seen && isProcessed e) && entryFollows before e)
+-- what the pass over the queue carries to the first place, and from a place to the next
+abbrev pub nonePassed : Passed
+nonePassed = record { pending = false }
+
+abbrev pub passedOn : Passed → Entry → Passed
+passedOn p e = record { pending = p .pending || isPending e }
+
+-- an entry behind another, with what is carried to it
+unfoldable pub entryAccepted : Settings → Entry → Passed → Entry → Bool
+entryAccepted s before p e = entryValid s e && (not (p .pending && isProcessed e) && entryFollows before e)
 
 -- the header's tests: long enough for a header, settings in their ranges, long enough for its settings, a phase, no more places used
 -- than there are
