@@ -51,17 +51,18 @@ enum {
     /* An acknowledgment that is equal to nothing outstanding. */
     HURFAITH_NOT_OUTSTANDING = 7,
     /* A setting, request, delivery and life hours among them, a routing number or, at set up, the length of the memory is outside its
-     * range. View: a reader other than 0 and 1, or a record of 2^48 bytes or more. */
+     * range. View: a reader or an old_stock other than 0 and 1, or a record of 2^48 bytes or more. */
     HURFAITH_OUT_OF_RANGE = 8,
     /* A plain message, a cancel or an Lvt below this gateway's agreed time. */
     HURFAITH_BELOW_AGREED_TIME = 9,
     /* The memory is not sound: too short for its settings, or settings (request, delivery and life hours among them), counts, phase or
      * arrivals impossible, the queue not in order, a processed message behind an unprocessed plain one, a waiting cancel beside an equal
-     * plain message, or a stored message of no valid form, number or hour. No call answers 10 to memory that set up made and the other
-     * calls left. */
+     * plain message, a stored message of no valid form, number or hour, or a stock that comes to more than 33,619,455 with the Restocks
+     * still to be done from it: from the stock held the unprocessed ones, from one saved before a processed message that one and those
+     * behind it. No call answers 10 to memory that set up made and the other calls left. */
     HURFAITH_NOT_SOUND = 10,
     /* A frame of fewer than two bytes, or of another length than its map gives: cut, or with bytes too many. In a record also: fewer
-     * than fourteen bytes of state behind a frame. */
+     * than sixteen bytes of state behind a frame, and fewer than fourteen where the stock is the old one. */
     HURFAITH_WRONG_LENGTH = 11,
     /* A lamp with a byte outside 33 to 126. */
     HURFAITH_WRONG_LAMP = 12
@@ -93,6 +94,9 @@ uint32_t hurfaith_route(uint32_t gateways, uint32_t own, uint16_t *neighbours, s
  * frames, one behind the other, plain Failure and Restock only, from and to this gateway; it may be empty. The agreed time is 0.
  * The list is cut by the lengths that the maps give; what is left over at its end is a cut frame.
  *
+ * A Restock adds its quantity, at most 65,535, to the stock, which nothing stops: with an opening stock and 512 Restocks of the most it
+ * comes to 33,619,455, and it never has more.
+ *
  * request_hours, delivery_hours and life_hours are 1 to 1,000,000 each. They are this gateway's own, and other gateways of the forecast
  * may have others; what counts are those of the gateway that does a message:
  *
@@ -122,8 +126,8 @@ uint64_t hurfaith_take(uint8_t *memory, size_t memory_len, const uint8_t *frame,
 uint64_t hurfaith_start(uint8_t *memory, size_t memory_len, uint8_t *out, size_t out_len);
 
 /* Commits the oldest processed event if its hour is below the agreed time: it leaves the queue, and its record is written, its frame
- * and then the state after it (stock 2 bytes; failed, fitted and short 4 each; high byte first). At most 41 bytes.
- * Answers 0, or 10, 6, 5. */
+ * and then the state after it (stock, failed, fitted and short, 4 bytes each, high byte first): 43 bytes for a Failure, a Request or a
+ * Delivery, 26 for a Restock. Answers 0, or 10, 6, 5. */
 uint64_t hurfaith_commit(uint8_t *memory, size_t memory_len, uint8_t *out, size_t out_len);
 
 /* The agreed time: hurfaith_number is 0 and hurfaith_count the hour, or hurfaith_number is 10. `memory` is only read. */
@@ -139,19 +143,29 @@ enum {
     HURFAITH_MAINTENANCE = 1
 };
 
-/* What `reader` sees of `record`, a whole record as the commits of a gateway wrote it, one event behind the other. For each event one
- * byte, the map, then the fields whose bit stands, in bit order, numbers high byte first; a field that the kind lacks is left out:
+/* Which stock a record has. No byte of a record tells it. */
+enum {
+    /* Of four bytes, as hurfaith_commit writes it: the states have sixteen. */
+    HURFAITH_NEW_STOCK = 0,
+    /* Of two bytes, as in records from before the stock had four: the states have fourteen, and the events 41 bytes and, of Restocks,
+     * 24. */
+    HURFAITH_OLD_STOCK = 1
+};
+
+/* What `reader` sees of `record`, a whole record as the commits of a gateway wrote it, one event behind the other, with the stock that
+ * `old_stock` says. For each event one byte, the map, then the fields whose bit stands, in bit order, numbers high byte first; a field
+ * that the kind lacks is left out. An old stock has four bytes in the view too:
  *
- *   HURFAITH_PURCHASING    bits from 0: hour (4 bytes), kind (1), quantity (2), stock (2), failed (4), fitted (4), short (4)
- *                          Failure, Request, Delivery: map 123, 20 bytes; Restock: map 127, 22 bytes
+ *   HURFAITH_PURCHASING    bits from 0: hour (4 bytes), kind (1), quantity (2), stock (4), failed (4), fitted (4), short (4)
+ *                          Failure, Request, Delivery: map 123, 22 bytes; Restock: map 127, 24 bytes
  *   HURFAITH_MAINTENANCE   bits from 0: hour (4 bytes), kind (1), lamp (18), origin (1)
  *                          Failure, Request, Delivery: map 15, 25 bytes; Restock: map 3, 6 bytes
  *
- * The record is read event by event: a frame, cut by the length that its map gives, and the fourteen bytes of the state after it.
- * Answers 0; or 8, looked for first; or 1, 11, 12, 2, 3 or the 11 of a cut state, of the first event that is refused; or 5, looked for
- * where the whole record is good. An empty record gives an empty view. An output as long as the record is enough. `record` is only
- * read. Two records that are taken and agree in the fields of a reader, event by event, give that reader equal bytes. */
-uint64_t hurfaith_view(const uint8_t *record, size_t record_len, uint8_t *out, size_t out_len, uint32_t reader);
+ * The record is read event by event: a frame, cut by the length that its map gives, and the sixteen or fourteen bytes of the state
+ * after it. Answers 0; or 8, looked for first; or 1, 11, 12, 2, 3 or the 11 of a cut state, of the first event that is refused; or 5,
+ * looked for where the whole record is good. An empty record gives an empty view. An output as long as the record is enough. `record`
+ * is only read. Two records that are taken and agree in the fields of a reader, event by event, give that reader equal bytes. */
+uint64_t hurfaith_view(const uint8_t *record, size_t record_len, uint8_t *out, size_t out_len, uint32_t reader, uint32_t old_stock);
 
 #ifdef __cplusplus
 }

@@ -1,4 +1,5 @@
-//! Measures the calls, a round, views of a record, the town's forecast and the program arcs beside plain Rust, in one run, and prints a table.
+//! Measures the calls, the test of memory, a round, views of a record, the town's forecast and the program arcs beside plain Rust, in one
+//! run, and prints a table.
 //!
 //! `bench SCENARIO ARCS` with the town's scenario and the proved program arcs.
 
@@ -9,12 +10,15 @@ mod situations;
 
 use host::carrier::{Forecast, Stopped};
 use host::command::{printed, shown, Arguments, Ending, Program, BAD_FILE};
+use host::record::Stock;
 use host::scenario::Scenario;
 use interface::{Calls, LampPlace, MAINTENANCE, MOST_PLACES, PURCHASING};
 use library::Library;
 use measure::{in_turn, timed, with_unit, Times};
 use plain::Plain;
-use situations::{processed, queued, queued_in_one_hour, request, to_commit, with_sense, AMPLE};
+use situations::{
+    processed, queued, queued_in_one_hour, request, restocked, to_commit, with_sense, AMPLE,
+};
 use std::ffi::OsStr;
 use std::io::{self, Write};
 use std::path::{Path, PathBuf};
@@ -24,9 +28,10 @@ const PROGRAM: Program =
     Program { name: "bench", usage: &["SCENARIO ARCS"], help: HELP, flags: &[], valued: &[] };
 
 const HELP: &str = "\
-Measures the calls of the proved library, a round, views of a record of a megabyte, the forecast of a
-SCENARIO and the program ARCS beside plain Rust that does the same, and prints tables of the times. The
-program plain_arcs stands beside this one. The SCENARIO - is standard input.
+Measures the calls of the proved library, the test whether memory is sound, a round, views of a record
+of a megabyte, with the new stock and with the old one, the forecast of a SCENARIO and the program ARCS
+beside plain Rust that does the same, and prints tables of the times. The program plain_arcs stands
+beside this one. The SCENARIO - is standard input.
 
 Status: 0, 1 if plain Rust does something else than what it is measured beside, 2 for a bad usage, 3
 if a file or program cannot be used or standard output cannot be written.
@@ -57,6 +62,7 @@ fn measure(arguments: &Arguments) -> Result<(), Ending> {
     let mut tables = Tables { out: io::stdout().lock() };
     tables.head()?;
     calls(&mut tables)?;
+    soundness(&mut tables)?;
     for gateways in [22, 255] {
         let what = format!("a full round, N = {gateways}, {QUEUED} queued at each");
         tables.row(&what, round(gateways))?;
@@ -140,6 +146,25 @@ fn calls(tables: &mut Tables<impl Write>) -> Result<(), Ending> {
     tables.row("read the lamp", times)
 }
 
+/// A call that is refused as soon as the memory is found to be sound, on full queues, with the nanoseconds that a place takes the library.
+fn soundness(tables: &mut Tables<impl Write>) -> Result<(), Ending> {
+    let queues = [
+        ("pending Requests", queued(MOST_PLACES)),
+        ("done Requests", processed(MOST_PLACES)),
+        ("pending Restocks", restocked(MOST_PLACES, 0)),
+        ("done Restocks", restocked(MOST_PLACES, MOST_PLACES)),
+    ];
+    for (name, memory) in queues {
+        let times = on_copies(&memory, |calls, memory, output| {
+            output[0] = calls.take(memory, &[], output).number as u8;
+        })?;
+        let each = times.library.as_nanos() as f64 / f64::from(MOST_PLACES);
+        let what = format!("refuse an empty frame, {MOST_PLACES} {name} ({each:.1} ns a place)");
+        tables.row(&what, times)?;
+    }
+    Ok(())
+}
+
 /// The time of one call on fresh copies of a memory. Both implementations must leave the same.
 fn on_copies(
     memory: &[u8],
@@ -185,26 +210,29 @@ fn round(gateways: u32) -> Times {
 
 /// The views of a record of a megabyte, with the megabytes of it that the library reads in a second.
 fn views(tables: &mut Tables<impl Write>) -> Result<(), Ending> {
-    let record = records::record();
-    for (name, reader) in [("purchasing", PURCHASING), ("maintenance", MAINTENANCE)] {
-        let times = view(&record, reader)?;
-        let speed = record.len() as f64 / 1e6 / times.library.as_secs_f64();
-        tables.row(&format!("view for {name}, 1 MB of record ({speed:.0} MB/s)"), times)?;
+    for (kind, stock) in [("record", Stock::New), ("record with the old stock", Stock::Old)] {
+        let record = records::record(stock);
+        for (name, reader) in [("purchasing", PURCHASING), ("maintenance", MAINTENANCE)] {
+            let times = view(&record, reader, stock)?;
+            let speed = record.len() as f64 / 1e6 / times.library.as_secs_f64();
+            tables.row(&format!("view for {name}, 1 MB of {kind} ({speed:.0} MB/s)"), times)?;
+        }
     }
     Ok(())
 }
 
 /// The time of one view of a record. Both implementations must write the same.
-fn view(record: &[u8], reader: u32) -> Result<Times, Ending> {
+fn view(record: &[u8], reader: u32, stock: Stock) -> Result<Times, Ending> {
+    let old_stock = stock.number();
     let seen = |calls: &dyn Calls| {
         let mut output = vec![0; record.len()];
-        (calls.view(record, &mut output, reader), output)
+        (calls.view(record, &mut output, reader, old_stock), output)
     };
     if seen(&Library) != seen(&Plain) {
         return Err(Ending::Failed(DIFFERENT, "plain Rust writes another view".into()));
     }
     let mut output = vec![0; record.len()];
-    let mut turn = |calls: &dyn Calls| timed(|| calls.view(record, &mut output, reader));
+    let mut turn = |calls: &dyn Calls| timed(|| calls.view(record, &mut output, reader, old_stock));
     Ok(in_turn(TURNS, |library| turn(if library { &Library } else { &Plain })))
 }
 

@@ -1,7 +1,8 @@
-//! A record of a megabyte, as a forecast makes it.
+//! A record of a megabyte, as a forecast makes it, or made it before the stock had four bytes.
 
-use host::frame::{failure, restock, DELIVERY, FAILURE, PLAIN_RESTOCK, REQUEST};
+use host::frame::{failure, restock, DELIVERY, FAILURE, REQUEST};
 use host::generator::Generator;
+use host::record::Stock;
 use host::scenario::{DELIVERY_HOURS, REQUEST_HOURS};
 use std::collections::BTreeSet;
 
@@ -15,20 +16,24 @@ const OWN: u8 = 7;
 type Due = BTreeSet<(u32, u32)>;
 
 /// What the gateway has, and what it has written.
-#[derive(Default)]
 struct Gateway {
-    stock: u16,
+    stock: u32,
     failed: u32,
     fitted: u32,
     short: u32,
     record: Vec<u8>,
+    /// The stock that is written, and where each event begins.
+    written: Stock,
+    begins: Vec<usize>,
 }
 
 /// The record of a gateway that is its own supplier, whose lamps fail and whose shelf is filled at drawn hours, and whose drivers outlive
 /// the record: as many of its events as a megabyte has room for.
-pub fn record() -> Vec<u8> {
+pub fn record(written: Stock) -> Vec<u8> {
     let mut generator = Generator(1);
-    let mut gateway = Gateway { stock: 100, ..Gateway::default() };
+    let (record, begins) = (Vec::new(), Vec::new());
+    let mut gateway =
+        Gateway { stock: 100, failed: 0, fitted: 0, short: 0, record, written, begins };
     let (mut requests, mut deliveries) = (Due::new(), Due::new());
     let mut lamps = 0;
     for hour in 0.. {
@@ -54,7 +59,7 @@ pub fn record() -> Vec<u8> {
             break;
         }
     }
-    cut(gateway.record)
+    gateway.cut()
 }
 
 /// The next lamp whose hour has come.
@@ -64,20 +69,6 @@ fn due(waiting: &mut Due, hour: u32) -> Option<u32> {
     Some(first.1)
 }
 
-/// The whole events that a megabyte has room for.
-fn cut(mut record: Vec<u8>) -> Vec<u8> {
-    let mut end = 0;
-    loop {
-        let length = if record[end] == PLAIN_RESTOCK { 24 } else { 41 };
-        if end + length > MEGABYTE {
-            break;
-        }
-        end += length;
-    }
-    record.truncate(end);
-    record
-}
-
 impl Gateway {
     fn fail(&mut self, hour: u32, lamp: u32) {
         self.failed += 1;
@@ -85,7 +76,7 @@ impl Gateway {
     }
 
     fn restock(&mut self, hour: u32, quantity: u16) {
-        self.stock = self.stock.saturating_add(quantity);
+        self.stock += u32::from(quantity);
         self.add(&restock(OWN, hour, quantity));
     }
 
@@ -107,11 +98,23 @@ impl Gateway {
 
     /// Adds an event's frame and the state after it.
     fn add(&mut self, frame: &[u8]) {
+        self.begins.push(self.record.len());
         self.record.extend(frame);
-        self.record.extend(self.stock.to_be_bytes());
+        let left_out = match self.written {
+            Stock::New => 0,
+            Stock::Old => 2,
+        };
+        self.record.extend(&self.stock.to_be_bytes()[left_out..]);
         for counter in [self.failed, self.fitted, self.short] {
             self.record.extend(counter.to_be_bytes());
         }
+    }
+
+    /// The whole events that a megabyte has room for.
+    fn cut(mut self) -> Vec<u8> {
+        let end = self.begins.into_iter().rfind(|&begin| begin <= MEGABYTE);
+        self.record.truncate(end.unwrap_or(0));
+        self.record
     }
 }
 
@@ -126,17 +129,19 @@ fn of_lamp(kind: u8, hour: u32, lamp: u32) -> Vec<u8> {
 #[cfg(test)]
 mod tests {
     use super::*;
-    use host::record::{Kind, Records, KINDS};
+    use host::record::{Record, Records, KINDS};
 
     #[test]
     fn it_is_a_record_of_a_megabyte_with_all_kinds() {
-        let record = record();
-        assert!(record.len() <= MEGABYTE && record.len() > MEGABYTE - 41, "{}", record.len());
-        let kinds: Vec<Kind> =
-            Records::new(&record[..]).map(|event| event.unwrap().event.kind).collect();
-        for kind in KINDS {
-            let count = kinds.iter().filter(|&&other| other == kind).count();
-            assert!(count > 1_000, "{count} of {kind}");
+        for stock in [Stock::New, Stock::Old] {
+            let record = record(stock);
+            assert!(record.len() <= MEGABYTE && record.len() > MEGABYTE - 43, "{}", record.len());
+            let events: Vec<Record> =
+                Records::with_stock(&record[..], stock).map(Result::unwrap).collect();
+            for kind in KINDS {
+                let count = events.iter().filter(|record| record.event.kind == kind).count();
+                assert!(count > 1_000, "{count} of {kind}");
+            }
         }
     }
 }

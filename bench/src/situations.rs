@@ -1,7 +1,8 @@
 //! Memories in the situations that calls are measured in. All have 512 queue places and 512 outstanding places.
 
+use host::frame::restock;
 use host::scenario::{DELIVERY_HOURS, LIFE_HOURS, REQUEST_HOURS};
-use interface::{ample_output, memory_length, Calls, Opening, MOST_PLACES};
+use interface::{ample_output, memory_length, Calls, Opening, MOST_AT_ONCE, MOST_PLACES};
 use library::Library;
 
 /// An output length that is enough for every call.
@@ -58,6 +59,16 @@ pub fn processed(count: u32) -> Vec<u8> {
     for sent in output[..answer.written].chunks(27) {
         take(&mut memory, &with_sense(sent, 2));
     }
+    memory
+}
+
+/// So many Restocks in the queue, of the most that one brings, at the hours 10, 20 and so on; the first so many of them processed.
+pub fn restocked(count: u32, done: u32) -> Vec<u8> {
+    let most = MOST_AT_ONCE as u16;
+    let list: Vec<u8> = (1..=count).flat_map(|number| restock(1, 10 * number, most)).collect();
+    let mut memory = gateway(2, 1, &list);
+    let answer = Library.work(&mut memory, &mut [], done);
+    assert_eq!((answer.number, answer.events), (0, done));
     memory
 }
 

@@ -1,9 +1,11 @@
 //! One call made three times, on copies of one memory and one output: all answers, memories and outputs must be equal.
 
 use crate::peer_calls::{setup, Peer, UNSOUND};
-use crate::tally::{Called, FrameCall, Lacking, Situation, Tally};
-use crate::{lead_times, views, Wrong};
-use interface::{ample_output, AgreedTime, Answer, Calls, Opening, ViewAnswer, MOST_PLACES};
+use crate::tally::{Called, FrameCall, Lacking, Tally};
+use crate::{lead_times, seen, stocks, views, Wrong};
+use interface::{
+    ample_output, AgreedTime, Answer, Calls, Opening, ViewAnswer, MOST_PLACES, OLD_STOCK,
+};
 use library::Library;
 use peer::gateway::{self, Gateway};
 use peer::refusal::{Reason, Refusal, REASONS};
@@ -80,7 +82,7 @@ impl Comparison {
         check_promises(call, memory, &by_library)?;
 
         self.tally.count(call.called(), by_library.answer.number);
-        self.count_reason(call, memory, &by_library.answer);
+        self.count_reason(call, memory, &by_library.answer)?;
         self.count_lead_times(call, &by_library)?;
         if let Call::Take { frame } = call {
             self.count_taken(frame, by_library.answer.number)?;
@@ -156,18 +158,20 @@ impl Comparison {
         self.count_refused_frame(FrameCall::Lamp, frame::lamp_place(frame).err(), found.number)
     }
 
-    /// Writes what a reader sees of a record to an output of `room` bytes; the number, and what was written.
+    /// Writes what a reader sees of a record, as its stock is said to be, to an output of `room` bytes; the number, and what was written.
     pub fn view(
         &mut self,
         record: &[u8],
         room: usize,
         reader: u32,
+        old_stock: u32,
     ) -> Result<(u32, Vec<u8>), Wrong> {
         let left = |calls: &dyn Calls| {
             let mut output = vec![FILL; room];
-            (calls.view(record, &mut output, reader), output)
+            (calls.view(record, &mut output, reader, old_stock), output)
         };
-        let what = || format!("view for {reader} of {record:?} with {room} bytes");
+        let what =
+            || format!("view for {reader}, stock {old_stock}, of {record:?} with {room} bytes");
         let (found, mut output) = left(&Library);
         for (name, other) in OTHERS {
             let (other_found, other_output) = left(other);
@@ -185,8 +189,8 @@ impl Comparison {
         if output[written..].iter().any(|&byte| byte != FILL) {
             return Err(format!("{}: wrote past its {written} bytes", what()));
         }
-        self.tally.count(Called::viewing(reader), number);
-        self.count_viewed(record, room, reader, number)?;
+        self.tally.count(Called::viewing(reader, old_stock), number);
+        self.count_viewed(record, room, reader, old_stock, number)?;
         output.truncate(written);
         Ok((number, output))
     }
@@ -228,20 +232,21 @@ impl Comparison {
         record: &[u8],
         room: usize,
         reader: u32,
+        old_stock: u32,
         number: u32,
     ) -> Result<(), Wrong> {
-        for situation in views::situations(record, room, reader, number) {
-            self.tally.count_situation(situation);
-        }
-        let reason = match view::view(record, room, reader) {
-            Err(Refusal::CutState) => {
-                self.tally.count_situation(Situation::ViewsOfACutState);
-                return check_number(number, Refusal::CutState.number());
+        let refusal = view::view(record, room, reader, old_stock).err();
+        if let (Some(stock), Some(refusal)) = (seen::stock(old_stock), refusal) {
+            for situation in views::situations(record, room, reader, stock, refusal) {
+                self.tally.count_situation(situation);
             }
-            Err(Refusal::Frame(reason)) => Some(reason),
-            _ => None,
-        };
-        self.count_refused_frame(FrameCall::View, reason, number)
+        }
+        let call = if old_stock == OLD_STOCK { FrameCall::OldView } else { FrameCall::View };
+        match refusal {
+            Some(Refusal::CutState) => check_number(number, Refusal::CutState.number()),
+            Some(Refusal::Frame(reason)) => self.count_refused_frame(call, Some(reason), number),
+            _ => self.count_refused_frame(call, None, number),
+        }
     }
 
     /// Counts the reason why a call refused a frame, whose number the answer must be.
@@ -280,16 +285,22 @@ impl Comparison {
         Ok(())
     }
 
-    /// Counts why memory was not sound, or what was too little.
-    fn count_reason(&mut self, call: Call, before: &[u8], answer: &Answer) {
-        if answer.number == UNSOUND {
-            if let Err(reason) = memory::read(before) {
-                self.tally.count_unsound(reason);
-            }
+    /// Counts why memory was not sound, what its stocks come to, and what was too little.
+    fn count_reason(&mut self, call: Call, before: &[u8], answer: &Answer) -> Result<(), Wrong> {
+        let unsound = match answer.number {
+            UNSOUND => memory::read(before).err(),
+            _ => None,
+        };
+        if let Some(reason) = unsound {
+            self.tally.count_unsound(reason);
+        }
+        for situation in stocks::situations(before, unsound)? {
+            self.tally.count_situation(situation);
         }
         if answer.number == 5 {
             self.tally.count_lacking(lacking(call, before));
         }
+        Ok(())
     }
 }
 

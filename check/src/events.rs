@@ -1,11 +1,12 @@
 //! Two messages that differ in a field or two, done one after the other: the event order over the whole width of its
-//! fields, and the lamp model in states and at hours near which something stops.
+//! fields, and the lamp model in states and at hours near which something stops or is no longer sound.
 
 use crate::compare::{check_number, Call, Comparison, AMPLE};
 use crate::draw;
 use crate::lead_times::LEADS;
+use crate::peer_calls::UNSOUND;
 use crate::Wrong;
-use interface::{memory_length, Opening};
+use interface::{memory_length, Opening, MOST_STOCK};
 use peer::frame::{self, Frame, Sense};
 use peer::generator::Generator;
 use peer::model::{Hour, Hours, Kind, Lamp, Message, State, MAX_LAST_HOUR, MOST_HOURS};
@@ -30,7 +31,7 @@ const HOURS: [Hour; 11] = [
     MAX_LAST_HOUR,
 ];
 
-const STOCKS: [u16; 6] = [0, 0, 1, 2, 65_534, 65_535];
+const STOCKS: [u32; 7] = [0, 0, 1, 2, 65_534, 65_535, 65_536];
 const COUNTERS: [u32; 4] = [0, 1, u32::MAX - 1, u32::MAX];
 
 /// Two messages at a gateway of 255, in its opening list or taken, and both done from a drawn state.
@@ -54,9 +55,15 @@ pub fn two_events(generator: &mut Generator, comparison: &mut Comparison) -> Res
         let (answer, _) = comparison.call(Call::Take { frame: &frame }, &mut memory, AMPLE)?;
         check_number(answer.number, 0)?;
     }
-    write_state(generator, &mut memory);
+    let restocks: u32 = messages.iter().map(|message| u32::from(message.quantity)).sum();
+    let most = MOST_STOCK - restocks;
+    let stock = match generator.below(3) {
+        0 => generator.pick(&[most - 1, most, most + 1, MOST_STOCK, MOST_STOCK + 1, u32::MAX]),
+        _ => generator.pick(&STOCKS),
+    };
+    write_state(generator, &mut memory, stock);
     let (answer, _) = comparison.call(Call::Work { budget: 2 }, &mut memory, AMPLE)?;
-    check_number(answer.number, 0)
+    check_number(answer.number, if stock > most { UNSOUND } else { 0 })
 }
 
 /// A message to gateway `own` whose fields are all drawn; they need not agree.
@@ -111,9 +118,8 @@ fn distance(generator: &mut Generator, hours: &Hours) -> Hour {
     generator.pick(&[0, 1, 2, lead_time - 1, lead_time, lead_time, lead_time + 1])
 }
 
-/// Writes a state into the header.
-fn write_state(generator: &mut Generator, memory: &mut [u8]) {
-    let stock = generator.pick(&STOCKS);
+/// Writes a state with this stock into the header.
+fn write_state(generator: &mut Generator, memory: &mut [u8], stock: u32) {
     let [failed, fitted, short] = [0; 3].map(|_| generator.pick(&COUNTERS));
     let state = State { stock, failed, fitted, short };
     memory[memory::STATE].copy_from_slice(&record::state_bytes(&state));

@@ -2,6 +2,7 @@
 
 use crate::draw::{self, Site};
 use crate::lead_times::LEADS;
+use crate::stocks;
 use peer::generator::Generator;
 use peer::model::{MAX_LAST_HOUR, MOST_HOURS};
 
@@ -46,23 +47,28 @@ fn change_field(generator: &mut Generator, frame: &mut [u8]) {
     }
 }
 
-/// A few events of a record, mostly with one or two of them wrong, and at times cut anywhere or with a byte changed.
-pub fn spoiled_record(generator: &mut Generator, mut events: Vec<Vec<u8>>) -> Vec<u8> {
+/// A few events of a record whose states have so many bytes, mostly with one or two of them wrong, and at times cut anywhere or with a byte
+/// changed.
+pub fn spoiled_record(
+    generator: &mut Generator,
+    mut events: Vec<Vec<u8>>,
+    state_length: usize,
+) -> Vec<u8> {
     let first = usize::from(generator.half()) % (events.len() + 1);
     events.drain(..first);
     events.truncate(generator.below(7).into());
     for event in &mut events {
         if generator.below(4) == 0 {
-            spoil_event(generator, event);
+            spoil_event(generator, event, state_length);
         }
     }
     if generator.below(3) == 0 {
         let place = usize::from(generator.half()) % (events.len() + 1);
-        events.insert(place, foreign_event(generator));
+        events.insert(place, foreign_event(generator, state_length));
     }
     let mut bytes = events.concat();
     match generator.below(6) {
-        0 | 1 => bytes.truncate(bytes.len().saturating_sub(generator.below(42).into())),
+        0 | 1 => bytes.truncate(bytes.len().saturating_sub(generator.below(44).into())),
         2 => bytes = damaged(generator, &bytes),
         _ => {}
     }
@@ -70,24 +76,24 @@ pub fn spoiled_record(generator: &mut Generator, mut events: Vec<Vec<u8>>) -> Ve
 }
 
 /// A frame of any form, whole or damaged, and a state behind it.
-fn foreign_event(generator: &mut Generator) -> Vec<u8> {
+fn foreign_event(generator: &mut Generator, state_length: usize) -> Vec<u8> {
     let gateways = generator.pick(&[2, 255]);
     let site = Site { gateways, own: generator.below(gateways), last_hour: MAX_LAST_HOUR };
     let mut event = draw::frame(generator, &site);
     if generator.below(3) == 0 {
         event = damaged_frame(generator, &event);
     }
-    event.extend([generator.byte(); 14]);
+    event.extend(vec![generator.byte(); state_length]);
     event
 }
 
 /// Changes an event of a record in one thing, often gateways' numbers or the hour.
-fn spoil_event(generator: &mut Generator, event: &mut Vec<u8>) {
+fn spoil_event(generator: &mut Generator, event: &mut Vec<u8>, state_length: usize) {
     match generator.below(14) {
         0..=3 => change_numbers(generator, event),
         4..=7 => event[4..8].fill(255),
         8 => event[9 + usize::from(generator.below(14))] = generator.pick(&[0, 32, 127, 255]),
-        9 => add_sense(generator, event),
+        9 => add_sense(generator, event, state_length),
         10 => event[3] ^= 1,
         11 => event.truncate(event.len() - 1 - usize::from(generator.below(20))),
         12 => event[0] = 0,
@@ -107,9 +113,9 @@ fn change_numbers(generator: &mut Generator, event: &mut [u8]) {
 }
 
 /// Makes an event's frame one with a sense, at times one that there is not.
-fn add_sense(generator: &mut Generator, event: &mut Vec<u8>) {
+fn add_sense(generator: &mut Generator, event: &mut Vec<u8>, state_length: usize) {
     event[0] |= 128;
-    event.insert(event.len() - 14, generator.below(5));
+    event.insert(event.len() - state_length, generator.below(5));
 }
 
 /// Memory with one thing changed. It may still be sound.
@@ -117,7 +123,7 @@ pub fn spoiled(generator: &mut Generator, memory: &[u8]) -> Vec<u8> {
     let mut memory = memory.to_vec();
     let queued = half(&memory, 10);
     let sent_at = 256 + 64 * half(&memory, 6);
-    match generator.below(15) {
+    match generator.below(18) {
         0 => memory.truncate(usize::from(generator.half()) % (memory.len() + 1)),
         1 => memory[usize::from(generator.below(56))] = generator.byte(),
         2 => memory[usize::from(generator.below(56))] ^= 1 << generator.below(8),
@@ -127,6 +133,7 @@ pub fn spoiled(generator: &mut Generator, memory: &[u8]) -> Vec<u8> {
         6 => memory[11] = memory[11].wrapping_add(1),
         7 => memory[13] = memory[13].wrapping_add(1),
         8 => change_lead_time(generator, &mut memory),
+        15..=17 => change_stock(generator, &mut memory),
         9 if queued > 1 => swap_neighbours(generator, &mut memory, queued),
         10 if queued > 1 => copy_neighbour(generator, &mut memory, queued),
         11 if queued > 0 => {
@@ -151,6 +158,18 @@ fn change_lead_time(generator: &mut Generator, memory: &mut [u8]) {
     let hours = [0, 1, 2, 24, 700, MOST_HOURS, MOST_HOURS + 1, 1 << 24, u32::MAX];
     let place = generator.pick(&LEADS).place();
     memory[place].copy_from_slice(&generator.pick(&hours).to_be_bytes());
+}
+
+/// Writes a stock in the place of the one held or of one saved: a small one, one about where two bytes end, or one about as large as it may
+/// be.
+fn change_stock(generator: &mut Generator, memory: &mut [u8]) {
+    let stocks = stocks::all(memory);
+    let chosen = &stocks[usize::from(generator.half()) % stocks.len()];
+    let stock = match generator.below(4) {
+        0 => generator.pick(&[0, 1, 65_535, 65_536, 1 << 24, u32::MAX]),
+        _ => generator.pick(&chosen.around()),
+    };
+    chosen.write(memory, stock);
 }
 
 /// Changes a byte of a place, often the hour's first or a gateway's number.

@@ -11,6 +11,7 @@ pub mod ledger;
 pub mod peer_calls;
 pub mod runs;
 pub mod seen;
+pub mod stocks;
 pub mod tally;
 pub mod views;
 pub mod world;

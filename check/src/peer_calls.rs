@@ -82,8 +82,8 @@ impl Calls for Peer {
         }
     }
 
-    fn view(&self, record: &[u8], output: &mut [u8], reader: u32) -> ViewAnswer {
-        match view::view(record, output.len(), reader) {
+    fn view(&self, record: &[u8], output: &mut [u8], reader: u32, old_stock: u32) -> ViewAnswer {
+        match view::view(record, output.len(), reader, old_stock) {
             Ok(bytes) => {
                 output[..bytes.len()].copy_from_slice(&bytes);
                 ViewAnswer { number: 0, written: bytes.len() }

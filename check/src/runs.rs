@@ -6,15 +6,17 @@ use crate::draw::{self, Site};
 use crate::tally::Situation;
 use crate::world::{opening, World};
 use crate::{events, hostile, lead_times, views, Wrong};
-use interface::{memory_length, Opening, MOST_HOURS, MOST_PLACES};
+use interface::{memory_length, Opening, MOST_AT_ONCE, MOST_HOURS, MOST_PLACES};
 use peer::forecast;
 use peer::frame::{self, Frame, Sense};
 use peer::generator::Generator;
 use peer::model::{Hours, NOTHING_DUE};
 
 /// Output lengths to choose from, with those just too short for one, two or three frames.
-const ROOMS: [&[usize]; 2] =
-    [&[AMPLE], &[AMPLE, AMPLE, AMPLE, 0, 3, 4, 7, 8, 15, 16, 27, 28, 40, 41, 54, 56, 84, 90]];
+const ROOMS: [&[usize]; 2] = [
+    &[AMPLE],
+    &[AMPLE, AMPLE, AMPLE, 0, 3, 4, 7, 8, 15, 16, 25, 26, 27, 28, 42, 43, 54, 56, 84, 90],
+];
 
 /// Turns after which a run that has changed no agreed time and committed nothing must be blocked. A round of the few
 /// gateways here takes about ten.
@@ -231,7 +233,7 @@ pub fn single_gateway(
         gateways: gateways.into(),
         own: own.into(),
         supplier: generator.below(gateways).into(),
-        stock: generator.below(4).into(),
+        stock: generator.pick(&[0, 1, 2, 3, MOST_AT_ONCE]),
         last_hour,
         queue_places: draw::places(generator),
         outstanding_places: draw::places(generator),
@@ -241,7 +243,8 @@ pub fn single_gateway(
     };
     let mut memory =
         vec![generator.byte(); memory_length(opening.queue_places, opening.outstanding_places)];
-    check_number(comparison.set_up(&mut memory, &[], &opening)?, 0)?;
+    let list = restocks(generator, own, &opening);
+    check_number(comparison.set_up(&mut memory, &list, &opening)?, 0)?;
     let site = Site::of(&memory);
     let rooms = generator.pick(&ROOMS);
     let mut expected: Vec<Vec<u8>> = Vec::new();
@@ -265,6 +268,18 @@ pub fn single_gateway(
         }
     }
     Ok(())
+}
+
+/// An opening list of a few early Restocks, where there are places for more.
+fn restocks(generator: &mut Generator, own: u8, opening: &Opening) -> Vec<u8> {
+    let count = u32::from(generator.below(4)).min(opening.queue_places / 4);
+    let mut list = Vec::new();
+    for _ in 0..count {
+        let hour = u32::from(generator.below(6)).min(opening.last_hour);
+        let message = forecast::restock(own, hour, generator.pick(&[0, 1, 300, u16::MAX]));
+        list.extend(frame::write(&Frame::Event { sense: Sense::Plain, message }));
+    }
+    list
 }
 
 /// A drawn frame, or one of the acknowledgments.

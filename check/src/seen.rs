@@ -1,9 +1,9 @@
-//! Events of records, and what is to be seen of them: fields that a reader sees, and those that it does not, changed such that the event
-//! stays good. Places of bytes are counted from the event's first.
+//! Events of records, with the new stock and with the old one, and what is to be seen of them: fields that a reader sees, and those that it
+//! does not, changed such that the event stays good. Places of bytes are counted from the event's first.
 
-use crate::world::STATE_LENGTH;
-use interface::{MAINTENANCE, PURCHASING};
+use interface::{MAINTENANCE, NEW_STOCK, OLD_STATE_LENGTH, OLD_STOCK, PURCHASING, STATE_LENGTH};
 use peer::generator::Generator;
+use peer::record::Stock;
 
 /// The map of a Restock in a record; the other kinds have a lamp and one map.
 pub const RESTOCK: u8 = 79;
@@ -15,14 +15,52 @@ type Change = fn(&mut Generator, &mut [u8]);
 pub const UNSEEN: [(u32, Change); 2] =
     [(PURCHASING, change_lamp_and_gateways), (MAINTENANCE, change_quantity_and_state)];
 
+pub const STOCKS: [Stock; 2] = [Stock::New, Stock::Old];
+
+/// The bytes of the counters, behind the stock.
+const COUNTERS_LENGTH: usize = 3 * 4;
+
+/// The stock of this number in the call that makes views.
+pub fn stock(number: u32) -> Option<Stock> {
+    STOCKS.into_iter().find(|&stock| stock_number(stock) == number)
+}
+
+pub fn stock_number(stock: Stock) -> u32 {
+    match stock {
+        Stock::New => NEW_STOCK,
+        Stock::Old => OLD_STOCK,
+    }
+}
+
+pub fn other(stock: Stock) -> Stock {
+    match stock {
+        Stock::New => Stock::Old,
+        Stock::Old => Stock::New,
+    }
+}
+
+/// The bytes of a state with this stock.
+pub fn state_length(stock: Stock) -> usize {
+    match stock {
+        Stock::New => STATE_LENGTH,
+        Stock::Old => OLD_STATE_LENGTH,
+    }
+}
+
 /// A good event of a kind.
-pub fn event(kind: u8) -> Vec<u8> {
+pub fn event(kind: u8, stock: Stock) -> Vec<u8> {
     let head = match kind {
         3 => vec![RESTOCK, kind, 6, 6, 0, 0, 1, 3, 4, 5],
         1 => [&[63, kind, 8, 9, 0, 0, 1, 2, 7][..], b"L00000000000000001"].concat(),
         _ => [&[63, kind, 7, 7, 0, 0, 1, 2, 7][..], b"L00000000000000001"].concat(),
     };
-    [&head[..], &[1, 2, 3, 4, 5, 6, 7, 8, 9, 10, 11, 12, 13, 14]].concat()
+    head.into_iter().chain(1..=state_length(stock) as u8).collect()
+}
+
+/// The event with the old stock, the low half of the new one.
+pub fn old(event: &[u8]) -> Vec<u8> {
+    let (frame, state) = event.split_at(event.len() - STATE_LENGTH);
+    [frame, &state[STATE_LENGTH - OLD_STATE_LENGTH..]].concat()
 }
 
 /// Another lamp, and other gateways as the kind demands.
@@ -86,16 +124,23 @@ pub const SEEN: [(u32, &[Field]); 2] = [
     (MAINTENANCE, &[Field::Hour, Field::Kind, Field::Lamp, Field::Origin]),
 ];
 
-/// Changes a field of an event, which stays good; `false` where its kind has no such field, or a Restock would be another kind.
-pub fn change_field(generator: &mut Generator, event: &mut [u8], field: Field) -> bool {
+/// Changes a field of an event with this stock, which stays good; `false` where its kind has no such field, or a Restock would be another
+/// kind.
+pub fn change_field(
+    generator: &mut Generator,
+    event: &mut [u8],
+    stock: Stock,
+    field: Field,
+) -> bool {
     let is_restock = event[0] == RESTOCK;
-    let state = event.len() - STATE_LENGTH;
+    let state = event.len() - state_length(stock);
+    let counters = event.len() - COUNTERS_LENGTH;
     let number = match field {
         Field::Quantity if is_restock => 8..10,
-        Field::Stock => state..state + 2,
-        Field::Failed => state + 2..state + 6,
-        Field::Fitted => state + 6..state + 10,
-        Field::Short => state + 10..state + 14,
+        Field::Stock => state..counters,
+        Field::Failed => counters..counters + 4,
+        Field::Fitted => counters + 4..counters + 8,
+        Field::Short => counters + 8..counters + 12,
         Field::Hour => {
             let hour = u32::from_be_bytes([event[4], event[5], event[6], event[7]]);
             let other = if hour == 0 { 1 } else { hour - 1 };
@@ -134,20 +179,20 @@ mod tests {
     const KINDS: [u8; 4] = [0, 1, 2, 3];
 
     /// The bytes in which two events differ; each is good.
-    fn changed(one: &[u8], other: &[u8]) -> Vec<usize> {
-        assert!([one, other].iter().all(|event| record::read(event).is_ok()), "{other:?}");
+    fn changed(one: &[u8], other: &[u8], stock: Stock) -> Vec<usize> {
+        assert!([one, other].iter().all(|event| record::read(event, stock).is_ok()), "{other:?}");
         (0..one.len()).filter(|&at| one[at] != other[at]).collect()
     }
 
     /// The bytes of a good event of each kind that a change reaches.
-    fn reached(change: fn(&mut Generator, &mut [u8])) -> [Vec<usize>; 4] {
+    fn reached(change: fn(&mut Generator, &mut [u8]), stock: Stock) -> [Vec<usize>; 4] {
         let mut generator = Generator::new(1);
         KINDS.map(|kind| {
             let mut reached = BTreeSet::new();
             for _ in 0..100 {
-                let mut other = event(kind);
+                let mut other = event(kind, stock);
                 change(&mut generator, &mut other);
-                reached.extend(changed(&event(kind), &other));
+                reached.extend(changed(&event(kind, stock), &other, stock));
             }
             reached.into_iter().collect()
         })
@@ -156,30 +201,32 @@ mod tests {
     #[test]
     fn what_a_reader_does_not_see_is_changed() {
         let lamp_and_gateways: Vec<usize> = [2, 3].into_iter().chain(8..27).collect();
-        let [failure, request, delivery, restock] = reached(change_lamp_and_gateways);
-        assert_eq!([failure, request, delivery], [0; 3].map(|_| lamp_and_gateways.clone()));
-        assert_eq!(restock, [2, 3]);
+        for (stock, length) in [(Stock::New, 16), (Stock::Old, 14)] {
+            let [failure, request, delivery, restock] = reached(change_lamp_and_gateways, stock);
+            assert_eq!([failure, request, delivery], [0; 3].map(|_| lamp_and_gateways.clone()));
+            assert_eq!(restock, [2, 3]);
 
-        let and_state = |gateways: &[usize], from, to| -> Vec<usize> {
-            gateways.iter().copied().chain(from..to).collect()
-        };
-        let [failure, request, delivery, restock] = reached(change_quantity_and_state);
-        assert_eq!(failure, and_state(&[], 27, 41));
-        assert_eq!(request, and_state(&[2, 3], 27, 41));
-        assert_eq!(delivery, and_state(&[2], 27, 41));
-        assert_eq!(restock, and_state(&[2, 3], 8, 24));
+            let and_state = |gateways: &[usize], from, to| -> Vec<usize> {
+                gateways.iter().copied().chain(from..to).collect()
+            };
+            let [failure, request, delivery, restock] = reached(change_quantity_and_state, stock);
+            assert_eq!(failure, and_state(&[], 27, 27 + length));
+            assert_eq!(request, and_state(&[2, 3], 27, 27 + length));
+            assert_eq!(delivery, and_state(&[2], 27, 27 + length));
+            assert_eq!(restock, and_state(&[2, 3], 8, 10 + length));
+        }
     }
 
     /// The bytes of an event of a kind that changing each field of a reader reaches, field by field.
-    fn reached_by_fields((_, fields): (u32, &[Field]), kind: u8) -> Vec<Vec<usize>> {
+    fn reached_by_fields((_, fields): (u32, &[Field]), kind: u8, stock: Stock) -> Vec<Vec<usize>> {
         let mut generator = Generator::new(1);
         let mut reached = |&field: &Field| {
             let mut reached = BTreeSet::new();
-            for _ in 0..200 {
-                let mut other = event(kind);
-                if change_field(&mut generator, &mut other, field) {
-                    assert_ne!(event(kind), other);
-                    reached.extend(changed(&event(kind), &other));
+            for _ in 0..400 {
+                let mut other = event(kind, stock);
+                if change_field(&mut generator, &mut other, stock, field) {
+                    assert_ne!(event(kind, stock), other);
+                    reached.extend(changed(&event(kind, stock), &other, stock));
                 }
             }
             reached.into_iter().collect()
@@ -191,15 +238,29 @@ mod tests {
     fn each_seen_field_is_changed() {
         let [purchasing, maintenance] = SEEN;
         let all = |range: std::ops::Range<usize>| range.collect::<Vec<_>>();
-        let state = |from| {
-            [from..from + 2, from + 2..from + 6, from + 6..from + 10, from + 10..from + 14].map(all)
-        };
-        let delivery = [&[vec![7], vec![1], vec![]], &state(27)[..]].concat();
-        assert_eq!(reached_by_fields(purchasing, 2), delivery);
-        let restock = [&[vec![7], vec![], vec![8, 9]], &state(10)[..]].concat();
-        assert_eq!(reached_by_fields(purchasing, 3), restock);
-        let delivery = [vec![7], vec![1], all(9..27), vec![2, 3, 8]];
-        assert_eq!(reached_by_fields(maintenance, 2), delivery);
-        assert_eq!(reached_by_fields(maintenance, 3), [vec![7], vec![], vec![], vec![]]);
+        for (stock, width) in [(Stock::New, 4), (Stock::Old, 2)] {
+            let state = |from: usize| {
+                let failed = from + width;
+                let counters =
+                    [failed..failed + 4, failed + 4..failed + 8, failed + 8..failed + 12];
+                [&[all(from..failed)], &counters.map(all)[..]].concat()
+            };
+            let delivery = [&[vec![7], vec![1], vec![]], &state(27)[..]].concat();
+            assert_eq!(reached_by_fields(purchasing, 2, stock), delivery);
+            let restock = [&[vec![7], vec![], vec![8, 9]], &state(10)[..]].concat();
+            assert_eq!(reached_by_fields(purchasing, 3, stock), restock);
+            let delivery = [vec![7], vec![1], all(9..27), vec![2, 3, 8]];
+            assert_eq!(reached_by_fields(maintenance, 2, stock), delivery);
+            let restock = [vec![7], vec![], vec![], vec![]];
+            assert_eq!(reached_by_fields(maintenance, 3, stock), restock);
+        }
+    }
+
+    #[test]
+    fn an_event_loses_the_high_half_of_its_stock() {
+        let event = event(3, Stock::New);
+        assert_eq!(old(&event), [&event[..10], &event[12..]].concat());
+        assert_eq!(STOCKS.map(stock_number).map(stock), STOCKS.map(Some));
+        assert_eq!(stock(2), None);
     }
 }

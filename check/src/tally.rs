@@ -1,7 +1,7 @@
 //! How many calls of each kind were made, with which answers and for which reasons, and which of them are still missing.
 
 use crate::lead_times::{Lead, Met, ALL_MET, LEADS};
-use interface::{MAINTENANCE, PURCHASING};
+use interface::{MAINTENANCE, NEW_STOCK, OLD_STOCK, PURCHASING};
 use peer::frame::{self, Frame, Sense};
 use peer::memory::{self, Unsound};
 use peer::model::Kind;
@@ -32,14 +32,18 @@ pub enum Called {
     Lamp,
     ViewForPurchasing,
     ViewForMaintenance,
+    ViewForPurchasingOldStock,
+    ViewForMaintenanceOldStock,
     ViewForAnother,
+    ViewOfAnotherStock,
+    ViewForAnotherOfAnotherStock,
 }
 
 /// The numbers of all answers.
 const NUMBERS: RangeInclusive<u32> = 0..=12;
 
 /// Every kind of call with the numbers that it can answer.
-const ANSWERS: [(Called, &[u32]); 20] = [
+const ANSWERS: [(Called, &[u32]); 24] = [
     (Called::Route, &[0, 5, 8]),
     (Called::SetUp, &[0, 1, 2, 3, 5, 8, 11, 12]),
     (Called::Work, &[0, 5, 6, 10]),
@@ -59,7 +63,11 @@ const ANSWERS: [(Called, &[u32]); 20] = [
     (Called::Lamp, &[0, 1, 11, 12]),
     (Called::ViewForPurchasing, &[0, 1, 2, 3, 5, 11, 12]),
     (Called::ViewForMaintenance, &[0, 1, 2, 3, 5, 11, 12]),
+    (Called::ViewForPurchasingOldStock, &[0, 1, 2, 3, 5, 11, 12]),
+    (Called::ViewForMaintenanceOldStock, &[0, 1, 2, 3, 5, 11, 12]),
     (Called::ViewForAnother, &[8]),
+    (Called::ViewOfAnotherStock, &[8]),
+    (Called::ViewForAnotherOfAnotherStock, &[8]),
 ];
 
 /// The calls that read frames.
@@ -69,10 +77,12 @@ pub enum FrameCall {
     SetUp,
     Lamp,
     View,
+    /// A view of a record with the old stock.
+    OldView,
 }
 
-const FRAME_CALLS: [FrameCall; 4] =
-    [FrameCall::Take, FrameCall::SetUp, FrameCall::Lamp, FrameCall::View];
+const FRAME_CALLS: [FrameCall; 5] =
+    [FrameCall::Take, FrameCall::SetUp, FrameCall::Lamp, FrameCall::View, FrameCall::OldView];
 
 /// Why there was no room.
 #[derive(Clone, Copy, Debug, PartialEq, Eq, PartialOrd, Ord)]
@@ -85,7 +95,8 @@ pub enum Lacking {
 const LACKING: [Lacking; 3] =
     [Lacking::QueuePlaces, Lacking::OutstandingPlaces, Lacking::OutputBytes];
 
-/// What else is counted, of the runs of forecasts and of the views of their records.
+/// What else is counted, of the runs of forecasts, of stocks in memory and of views. The bound is the most that a stock may come to with the
+/// Restocks still to be done from it: from the one held the pending ones, from one saved those of its place and behind it.
 #[derive(Clone, Copy, Debug, PartialEq, Eq, PartialOrd, Ord)]
 pub enum Situation {
     /// Calls after which some cancel waits.
@@ -99,14 +110,34 @@ pub enum Situation {
     DeliveriesBehindARestockOfTheirHour,
     /// Committed Requests that found stock when all was handed out that lay on the shelf as the hour began.
     RequestsServedByARestockOfTheirHour,
-    /// Committed Requests where a Restock of their hour did not wholly fit on the shelf.
-    RequestsAtAShelfThatStoppedInTheirHour,
+    /// Committed Restocks that take a stock from at most 65,535 to more.
+    RestocksThatTakeAStockAbove65535,
+    /// Committed events after which the stock is more than 65,535.
+    EventsWithAStockAbove65535,
     /// Forecasts whose records became whole.
     ForecastsWhole,
     /// Forecasts that too few places stopped.
     ForecastsStuck,
-    /// Views of records in which fewer than fourteen bytes of state stand behind a good frame: 11, which is for no frame.
+    /// Sound memories with a stock that comes to the bound itself.
+    HeldStocksAtTheBound,
+    SavedStocksAtTheBound,
+    /// Memories refused for a stock that comes to one more.
+    HeldStocksOneOverTheBound,
+    SavedStocksOneOverTheBound,
+    /// Memories refused for a stock that is not over the bound by itself.
+    HeldStocksOverTheBoundByRestocks,
+    SavedStocksOverTheBoundByRestocks,
+    /// Sound memories with a stock that would be over the bound with all Restocks of the queue: some of these are done, or stand before it.
+    HeldStocksOverTheBoundWithAllRestocks,
+    SavedStocksOverTheBoundWithAllRestocks,
+    /// Views of records in which too few bytes of state stand behind a good frame: 11, which is for no frame.
     ViewsOfACutState,
+    /// Of these, with one byte too few.
+    ViewsOfAStateOf15Bytes,
+    ViewsOfAnOldStateOf13Bytes,
+    /// Views refused of records that are good with the other stock.
+    ViewsOfANewRecordAsAnOldOne,
+    ViewsOfAnOldRecordAsANewOne,
     /// Views refused for a frame behind which the state is cut too.
     ViewsOfABadFrameWithACutState,
     /// Views refused for an event, with a cut state at the end of the record.
@@ -115,17 +146,30 @@ pub enum Situation {
     ViewsOfABadEventWithTooLittleRoom,
 }
 
-const SITUATIONS: [Situation; 13] = [
+const SITUATIONS: [Situation; 26] = [
     Situation::CallsWithCancelWaiting,
     Situation::RequestsTakenBesideADoneRestockOfTheirHour,
     Situation::RequestsTakenBesideADoneDeliveryOfTheirHour,
     Situation::RequestsBehindARestockOfTheirHour,
     Situation::DeliveriesBehindARestockOfTheirHour,
     Situation::RequestsServedByARestockOfTheirHour,
-    Situation::RequestsAtAShelfThatStoppedInTheirHour,
+    Situation::RestocksThatTakeAStockAbove65535,
+    Situation::EventsWithAStockAbove65535,
     Situation::ForecastsWhole,
     Situation::ForecastsStuck,
+    Situation::HeldStocksAtTheBound,
+    Situation::SavedStocksAtTheBound,
+    Situation::HeldStocksOneOverTheBound,
+    Situation::SavedStocksOneOverTheBound,
+    Situation::HeldStocksOverTheBoundByRestocks,
+    Situation::SavedStocksOverTheBoundByRestocks,
+    Situation::HeldStocksOverTheBoundWithAllRestocks,
+    Situation::SavedStocksOverTheBoundWithAllRestocks,
     Situation::ViewsOfACutState,
+    Situation::ViewsOfAStateOf15Bytes,
+    Situation::ViewsOfAnOldStateOf13Bytes,
+    Situation::ViewsOfANewRecordAsAnOldOne,
+    Situation::ViewsOfAnOldRecordAsANewOne,
     Situation::ViewsOfABadFrameWithACutState,
     Situation::ViewsOfABadEventBeforeACutState,
     Situation::ViewsOfABadEventWithTooLittleRoom,
@@ -163,12 +207,16 @@ impl Called {
         }
     }
 
-    /// What a view for this reader is.
-    pub fn viewing(reader: u32) -> Called {
-        match reader {
-            PURCHASING => Called::ViewForPurchasing,
-            MAINTENANCE => Called::ViewForMaintenance,
-            _ => Called::ViewForAnother,
+    /// What a view for this reader of a record with this stock is.
+    pub fn viewing(reader: u32, old_stock: u32) -> Called {
+        match (reader, old_stock) {
+            (PURCHASING, NEW_STOCK) => Called::ViewForPurchasing,
+            (MAINTENANCE, NEW_STOCK) => Called::ViewForMaintenance,
+            (PURCHASING, OLD_STOCK) => Called::ViewForPurchasingOldStock,
+            (MAINTENANCE, OLD_STOCK) => Called::ViewForMaintenanceOldStock,
+            (_, NEW_STOCK | OLD_STOCK) => Called::ViewForAnother,
+            (PURCHASING | MAINTENANCE, _) => Called::ViewOfAnotherStock,
+            _ => Called::ViewForAnotherOfAnotherStock,
         }
     }
 }

@@ -5,16 +5,13 @@ use crate::hours::HourSoFar;
 use crate::ledger::Ledger;
 use crate::tally::Situation;
 use crate::Wrong;
-use interface::{AgreedTime, Answer, Opening};
+use interface::{AgreedTime, Answer, Opening, STATE_LENGTH};
 use peer::frame::{self, Frame, Sense};
 use peer::gateway::Setup;
 use peer::model::{Hour, Hours, Kind, NOTHING_DUE};
 use peer::round::least;
 use peer::under_way::{check_agreed, Carried, UnderWay};
-use peer::{queue, record};
-
-/// The bytes of a state behind the frame of a committed event: the stock, then the counters.
-pub const STATE_LENGTH: usize = 14;
+use peer::{memory, queue, record};
 
 pub struct World {
     pub memories: Vec<Vec<u8>>,
@@ -44,7 +41,7 @@ impl World {
             under_way: UnderWay::new(memories.len()),
             records: vec![Vec::new(); memories.len()],
             whole: queue::records(setups).iter().map(bytes).collect(),
-            hours: setups.iter().map(|setup| HourSoFar::new(setup.stock as u16)).collect(),
+            hours: setups.iter().map(|setup| HourSoFar::new(setup.stock)).collect(),
             agreed: vec![0; memories.len()],
             memories,
             ledgers,
@@ -215,7 +212,7 @@ impl World {
         if !self.whole[at].starts_with(&self.records[at]) {
             return Err(format!("the record of {own} is no beginning of the single queue's"));
         }
-        let stock = u16::from_be_bytes([state[0], state[1]]);
+        let stock = memory::number(&state[..4]);
         for situation in self.hours[at].add(&message, stock)? {
             comparison.tally.count_situation(situation);
         }

@@ -14,7 +14,7 @@ const SCENARIO: &[u8] = b"last-hour 5\ngateway 0 supplier 0 stock 1\nrestock 0 2
 
 /// The record of the scenario: the Restock and the state after it.
 fn record() -> Vec<u8> {
-    [&restock(0, 2, 7)[..], &[0, 8], &[0; 12]].concat()
+    [&restock(0, 2, 7)[..], &[0, 0, 0, 8], &[0; 12]].concat()
 }
 
 #[test]

@@ -1,7 +1,7 @@
 //! The short seeded part of the comparison: no difference, and every answer of every call met.
 
 use check::compare::Comparison;
-use check::{lead_times, runs, views};
+use check::{lead_times, runs, stocks, views};
 
 #[test]
 fn calls_agree_and_every_answer_is_met() {
@@ -11,6 +11,9 @@ fn calls_agree_and_every_answer_is_met() {
     views::of_every_byte(&mut comparison).unwrap();
     lead_times::around_their_range(&mut comparison).unwrap();
     lead_times::near_the_last_hour(&mut comparison).unwrap();
+    stocks::opening_stocks(&mut comparison).unwrap();
+    stocks::most(&mut comparison).unwrap();
+    stocks::around_the_bound(&mut comparison).unwrap();
     for seed in 1..=60 {
         let result = runs::all(seed, &mut comparison);
         result.unwrap_or_else(|wrong| panic!("seed {seed}: {wrong}"));

@@ -13,7 +13,11 @@ use interface::memory_length;
 use std::collections::VecDeque;
 use std::fmt;
 
-const BEGIN: &[u8; 16] = b"hurfaith copy 1\n";
+const BEGIN: &[u8; 16] = b"hurfaith copy 2\n";
+
+/// What copies of earlier versions begin with: in their memories and records a stock has two bytes.
+const EARLIER: &[u8; 16] = b"hurfaith copy 1\n";
+
 const DIGEST_LENGTH: usize = 8;
 
 /// What a copy must be of.
@@ -37,6 +41,7 @@ pub struct Checkpoint {
 #[derive(Clone, Copy, Debug, PartialEq, Eq)]
 pub enum Unusable {
     NoCopy,
+    EarlierVersion,
     Damaged,
     OtherBuild,
     OtherScenario,
@@ -46,6 +51,9 @@ impl fmt::Display for Unusable {
     fn fmt(&self, formatter: &mut fmt::Formatter) -> fmt::Result {
         formatter.write_str(match self {
             Unusable::NoCopy => "this is no copy of a forecast",
+            Unusable::EarlierVersion => {
+                "the copy was written by an earlier version of this program, whose memories and records have stocks of two bytes"
+            }
             Unusable::Damaged => "the copy is damaged or cut short",
             Unusable::OtherBuild => "the copy was written by another build of this program",
             Unusable::OtherScenario => "the copy is of another scenario",
@@ -96,6 +104,9 @@ fn put_progress(bytes: &mut Vec<u8>, progress: &Progress) {
 
 /// The copy that these bytes are, if it is one of this build and scenario.
 pub fn decode(bytes: &[u8], origin: Origin, scenario: &Scenario) -> Result<Checkpoint, Unusable> {
+    if bytes.starts_with(EARLIER) {
+        return Err(Unusable::EarlierVersion);
+    }
     if !bytes.starts_with(BEGIN) {
         return Err(Unusable::NoCopy);
     }
@@ -267,6 +278,8 @@ mod tests {
         let scenario = Scenario::parse(TEXT).unwrap();
         let (origin, Checkpoint { carried, records }) = copy(&scenario);
         let bytes = encode(origin, &carried, &records);
+        let earlier = [EARLIER, &bytes[EARLIER.len()..]].concat();
+        assert_eq!(decode(&earlier, origin, &scenario), Err(Unusable::EarlierVersion));
         let other = Digest::of(b"other");
         let build = Origin { build: other, ..origin };
         assert_eq!(decode(&bytes, build, &scenario), Err(Unusable::OtherBuild));

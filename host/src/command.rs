@@ -208,11 +208,16 @@ pub fn input(name: &OsStr) -> Result<Box<dyn Read>, Ending> {
     Ok(Box::new(BufReader::new(file)))
 }
 
-/// The whole text of a file, or of standard input for `-`.
-pub fn input_text(name: &OsStr) -> Result<String, Ending> {
+/// All bytes of a file, or of standard input for `-`.
+pub fn input_bytes(name: &OsStr) -> Result<Vec<u8>, Ending> {
     let mut bytes = Vec::new();
     input(name)?.read_to_end(&mut bytes).map_err(|error| unusable(name, &error))?;
-    String::from_utf8(bytes).map_err(|error| {
+    Ok(bytes)
+}
+
+/// The whole text of a file, or of standard input for `-`.
+pub fn input_text(name: &OsStr) -> Result<String, Ending> {
+    String::from_utf8(input_bytes(name)?).map_err(|error| {
         let good = &error.as_bytes()[..error.utf8_error().valid_up_to()];
         let line = 1 + good.iter().filter(|&&byte| byte == b'\n').count();
         Ending::Failed(BAD_FILE, format!("{}:{line}: this is no text in UTF-8", shown(name)))

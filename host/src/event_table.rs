@@ -1,8 +1,8 @@
 //! Files of events printed as tables or as CSV, a line for each event that is picked: what the programs record and views have alike.
 
-use crate::command::{input, printed, shown, tell, Arguments, Ending, Program, BAD_FILE};
+use crate::command::{input, printed, shown, tell, Arguments, Ending, BAD_FILE};
 use crate::events::Unreadable;
-use crate::record::{lamp, Kind, Lamp, KINDS};
+use crate::record::{lamp, Kind, Lamp, Stock, KINDS};
 use crate::report::csv_text;
 use crate::scenario;
 use interface::NOTHING_DUE;
@@ -11,16 +11,13 @@ use std::io::{self, BufWriter, Read, Write};
 use std::ops::RangeInclusive;
 
 /// The status where events of a file are not printed: those from its first fault on, or all where the CSV has other columns.
-const NOT_ALL_PRINTED: u8 = 1;
+pub const NOT_ALL_PRINTED: u8 = 1;
 
-/// The program of this name that prints such files.
-pub const fn program(name: &'static str, help: &'static str) -> Program {
-    Program {
-        name,
-        usage: &["[--csv] [--lamp LAMP]... [--hours FIRST-LAST]... [--kind KIND]... FILE..."],
-        help,
-        flags: &["--csv"],
-        valued: &["--lamp", "--hours", "--kind"],
+/// The stock that records are said to have: the old one with the option `--old-stock`.
+pub fn stock(arguments: &Arguments) -> Stock {
+    match arguments.has("--old-stock") {
+        true => Stock::Old,
+        false => Stock::New,
     }
 }
 
@@ -58,11 +55,11 @@ fn status(why: &Unreadable) -> u8 {
     }
 }
 
-/// Prints the files that a program was given. `events` reads those of a file; `columns` are the ones of a file without an event, if it
-/// is known which these are.
+/// Prints the files that a program was given, by the options `--csv`, `--lamp`, `--hours` and `--kind`. `events` reads those of a file
+/// of a name; `columns` are the ones of a file without an event, if it is known which these are.
 pub fn print_files<L: Line, E: Iterator<Item = Result<L, Unreadable>>>(
     arguments: &Arguments,
-    events: impl Fn(Box<dyn Read>) -> E,
+    events: impl Fn(&OsStr, Box<dyn Read>) -> E,
     columns: impl Fn(&OsStr) -> Option<Columns>,
 ) -> Result<(), Ending> {
     let files = &arguments.operands;
@@ -75,7 +72,7 @@ pub fn print_files<L: Line, E: Iterator<Item = Result<L, Unreadable>>>(
     for file in files {
         let name = shown(file);
         let faults = match input(file) {
-            Ok(input) => printer.print(&name, events(input), columns(file), &picks)?,
+            Ok(input) => printer.print(&name, events(file, input), columns(file), &picks)?,
             Err(Ending::Failed(status, what)) => vec![Fault { status, what }],
             Err(ending) => return Err(ending),
         };

@@ -54,7 +54,11 @@ pub struct Events<R, P> {
 
 impl<R: Read, P: Parser> Events<R, P> {
     pub fn new(input: R) -> Events<R, P> {
-        Events { input, place: 0, parser: P::default(), bytes: Vec::new(), over: false }
+        Events::parsed_by(P::default(), input)
+    }
+
+    pub(crate) fn parsed_by(parser: P, input: R) -> Events<R, P> {
+        Events { input, place: 0, parser, bytes: Vec::new(), over: false }
     }
 
     fn read(&mut self) -> Result<Option<P::Event>, Unreadable> {

@@ -12,9 +12,6 @@ pub const WEEK: u32 = 168;
 pub const MONTH: u32 = 730;
 pub const YEAR: u32 = 12 * MONTH;
 
-/// A shelf holds no more.
-const FULL_SHELF: u16 = u16::MAX;
-
 /// Figures of a gateway, or of all, in a period.
 #[derive(Clone, Copy, Debug, Default, PartialEq, Eq)]
 pub struct Figures {
@@ -94,7 +91,7 @@ impl Changes {
 /// Follows the committed events of all gateways, in order of their hours.
 pub struct Accounts {
     opening: Vec<u16>,
-    stock: Vec<u16>,
+    stock: Vec<u32>,
     pub lamps: Lamps,
     last_hour: u32,
     weeks: Changes,
@@ -106,7 +103,7 @@ impl Accounts {
     /// Before the first event, with each gateway's opening stock.
     pub fn new(opening: Vec<u16>) -> Accounts {
         Accounts {
-            stock: opening.clone(),
+            stock: opening.iter().copied().map(u32::from).collect(),
             opening,
             lamps: Lamps::default(),
             last_hour: 0,
@@ -126,7 +123,7 @@ impl Accounts {
             ..Figures::default()
         };
         if event.kind == Kind::Restock {
-            shelf.restocked = event.quantity.min(FULL_SHELF - before).into();
+            shelf.restocked = event.quantity.into();
         } else {
             let stocked = event.kind == Kind::Request && before > 0;
             shelf.handed_out = stocked.into();

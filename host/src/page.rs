@@ -239,12 +239,13 @@ mod tests {
     /// Accounts of events made by hand: a shelf is asked an hour after a failure, and a driver is fitted a day later if there was one.
     struct Told {
         accounts: Accounts,
-        stock: Vec<u16>,
+        stock: Vec<u32>,
     }
 
     impl Told {
         fn new(scenario: &Scenario) -> Told {
-            Told { accounts: Accounts::new(scenario.stocks()), stock: scenario.stocks() }
+            let stock = scenario.stocks().into_iter().map(u32::from).collect();
+            Told { accounts: Accounts::new(scenario.stocks()), stock }
         }
 
         fn add(&mut self, event: Event) {
@@ -254,7 +255,7 @@ mod tests {
         }
 
         fn restock(&mut self, own: u8, hour: u32, quantity: u16) {
-            self.stock[usize::from(own)] += quantity;
+            self.stock[usize::from(own)] += u32::from(quantity);
             self.add(event(hour, Kind::Restock, own, [0; 18], quantity));
         }
 

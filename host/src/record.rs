@@ -1,16 +1,15 @@
-//! Reading records: the committed events of a gateway, each a frame and the state after it, one behind the other.
+//! Reading records: the committed events of a gateway, each a frame and the state after it, one behind the other. Those of earlier versions
+//! are read too: nothing in them tells that their stocks have two bytes, so whoever reads them says it.
 
 use crate::bytes::{half, word};
-use crate::events::{Events, Parser};
+use crate::events::{Events, Parser, Unreadable};
 use crate::frame::{
     in_table, length, CANCEL, DELIVERY, FAILURE, LAMP_LENGTH, LONGEST, REQUEST, RESTOCK, SENSE_BIT,
 };
 use crate::refusal;
-use interface::NOTHING_DUE;
+use interface::{NEW_STOCK, NOTHING_DUE, OLD_STATE_LENGTH, OLD_STOCK, STATE_LENGTH};
 use std::fmt;
-
-/// The state after an event: stock, failed, fitted and short, high byte first.
-pub(crate) const STATE_LENGTH: usize = 14;
+use std::io::Read;
 
 /// N is read as 255, so that no gateway has this number.
 pub(crate) const NO_GATEWAY: u8 = 255;
@@ -43,7 +42,7 @@ impl fmt::Display for Kind {
 /// The state of a gateway.
 #[derive(Clone, Copy, Debug, Default, PartialEq, Eq)]
 pub struct State {
-    pub stock: u16,
+    pub stock: u32,
     pub failed: u32,
     pub fitted: u32,
     pub short: u32,
@@ -52,12 +51,59 @@ pub struct State {
 impl State {
     /// The state that these bytes are.
     pub(crate) fn of(bytes: &[u8; STATE_LENGTH]) -> State {
-        State {
-            stock: half(bytes, 0),
-            failed: word(bytes, 2),
-            fitted: word(bytes, 6),
-            short: word(bytes, 10),
+        let [stock, failed, fitted, short] = [0, 4, 8, 12].map(|at| word(bytes, at));
+        State { stock, failed, fitted, short }
+    }
+}
+
+/// The stock that the states of a record have.
+#[derive(Clone, Copy, Debug, Default, PartialEq, Eq)]
+pub enum Stock {
+    /// Of four bytes, as gateways commit it.
+    #[default]
+    New,
+    /// Of two bytes, as in records of earlier versions.
+    Old,
+}
+
+impl Stock {
+    /// Its number in the call that makes views.
+    pub fn number(self) -> u32 {
+        match self {
+            Stock::New => NEW_STOCK,
+            Stock::Old => OLD_STOCK,
         }
+    }
+
+    /// Why a record with this stock cannot be read, and what to do if it is one with the other; `again` is the whole of it once more.
+    pub fn advised(self, why: Unreadable, again: impl Read) -> Unreadable {
+        let Unreadable::NoEvent { name, place, mut reason } = why else { return why };
+        let (other, advice) = match self {
+            Stock::New => (Stock::Old, "it is a record with the old stock: add --old-stock"),
+            Stock::Old => (Stock::New, "it is a record with the new stock: leave out --old-stock"),
+        };
+        if Records::with_stock(again, other).all(|record| record.is_ok()) {
+            reason += &format!("; {advice}");
+        }
+        Unreadable::NoEvent { name, place, reason }
+    }
+
+    fn state_length(self) -> usize {
+        match self {
+            Stock::New => STATE_LENGTH,
+            Stock::Old => OLD_STATE_LENGTH,
+        }
+    }
+
+    /// The state that these bytes are; `None` where they are not as many as a state has.
+    fn state(self, bytes: &[u8]) -> Option<State> {
+        let mut whole = [0; STATE_LENGTH];
+        let part = &mut whole[STATE_LENGTH - self.state_length()..];
+        if bytes.len() != part.len() {
+            return None;
+        }
+        part.copy_from_slice(bytes);
+        Some(State::of(&whole))
     }
 }
 
@@ -105,8 +151,10 @@ pub enum Reason {
     },
     GatewayNumber,
     Hour,
-    /// Only so many bytes of a state.
-    CutState(usize),
+    CutState {
+        found: usize,
+        length: usize,
+    },
     EventOrder,
 }
 
@@ -114,7 +162,7 @@ impl Reason {
     /// The number of a refusal for this reason.
     pub fn number(&self) -> u32 {
         match self {
-            Reason::FewerThanTwoBytes | Reason::CutFrame { .. } | Reason::CutState(_) => {
+            Reason::FewerThanTwoBytes | Reason::CutFrame { .. } | Reason::CutState { .. } => {
                 refusal::LENGTH
             }
             Reason::Lamp(_) => refusal::LAMP,
@@ -158,8 +206,8 @@ impl fmt::Display for Reason {
             Reason::NotTaken { .. } => write!(formatter, "an acknowledgment and no plain event"),
             Reason::GatewayNumber => write!(formatter, "gateway {NO_GATEWAY}"),
             Reason::Hour => write!(formatter, "hour {NOTHING_DUE}"),
-            Reason::CutState(found) => {
-                write!(formatter, "cut: {found} of a state's {STATE_LENGTH} bytes")
+            Reason::CutState { found, length } => {
+                write!(formatter, "cut: {found} of a state's {length} bytes")
             }
             Reason::EventOrder => write!(formatter, "not in event order"),
         }
@@ -169,8 +217,16 @@ impl fmt::Display for Reason {
 /// Reads a record event by event.
 pub type Records<R> = Events<R, RecordParser>;
 
+impl<R: Read> Records<R> {
+    /// Reads a record with this stock.
+    pub fn with_stock(input: R, stock: Stock) -> Records<R> {
+        Events::parsed_by(RecordParser { stock, last: None }, input)
+    }
+}
+
 #[derive(Default)]
 pub struct RecordParser {
+    stock: Stock,
     last: Option<Event>,
 }
 
@@ -180,11 +236,11 @@ impl Parser for RecordParser {
     type Reason = Reason;
 
     fn length(&self, map: u8) -> Result<usize, Reason> {
-        Ok(length(map).min(LONGEST) + STATE_LENGTH)
+        Ok(length(map).min(LONGEST) + self.stock.state_length())
     }
 
     fn parse(&mut self, bytes: &[u8]) -> Result<Record, Reason> {
-        let record = parsed(bytes)?;
+        let record = parsed(bytes, self.stock)?;
         if self.last.is_some_and(|last| record.event < last) {
             return Err(Reason::EventOrder);
         }
@@ -194,14 +250,12 @@ impl Parser for RecordParser {
 }
 
 /// The record that these bytes are, or the first reason why they are none. There is at least one byte.
-fn parsed(bytes: &[u8]) -> Result<Record, Reason> {
+fn parsed(bytes: &[u8], stock: Stock) -> Result<Record, Reason> {
     let (frame, state) = bytes.split_at(length(bytes[0]).min(bytes.len()));
     let event = event(frame)?;
     check_limits(&event)?;
-    let Ok(state) = <[u8; STATE_LENGTH]>::try_from(state) else {
-        return Err(Reason::CutState(state.len()));
-    };
-    Ok(Record { event, after: State::of(&state) })
+    let cut = Reason::CutState { found: state.len(), length: stock.state_length() };
+    Ok(Record { event, after: stock.state(state).ok_or(cut)? })
 }
 
 /// The event of a plain frame, or the first reason why these bytes are none.
@@ -315,7 +369,7 @@ mod tests {
     use crate::frame::{failure, restock};
 
     const LAMP: &Lamp = b"L00000000000000001";
-    const STATE: [u8; 14] = [1, 2, 0, 0, 0, 3, 0, 0, 0, 4, 0, 0, 1, 0];
+    const STATE: [u8; 16] = [0, 3, 1, 2, 0, 0, 0, 3, 0, 0, 0, 4, 0, 0, 1, 0];
     const START: [u8; 4] = [7, 4, 1, 2];
 
     fn recorded(frame: Vec<u8>) -> Vec<u8> {
@@ -331,7 +385,7 @@ mod tests {
         let bytes = [recorded(failure(3, 258, LAMP)), recorded(restock(6, 259, 772))].concat();
         let (records, why) = read(&bytes);
         assert_eq!(why, None);
-        let after = State { stock: 258, failed: 3, fitted: 4, short: 256 };
+        let after = State { stock: 196_866, failed: 3, fitted: 4, short: 256 };
         let event = Event {
             hour: 258,
             kind: Kind::Failure,
@@ -360,7 +414,7 @@ mod tests {
         let first = recorded(failure(3, 258, LAMP));
         let (records, why) = read(&[&first[..], second].concat());
         assert_eq!(records.len(), 1);
-        why.unwrap().strip_prefix("no record at byte 41: ").unwrap().into()
+        why.unwrap().strip_prefix("no record at byte 43: ").unwrap().into()
     }
 
     /// A record with these bytes in these places.
@@ -416,8 +470,8 @@ mod tests {
         assert_eq!(why(&recorded(failure(255, 300, LAMP))), no_gateway);
         let no_hour = "3 (hour past the last hour), hour 4294967295";
         assert_eq!(why(&recorded(failure(3, NOTHING_DUE, LAMP))), no_hour);
-        assert_eq!(why(&with(&[])[..27]), "11 (length), cut: 0 of a state's 14 bytes");
-        assert_eq!(why(&with(&[])[..40]), "11 (length), cut: 13 of a state's 14 bytes");
+        assert_eq!(why(&with(&[])[..27]), "11 (length), cut: 0 of a state's 16 bytes");
+        assert_eq!(why(&with(&[])[..42]), "11 (length), cut: 15 of a state's 16 bytes");
         assert_eq!(why(&with(&[(6, 0)])), "1 (form), not in event order");
     }
 
@@ -450,9 +504,9 @@ mod tests {
         assert_eq!(number(&gateway_fields_and_number), 1);
         let gateway_number_and_hour = recorded(failure(255, NOTHING_DUE, LAMP));
         assert_eq!(number(&gateway_number_and_hour), 2);
-        let hour_and_cut_state = &recorded(failure(3, NOTHING_DUE, LAMP))[..40];
+        let hour_and_cut_state = &recorded(failure(3, NOTHING_DUE, LAMP))[..42];
         assert_eq!(number(hour_and_cut_state), 3);
-        let cut_state_and_event_order = &with(&[(6, 0)])[..40];
+        let cut_state_and_event_order = &with(&[(6, 0)])[..42];
         assert_eq!(number(cut_state_and_event_order), 11);
     }
 
@@ -494,8 +548,27 @@ mod tests {
         let bytes = [recorded(restock(6, 5, 258)), recorded(failure(3, 258, LAMP))].concat();
         for length in 1..bytes.len() {
             let (records, why) = read(&bytes[..length]);
-            assert_eq!(records.len(), usize::from(length >= 24));
-            assert_eq!(why.is_none(), length == 24, "{length}: {why:?}");
+            assert_eq!(records.len(), usize::from(length >= 26));
+            assert_eq!(why.is_none(), length == 26, "{length}: {why:?}");
         }
+    }
+
+    /// The states of a record with the old stock lack two bytes; all else is the same.
+    #[test]
+    fn the_old_stock_has_two_bytes() {
+        let frames = [failure(3, 258, LAMP), restock(6, 259, 772)];
+        let old = frames.clone().map(|frame| [&frame[..], &STATE[2..]].concat()).concat();
+        let records = |length: usize| -> Vec<Result<Record, String>> {
+            let records = Records::with_stock(&old[..length], Stock::Old);
+            records.map(|record| record.map_err(|why| why.to_string())).collect()
+        };
+        let (mut expected, _) = read(&frames.map(recorded).concat());
+        expected.iter_mut().for_each(|record| record.after.stock = 258);
+        let expected: Vec<_> = expected.into_iter().map(Ok).collect();
+        assert_eq!(old.len(), 65);
+        assert_eq!(records(65), expected);
+        assert_eq!(records(41), expected[..1]);
+        let cut = Err("no record at byte 41: 11 (length), cut: 13 of a state's 14 bytes".into());
+        assert_eq!(records(64), [expected[0].clone(), cut]);
     }
 }

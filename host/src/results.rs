@@ -5,6 +5,7 @@ use crate::directory::{Directory, RESULTS};
 use crate::figures::Accounts;
 use crate::history::{BadRecord, History};
 use crate::page::Page;
+use crate::record::Stock;
 use crate::record_files::{name, BadFile};
 use crate::report;
 use crate::scenario::Scenario;
@@ -43,7 +44,8 @@ fn write_views(calls: &impl Calls, directory: &Directory, gateways: usize) -> Re
         let path = directory.path().join(name(gateway));
         let record = fs::read(&path).map_err(|error| BadFile::new(&path, error))?;
         for reader in READERS {
-            let view = reader.view(calls, &record).map_err(|what| BadFile::new(&path, what))?;
+            let view = reader.view(calls, &record, Stock::New);
+            let view = view.map_err(|what| BadFile::new(&path, what))?;
             directory.write(&reader.file_name(gateway), |out| out.write_all(&view))?;
         }
     }

@@ -14,7 +14,7 @@
 
 use crate::command::{input_text, shown, Ending, BAD_FILE};
 use crate::{frame, record};
-use interface::{Opening, MOST_HOURS, MOST_PLACES, NOTHING_DUE};
+use interface::{Opening, MOST_AT_ONCE, MOST_HOURS, MOST_PLACES, NOTHING_DUE};
 use std::ffi::OsStr;
 use std::fmt;
 
@@ -175,7 +175,7 @@ impl Reader {
 
     fn restock(&mut self, own: &str, hour: &str, quantity: &str) -> Result<(), String> {
         let (own, hour) = self.place(own, hour)?;
-        let quantity = number("a quantity", quantity, 0, 65_535)? as u16;
+        let quantity = number("a quantity", quantity, 0, MOST_AT_ONCE)? as u16;
         self.enter(own, frame::restock(own, hour, quantity))
     }
 
@@ -251,7 +251,7 @@ impl Settings {
     fn set(&mut self, name: &str, value: &str) -> Result<(), String> {
         let (setting, what, least, most) = match name {
             "supplier" => (&mut self.supplier, "a supplier", 0, 254),
-            "stock" => (&mut self.stock, "the stock", 0, 65_535),
+            "stock" => (&mut self.stock, "the stock", 0, MOST_AT_ONCE),
             "queue" => (&mut self.queue, "queue places", 1, MOST_PLACES),
             "outstanding" => (&mut self.outstanding, "outstanding places", 1, MOST_PLACES),
             "request" => (&mut self.request, "request hours", 1, MOST_HOURS),

@@ -3,9 +3,9 @@
 use crate::bytes::{half, word};
 use crate::events::{Events, Parser};
 use crate::frame::LAMP_LENGTH;
-use crate::record::{foreign_byte, kind, Kind, Lamp, State, NO_GATEWAY, STATE_LENGTH};
+use crate::record::{foreign_byte, kind, Kind, Lamp, State, Stock, NO_GATEWAY};
 use crate::refusal;
-use interface::{Calls, ViewAnswer, MAINTENANCE, NOTHING_DUE, PURCHASING};
+use interface::{Calls, ViewAnswer, MAINTENANCE, NOTHING_DUE, PURCHASING, STATE_LENGTH};
 use std::fmt;
 
 /// Who reads a record by a view of it.
@@ -40,10 +40,11 @@ impl Reader {
         format!("gateway-{gateway:03}.{self}")
     }
 
-    /// What the reader sees of a whole record, or why it is refused.
-    pub fn view(self, calls: &impl Calls, record: &[u8]) -> Result<Vec<u8>, String> {
+    /// What the reader sees of a whole record with this stock, or why it is refused.
+    pub fn view(self, calls: &impl Calls, record: &[u8], stock: Stock) -> Result<Vec<u8>, String> {
         let mut output = vec![0; record.len()];
-        let ViewAnswer { number, written } = calls.view(record, &mut output, self.number());
+        let ViewAnswer { number, written } =
+            calls.view(record, &mut output, self.number(), stock.number());
         if number != 0 {
             let number = refusal::named(number);
             return Err(format!("the view for {self} was answered with {number}"));
@@ -81,8 +82,8 @@ struct Map {
 }
 
 const MAPS: [Map; 4] = [
-    Map { number: 123, reader: Reader::Purchasing, is_restock: false, length: 20 },
-    Map { number: 127, reader: Reader::Purchasing, is_restock: true, length: 22 },
+    Map { number: 123, reader: Reader::Purchasing, is_restock: false, length: 22 },
+    Map { number: 127, reader: Reader::Purchasing, is_restock: true, length: 24 },
     Map { number: 15, reader: Reader::Maintenance, is_restock: false, length: 25 },
     Map { number: 3, reader: Reader::Maintenance, is_restock: true, length: HEAD_LENGTH },
 ];
@@ -218,8 +219,8 @@ mod tests {
     use crate::events;
 
     const LAMP: &Lamp = b"L00000000000000001";
-    const STATE: [u8; 14] = [1, 2, 0, 0, 0, 3, 0, 0, 0, 4, 0, 0, 1, 0];
-    const AFTER: State = State { stock: 258, failed: 3, fitted: 4, short: 256 };
+    const STATE: [u8; 16] = [0, 3, 1, 2, 0, 0, 0, 3, 0, 0, 0, 4, 0, 0, 1, 0];
+    const AFTER: State = State { stock: 196_866, failed: 3, fitted: 4, short: 256 };
 
     /// A Request and a Restock as purchasing sees them.
     fn for_purchasing() -> Vec<u8> {
@@ -269,15 +270,15 @@ mod tests {
 
     #[test]
     fn every_cut_is_found() {
-        for (bytes, first) in [(for_purchasing(), 20), (for_maintenance(), 25)] {
+        for (bytes, first) in [(for_purchasing(), 22), (for_maintenance(), 25)] {
             for length in 1..bytes.len() {
                 let (events, why) = read(&bytes[..length]);
                 assert_eq!(events.len(), usize::from(length >= first));
                 assert_eq!(why.is_none(), length == first, "{length}: {why:?}");
             }
         }
-        let why = read(&for_purchasing()[..41]).1.unwrap();
-        assert_eq!(why, "no view at byte 20: cut: 21 of an event's 22 bytes");
+        let why = read(&for_purchasing()[..45]).1.unwrap();
+        assert_eq!(why, "no view at byte 22: cut: 23 of an event's 24 bytes");
         let why = read(&for_maintenance()[..1]).1.unwrap();
         assert_eq!(why, "no view at byte 0: cut: 1 of an event's 25 bytes");
     }
@@ -287,10 +288,10 @@ mod tests {
         let why = |bytes: &[u8]| read(bytes).1.unwrap();
         let purchasing = |changes: &[(usize, u8)]| why(&with(for_purchasing(), changes));
         let maintenance = |changes: &[(usize, u8)]| why(&with(for_maintenance(), changes));
-        assert_eq!(purchasing(&[(20, 63)]), "no view at byte 20: map 63, which no view has");
+        assert_eq!(purchasing(&[(22, 63)]), "no view at byte 22: map 63, which no view has");
         assert_eq!(purchasing(&[(5, 4)]), "no view at byte 0: kind 4, which no event has");
         assert_eq!(purchasing(&[(5, 3)]), "no view at byte 0: map 123, which no Restock has");
-        assert_eq!(purchasing(&[(25, 2)]), "no view at byte 20: map 127, which no Delivery has");
+        assert_eq!(purchasing(&[(27, 2)]), "no view at byte 22: map 127, which no Delivery has");
         assert_eq!(maintenance(&[(30, 0)]), "no view at byte 25: map 3, which no Failure has");
         assert_eq!(maintenance(&[(5, 3)]), "no view at byte 0: map 15, which no Restock has");
         let hour = [(1, 255), (2, 255), (3, 255), (4, 255)];
@@ -309,7 +310,7 @@ mod tests {
         let why = |bytes: [Vec<u8>; 2]| read(&bytes.concat()).1.unwrap();
         assert_eq!(
             why([for_purchasing(), for_maintenance()]),
-            "no view at byte 42: map 15, which is for maintenance, behind events for another"
+            "no view at byte 46: map 15, which is for maintenance, behind events for another"
         );
         assert_eq!(
             why([for_maintenance(), for_purchasing()]),

@@ -179,8 +179,8 @@ impl Calls for Failing {
         Library.lamp(frame)
     }
 
-    fn view(&self, record: &[u8], output: &mut [u8], reader: u32) -> ViewAnswer {
-        Library.view(record, output, reader)
+    fn view(&self, record: &[u8], output: &mut [u8], reader: u32, old_stock: u32) -> ViewAnswer {
+        Library.view(record, output, reader, old_stock)
     }
 }
 

@@ -193,6 +193,15 @@ fn what_cannot_be_gone_on_with_is_refused_in_words() {
     refused(&directory, "forecast.copy: the copy is damaged or cut short");
     fs::write(&copy, b"").unwrap();
     refused(&directory, "forecast.copy: this is no copy of a forecast");
+    // As versions began a copy whose memories have stocks of two bytes.
+    let mut earlier = whole["forecast.copy"].clone();
+    assert_eq!(earlier[..16], *b"hurfaith copy 2\n");
+    earlier[14] = b'1';
+    fs::write(&copy, &earlier).unwrap();
+    refused(
+        &directory,
+        "forecast.copy: the copy was written by an earlier version of this program",
+    );
     put_back("forecast.copy");
 
     let other_hours = scenario().replace("request 2 life 4900", "request 2 life 4901");
@@ -212,8 +221,8 @@ fn what_cannot_be_gone_on_with_is_refused_in_words() {
     other[40] ^= 1;
     fs::write(directory.join("gateway-000.record"), &other).unwrap();
     refused(&directory, "gateway-000.record: not the bytes that were written to it");
-    fs::write(directory.join("gateway-000.record"), &record[..41]).unwrap();
-    refused(&directory, "gateway-000.record: 41 bytes where the copy needs ");
+    fs::write(directory.join("gateway-000.record"), &record[..43]).unwrap();
+    refused(&directory, "gateway-000.record: 43 bytes where the copy needs ");
     fs::remove_file(directory.join("gateway-000.record")).unwrap();
     refused(&directory, "gateway-000.record: No such file");
     put_back("gateway-000.record");

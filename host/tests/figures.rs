@@ -8,6 +8,7 @@ use host::lamps::Stage;
 use host::record::{Kind, Record, Records};
 use host::report::{order_table, write_lamps, write_orders, write_periods};
 use host::scenario::Scenario;
+use interface::MOST_STOCK;
 use library::Library;
 
 /// A forecast that has become whole: its records and the accounts of them.
@@ -60,7 +61,7 @@ impl Whole {
             &mut counted;
         *on_shelves = self.scenario.gateways[gateway].stock.into();
         for shelf in 0..self.records.len() {
-            let mut stock = self.scenario.gateways[shelf].stock;
+            let mut stock = u32::from(self.scenario.gateways[shelf].stock);
             let request_hours = self.scenario.gateways[shelf].request_hours;
             for Record { event, after } in self.events(shelf) {
                 let (of_lamp, of_shelf) = (usize::from(event.origin) == gateway, shelf == gateway);
@@ -166,8 +167,7 @@ fn a_lamp_that_fails_at_a_years_end() {
     assert_eq!(rows, [(1, [2, 1, 0, 0, 1, 4, 2, 0], 1), (2, [0, 1, 2, 0, 1, 3, 0, 0], 1)]);
 }
 
-/// A driver that comes in the hour of a Request is handed out in it; and where a shelf is full when more comes, that has not come, though
-/// the Request of the hour then makes room.
+/// A driver that comes in the hour of a Request is handed out in it; and however much is on the shelf, all that comes has come.
 #[test]
 fn a_restock_in_the_hour_of_a_request() {
     let restocked = |stock: u16| {
@@ -180,13 +180,30 @@ fn a_restock_in_the_hour_of_a_request() {
         assert!(lamps.ends_with("\nL00000000000000001,0,4,5,0,29,fitted\n"), "{lamps}");
         let kinds: Vec<Kind> = whole.events(0).iter().map(|record| record.event.kind).collect();
         assert_eq!(kinds, [Kind::Failure, Kind::Restock, Kind::Request, Kind::Delivery]);
-        let stocks: Vec<u16> = whole.events(0).iter().map(|record| record.after.stock).collect();
+        let stocks: Vec<u32> = whole.events(0).iter().map(|record| record.after.stock).collect();
         let [year] = whole.accounts.years().collect::<Vec<_>>().try_into().unwrap();
         (stocks, shown(&year.all))
     };
     assert_eq!(restocked(0), (vec![0, 10, 9, 9], [1, 1, 1, 10, 1, 9, 0, 0]));
-    let full = (vec![65_535, 65_535, 65_534, 65_534], [1, 1, 1, 0, 1, 65_534, 0, 0]);
-    assert_eq!(restocked(65_535), full);
+    let much = (vec![65_535, 65_545, 65_544, 65_544], [1, 1, 1, 10, 1, 65_544, 0, 0]);
+    assert_eq!(restocked(65_535), much);
+}
+
+/// All that an opening stock and an opening list can bring comes to the shelf, and lamps are served from it.
+#[test]
+fn the_most_that_a_shelf_can_have() {
+    let restocks: String = (1..=512).map(|hour| format!("restock 0 {hour} 65535\n")).collect();
+    let whole = Whole::run(&format!(
+        "last-hour 800\ngateway 0 supplier 0 stock 65535\ngateway 1 supplier 0 stock 0\n\
+         {restocks}failure 1 700 L00000000000000001\n",
+    ));
+    check(&whole);
+    let stocks: Vec<u32> = whole.events(0).iter().map(|record| record.after.stock).collect();
+    let restocked = (1..=512).map(|restocks| 65_535 * (1 + restocks));
+    let expected: Vec<u32> = restocked.chain([MOST_STOCK - 1]).collect();
+    assert_eq!(stocks, expected);
+    let [year] = whole.accounts.years().collect::<Vec<_>>().try_into().unwrap();
+    assert_eq!(shown(&year.gateways[0]), [0, 0, 0, 33_553_920, 1, 33_619_454, 0, 0]);
 }
 
 /// A lamp that is short over a year's end is to be ordered in the first year alone.
@@ -212,7 +229,7 @@ fn the_years_end_with_the_last_in_which_something_happens() {
     check(&whole);
     let years: Vec<Period> = whole.accounts.years().collect();
     assert_eq!(years.iter().map(|year| year.number).collect::<Vec<_>>(), [1, 3, 490_294]);
-    assert_eq!(shown(&years[1].all), [0, 0, 0, 65_534, 0, 65_535, 0, 0]);
+    assert_eq!(shown(&years[1].all), [0, 0, 0, 65_535, 0, 65_536, 0, 0]);
     assert_eq!(whole.accounts.months().last().unwrap().number, 5_883_517);
     let nothing = Whole::run("last-hour 4294967294\ngateway 0 supplier 0 stock 7\n");
     assert_eq!(nothing.accounts.years().count(), 0);
@@ -273,8 +290,8 @@ fn random_forecasts_add_up() {
     }
 }
 
-/// A random scenario in which lamps fail more than once, also in one hour, and shelves run empty and over. Some gateways have hours of their
-/// own.
+/// A random scenario in which lamps fail more than once, also in one hour, and shelves run empty or come to more than 65,535. Some gateways
+/// have hours of their own.
 fn scenario(generator: &mut Generator, last_hour: u32) -> String {
     let gateways = 1 + generator.below(5);
     let mut text = format!("last-hour {last_hour}\n");
@@ -286,7 +303,7 @@ fn scenario(generator: &mut Generator, last_hour: u32) -> String {
         let (own, hour) = (generator.below(gateways), generator.below(last_hour + 1));
         let hour = if generator.below(3) == 0 { hour / MONTH * MONTH } else { hour };
         text += &match generator.below(3) {
-            0 => format!("restock {own} {hour} {}\n", generator.pick(&[0, 1, 5, 100])),
+            0 => format!("restock {own} {hour} {}\n", generator.pick(&[0, 1, 5, 100, 65_535])),
             _ => format!("failure {own} {hour} L,\"{:015}\n", generator.below(4)),
         };
     }

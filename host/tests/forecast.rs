@@ -34,7 +34,7 @@ fn the_last_example_of_document_01() {
         ]
     );
     assert_eq!(read(&result, "forecast.scenario"), TWO);
-    assert_eq!(fs::read(result.join("gateway-001.record")).unwrap().len(), 91 * 41);
+    assert_eq!(fs::read(result.join("gateway-001.record")).unwrap().len(), 91 * 43);
     assert!(read(&result, "months.csv").ends_with("\n1,all,2,1,1,0,1,0,0,1,2\n"));
     let page = read(&result, "report.html");
     assert!(page.contains("<h1>Spares forecast: Document 01&#39;s last example"), "{page}");
@@ -117,8 +117,8 @@ fn a_forecast_that_cannot_go_on_keeps_what_is_committed() {
         assert!(read(&result, "years.csv").ends_with("\n1,all,0,0,0,3,0,3,0,0,-3\n"));
         assert!(read(&result, "report.html").contains("4 queue places are too few"));
         let length = |name: &str| fs::metadata(result.join(name)).unwrap().len();
-        assert_eq!(length("gateway-000.record"), 24);
-        assert_eq!(length("gateway-000.purchasing"), 22);
+        assert_eq!(length("gateway-000.record"), 26);
+        assert_eq!(length("gateway-000.purchasing"), 24);
         assert_eq!(length("gateway-000.maintenance"), 6);
     }
 }

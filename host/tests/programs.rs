@@ -17,12 +17,11 @@ const LAMP: &Lamp = b"L00000000000000001";
 const ODD_LAMP: &Lamp = b"A,\"00000000000000~";
 
 /// Where the events of the small record begin, and its length.
-const PLACES: [usize; 5] = [0, 41, 82, 123, 147];
+const PLACES: [usize; 5] = [0, 43, 86, 129, 155];
 
 /// An event and a state after it.
-fn recorded(frame: Vec<u8>, stock: u16, [failed, fitted, short]: [u32; 3]) -> Vec<u8> {
-    let counters = [failed, fitted, short].map(u32::to_be_bytes).concat();
-    [frame, stock.to_be_bytes().into(), counters].concat()
+fn recorded(frame: Vec<u8>, stock: u32, [failed, fitted, short]: [u32; 3]) -> Vec<u8> {
+    [frame, [stock, failed, fitted, short].map(u32::to_be_bytes).concat()].concat()
 }
 
 /// The frame of a message that is no Failure.
@@ -32,23 +31,36 @@ fn message(kind: u8, from: u8, to: u8, hour: u32, origin: u8, lamp: &Lamp) -> Ve
     frame
 }
 
-/// A record with an event of each kind.
-fn small() -> Vec<u8> {
+/// An event of each kind, with the state after it.
+fn events() -> [Vec<u8>; 4] {
     [
         recorded(failure(3, 10, LAMP), 258, [1, 0, 0]),
         recorded(message(REQUEST, 4, 3, 11, 5, ODD_LAMP), 257, [1, 0, 0]),
         recorded(message(DELIVERY, 4, 3, 20, 3, LAMP), 257, [1, 1, 0]),
-        recorded(restock(3, u32::MAX - 1, 65_535), 65_535, [u32::MAX; 3]),
+        recorded(restock(3, u32::MAX - 1, 65_535), 33_619_455, [u32::MAX; 3]),
     ]
-    .concat()
+}
+
+/// The record of these events.
+fn small() -> Vec<u8> {
+    events().concat()
+}
+
+/// A record of them as an earlier version wrote it: the stock lacks its first two bytes.
+fn old() -> Vec<u8> {
+    let old = |event: Vec<u8>| {
+        let (frame, state) = event.split_at(event.len() - 16);
+        [frame, &state[2..]].concat()
+    };
+    events().map(old).concat()
 }
 
 const TABLE: &str = "      \
-      hour      kind  from   to  origin                lamp  quantity  stock      failed      fitted       short
-        10   Failure     3    3       3  L00000000000000001              258           1           0           0
-        11   Request     4    3       5  A,\"00000000000000~              257           1           0           0
-        20  Delivery     4    3       3  L00000000000000001              257           1           1           0
-4294967294   Restock     3    3                                 65535  65535  4294967295  4294967295  4294967295
+      hour      kind  from   to  origin                lamp  quantity     stock      failed      fitted       short
+        10   Failure     3    3       3  L00000000000000001                 258           1           0           0
+        11   Request     4    3       5  A,\"00000000000000~                 257           1           0           0
+        20  Delivery     4    3       3  L00000000000000001                 257           1           1           0
+4294967294   Restock     3    3                                 65535  33619455  4294967295  4294967295  4294967295
 ";
 
 const CSV: &str = "\
@@ -56,7 +68,7 @@ hour,kind,from,to,origin,lamp,quantity,stock,failed,fitted,short
 10,Failure,3,3,3,L00000000000000001,,258,1,0,0
 11,Request,4,3,5,\"A,\"\"00000000000000~\",,257,1,0,0
 20,Delivery,4,3,3,L00000000000000001,,257,1,1,0
-4294967294,Restock,3,3,,,65535,65535,4294967295,4294967295,4294967295
+4294967294,Restock,3,3,,,65535,33619455,4294967295,4294967295,4294967295
 ";
 
 /// What is printed for the small record with these words before it; it must end well.
@@ -180,24 +192,24 @@ fn a_damaged_byte_is_found_whatever_is_picked() {
     let begin = "standard input: no record at byte";
     assert_eq!(
         damaged(PLACES[2], 0),
-        format!("{begin} 82: 11 (length), a frame of fewer than two bytes\n")
+        format!("{begin} 86: 11 (length), a frame of fewer than two bytes\n")
     );
     assert_eq!(
         damaged(PLACES[2] + 1, 7),
-        format!("{begin} 82: 1 (form), map 63 with kind 7, which no frame has\n")
+        format!("{begin} 86: 1 (form), map 63 with kind 7, which no frame has\n")
     );
     assert_eq!(
         damaged(PLACES[2] + 26, 200),
-        format!("{begin} 82: 12 (lamp), byte 200 is outside 33 to 126\n")
+        format!("{begin} 86: 12 (lamp), byte 200 is outside 33 to 126\n")
     );
-    assert_eq!(damaged(PLACES[2] + 7, 9), format!("{begin} 82: 1 (form), not in event order\n"));
+    assert_eq!(damaged(PLACES[2] + 7, 9), format!("{begin} 86: 1 (form), not in event order\n"));
     assert_eq!(
         damaged(PLACES[1] + 2, 255),
-        format!("{begin} 41: 2 (gateway number or addressee), gateway 255\n")
+        format!("{begin} 43: 2 (gateway number or addressee), gateway 255\n")
     );
     assert_eq!(
         damaged(PLACES[3] + 7, 255),
-        format!("{begin} 123: 3 (hour past the last hour), hour 4294967295\n")
+        format!("{begin} 129: 3 (hour past the last hour), hour 4294967295\n")
     );
 }
 
@@ -208,7 +220,7 @@ fn the_next_file_follows_a_bad_one() {
     let whole = file(&directory, "whole", &small());
     let missing = directory.join("missing").to_str().unwrap().to_string();
     let no_record =
-        format!("{cut}: no record at byte 82: 11 (length), cut: 18 of a frame's 27 bytes\n");
+        format!("{cut}: no record at byte 86: 11 (length), cut: 14 of a frame's 27 bytes\n");
     let half = lines(TABLE, &[0, 1, 2]);
 
     let tables = format!("{cut}\n{half}\n{whole}\n{TABLE}");
@@ -221,6 +233,37 @@ fn the_next_file_follows_a_bad_one() {
     let Ended { status, output, error } = run(RECORD, &[directory.to_str().unwrap(), &cut]);
     assert_eq!(status, Some(3));
     assert!(output.ends_with(&half) && error.ends_with(&no_record), "{error}");
+}
+
+/// What stands in the table for a record of an earlier version, whose last stock is the low half of the new one.
+#[test]
+fn a_record_of_an_earlier_version() {
+    let table = TABLE.replace("  33619455", "     65023");
+    let csv = CSV.replace("33619455", "65023");
+    assert_eq!(run_on(RECORD, &["--old-stock", "-"], &old()).good(), table);
+    assert_eq!(run_on(RECORD, &["--csv", "--old-stock", "-"], &old()).good(), csv);
+    let words = ["--old-stock", "--kind=restock", "-"];
+    assert_eq!(run_on(RECORD, &words, &old()).good(), lines(&table, &[0, 4]));
+
+    let directory = scratch("record-old");
+    let [new, old] = [file(&directory, "new", &small()), file(&directory, "old", &old())];
+    let Ended { status, output, error } = run(RECORD, &["--csv", &old]);
+    let first = "10,Failure,3,3,3,L00000000000000001,,16908288,65536,0,16129\n";
+    assert_eq!((status, output), (Some(1), lines(CSV, &[0]) + first));
+    let advice = "it is a record with the old stock: add --old-stock";
+    let why = "1 (form), map 4 with kind 3, which no frame has";
+    assert_eq!(error, format!("{old}: no record at byte 43: {why}; {advice}\n"));
+
+    let Ended { status, error, .. } = run(RECORD, &["--old-stock", &new]);
+    let advice = "it is a record with the new stock: leave out --old-stock";
+    let why = "11 (length), a frame of fewer than two bytes";
+    assert_eq!(status, Some(1));
+    assert_eq!(error, format!("{new}: no record at byte 41: {why}; {advice}\n"));
+    let error = run_on(RECORD, &["--old-stock", "-"], &small()).error;
+    assert_eq!(error, format!("standard input: no record at byte 41: {why}\n"));
+    let cut = file(&directory, "cut", &small()[..42]);
+    let why = "11 (length), cut: 15 of a state's 16 bytes";
+    assert_eq!(run(RECORD, &[&cut]).error, format!("{cut}: no record at byte 0: {why}\n"));
 }
 
 #[test]

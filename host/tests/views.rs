@@ -4,13 +4,16 @@
 mod common;
 
 use common::{
-    check_bad_usage, check_help_and_version, file, lines, run, run_on, run_unread, scratch, Ended,
+    check_bad_usage, check_help_and_version, file, lines, run, run_on, run_unread, scratch, start,
+    Ended,
 };
-use host::record::{Kind, Record, Records};
+use host::frame;
+use host::record::{Kind, Record, Records, Stock};
 use host::scenario::Scenario;
 use host::view::{Fields, Reader, Viewed, Views, READERS};
 use library::Library;
 use std::fs;
+use std::io::Write;
 use std::path::{Path, PathBuf};
 
 const VIEWS: &str = env!("CARGO_BIN_EXE_views");
@@ -24,8 +27,8 @@ const ODD_LAMP: &str = "A,\"00000000000000~";
 
 /// An event of each kind as purchasing sees it: its map, hour and kind, the quantity if it is a Restock, and the state.
 fn for_purchasing() -> Vec<u8> {
-    let state = |stock: u16, counters: [u32; 3]| {
-        [&stock.to_be_bytes()[..], &counters.map(u32::to_be_bytes).concat()].concat()
+    let state = |stock: u32, [failed, fitted, short]: [u32; 3]| {
+        [stock, failed, fitted, short].map(u32::to_be_bytes).concat()
     };
     [
         &[123, 0, 0, 0, 10, 0][..],
@@ -35,7 +38,7 @@ fn for_purchasing() -> Vec<u8> {
         &[123, 0, 0, 0, 20, 2],
         &state(257, [1, 1, 0]),
         &[127, 255, 255, 255, 254, 3, 255, 255],
-        &state(65_535, [u32::MAX; 3]),
+        &state(33_619_455, [u32::MAX; 3]),
     ]
     .concat()
 }
@@ -58,15 +61,15 @@ fn for_maintenance() -> Vec<u8> {
 }
 
 /// Where the events of each begin, and its length.
-const PLACES: [[usize; 5]; 2] = [[0, 20, 40, 60, 82], [0, 25, 50, 75, 81]];
+const PLACES: [[usize; 5]; 2] = [[0, 22, 44, 66, 90], [0, 25, 50, 75, 81]];
 
 const TABLES: [&str; 2] = [
     "      \
-      hour      kind  quantity  stock      failed      fitted       short
-        10   Failure              258           1           0           0
-        11   Request              257           1           0           0
-        20  Delivery              257           1           1           0
-4294967294   Restock     65535  65535  4294967295  4294967295  4294967295
+      hour      kind  quantity     stock      failed      fitted       short
+        10   Failure                 258           1           0           0
+        11   Request                 257           1           0           0
+        20  Delivery                 257           1           1           0
+4294967294   Restock     65535  33619455  4294967295  4294967295  4294967295
 ",
     "      \
       hour      kind                lamp  origin
@@ -83,7 +86,7 @@ hour,kind,quantity,stock,failed,fitted,short
 10,Failure,,258,1,0,0
 11,Request,,257,1,0,0
 20,Delivery,,257,1,1,0
-4294967294,Restock,65535,65535,4294967295,4294967295,4294967295
+4294967294,Restock,65535,33619455,4294967295,4294967295,4294967295
 ",
     "\
 hour,kind,lamp,origin
@@ -373,8 +376,8 @@ fn length(reader: Reader, record: &Record) -> usize {
     1 + 4
         + 1
         + match (reader, is_restock) {
-            (Reader::Purchasing, false) => 2 + 3 * 4,
-            (Reader::Purchasing, true) => 2 + 2 + 3 * 4,
+            (Reader::Purchasing, false) => 4 * 4,
+            (Reader::Purchasing, true) => 2 + 4 * 4,
             (Reader::Maintenance, false) => 18 + 1,
             (Reader::Maintenance, true) => 0,
         }
@@ -459,8 +462,94 @@ fn what_is_printed_of_a_view_stands_in_the_record() {
 fn a_view_that_is_refused_is_told_in_words() {
     let cut = [63, 0, 1];
     for reader in READERS {
-        let why = reader.view(&Library, &cut).unwrap_err();
-        assert_eq!(why, format!("the view for {reader} was answered with 11 (length)"));
-        assert_eq!(reader.view(&Library, &[]), Ok(vec![]));
+        for stock in [Stock::New, Stock::Old] {
+            let why = reader.view(&Library, &cut, stock).unwrap_err();
+            assert_eq!(why, format!("the view for {reader} was answered with 11 (length)"));
+            assert_eq!(reader.view(&Library, &[], stock), Ok(vec![]));
+        }
     }
+}
+
+/// A record as an earlier version wrote it, with stocks of two bytes, of one in which no stock has more.
+fn old(record: &[u8]) -> Vec<u8> {
+    let mut old = Vec::new();
+    let mut rest = record;
+    while let Some(&map) = rest.first() {
+        let (frame, behind) = rest.split_at(frame::length(map));
+        let (state, behind) = behind.split_at(16);
+        assert_eq!(state[..2], [0, 0]);
+        old.extend([frame, &state[2..]].concat());
+        rest = behind;
+    }
+    old
+}
+
+/// Of a record of an earlier version the views are those of the same record with the new stock.
+#[test]
+fn views_are_made_of_records() {
+    let directory = forecast("views-made", &four(5));
+    for gateway in 0..4 {
+        let name = directory.join(format!("gateway-{gateway:03}.record"));
+        let record = fs::read(&name).unwrap();
+        let old_record = old(&record);
+        assert!(old_record.len() < record.len());
+        let old_name = directory.join("old");
+        fs::write(&old_name, &old_record).unwrap();
+        for reader in READERS {
+            let expected = fs::read(directory.join(reader.file_name(gateway))).unwrap();
+            let made = |words: &[&str], input: &[u8]| {
+                let name = reader.to_string();
+                let words = [&["--make", &name], words].concat();
+                let mut child = start(VIEWS, &words);
+                let _ = child.stdin.take().unwrap().write_all(input);
+                let output = child.wait_with_output().unwrap();
+                assert_eq!((output.status.code(), &output.stderr[..]), (Some(0), &b""[..]));
+                output.stdout
+            };
+            assert_eq!(made(&[name.to_str().unwrap()], b""), expected);
+            assert_eq!(made(&["-"], &record), expected);
+            assert_eq!(made(&["--old-stock", old_name.to_str().unwrap()], b""), expected);
+            assert_eq!(made(&["--old-stock", "-"], &old_record), expected);
+            assert_eq!(made(&["-"], b""), b"");
+        }
+    }
+}
+
+#[test]
+fn what_no_view_can_be_made_of_is_named() {
+    let bad = |words: &[&str], what: &str| check_bad_usage(VIEWS, words, what);
+    bad(&["--make", "stores", "-"], "--make is purchasing or maintenance, not \"stores\"");
+    bad(&["--make", "purchasing"], "RECORD is missing");
+    bad(&["--make", "purchasing", "a", "b"], "\"b\" is one word too many");
+    bad(&["--make", "purchasing", "--csv", "-"], "--make and --csv contradict each other");
+    bad(&["--make", "purchasing", "--kind=x", "-"], "--make and --kind contradict each other");
+    bad(&["--old-stock", "-"], "--old-stock is said of a RECORD, with --make");
+
+    let directory = scratch("views-unmade");
+    let missing = directory.join("missing");
+    let words = ["--make", "purchasing", missing.to_str().unwrap()];
+    let error = run(VIEWS, &words).refused(3);
+    assert!(error.starts_with(&format!("{}: ", missing.display())), "{error}");
+
+    let record = [&frame::restock(6, 5, 258)[..], &[0; 16]].concat().repeat(2);
+    let refused = |words: &[&str], input: &[u8]| {
+        let words = [&["--make", "purchasing"], words].concat();
+        run_on(VIEWS, &words, input).refused(1)
+    };
+    let begin = "standard input: no record at byte";
+    let cut = format!("{begin} 26: 11 (length), cut: 15 of a state's 16 bytes\n");
+    assert_eq!(refused(&["-"], &record[..51]), cut);
+    let old_record = old(&record);
+    let cut = format!("{begin} 24: 11 (length), cut: 13 of a state's 14 bytes\n");
+    assert_eq!(refused(&["--old-stock", "-"], &old_record[..47]), cut);
+    let other = format!(
+        "{begin} 26: 1 (form), map 6 with kind 6, which no frame has; \
+         it is a record with the old stock: add --old-stock\n"
+    );
+    assert_eq!(refused(&["-"], &old_record), other);
+    let other = format!(
+        "{begin} 24: 11 (length), a frame of fewer than two bytes; \
+         it is a record with the new stock: leave out --old-stock\n"
+    );
+    assert_eq!(refused(&["--old-stock", "-"], &record), other);
 }

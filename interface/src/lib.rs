@@ -13,6 +13,12 @@ pub const NO_NEIGHBOUR: u16 = u16::MAX;
 /// The most queue places, and the most outstanding places, that set up takes.
 pub const MOST_PLACES: u32 = 512;
 
+/// The most drivers that an opening stock has, and the most that a Restock brings.
+pub const MOST_AT_ONCE: u32 = 65_535;
+
+/// The most that a stock may have: an opening stock and as many Restocks as an opening list holds, each of the most.
+pub const MOST_STOCK: u32 = MOST_AT_ONCE + MOST_PLACES * MOST_AT_ONCE;
+
 /// The most request hours, delivery hours and life hours that set up takes. The least are 1, as a message is later than its cause.
 pub const MOST_HOURS: u32 = 1_000_000;
 
@@ -27,12 +33,22 @@ pub const fn ample_output(outstanding_places: u32) -> usize {
     }
 }
 
+/// The bytes of a state: stock, failed, fitted and short, four each, high byte first.
+pub const STATE_LENGTH: usize = 16;
+
+/// The bytes of a state in a record with the old stock, which has two.
+pub const OLD_STATE_LENGTH: usize = 14;
+
 /// The most bytes that a commit writes: a frame of 27 bytes and the state.
-pub const LONGEST_RECORD: usize = 41;
+pub const LONGEST_RECORD: usize = 27 + STATE_LENGTH;
 
 /// The readers for whom `view` writes.
 pub const PURCHASING: u32 = 0;
 pub const MAINTENANCE: u32 = 1;
+
+/// The stocks that a record may have: of four bytes, as `commit` writes it, or the old one of two, as earlier builds wrote it.
+pub const NEW_STOCK: u32 = 0;
+pub const OLD_STOCK: u32 = 1;
 
 /// The least length of the memory that set up is lent.
 pub const fn memory_length(queue_places: u32, outstanding_places: u32) -> usize {
@@ -148,10 +164,11 @@ pub trait Calls {
     /// Reads the lamp of a frame: 0, or 1, 11 or 12 where the frame is refused, 1 too where it has no lamp.
     fn lamp(&self, frame: &[u8]) -> LampPlace;
 
-    /// Writes what a reader, [`PURCHASING`] or [`MAINTENANCE`], sees of a whole record: for each event a map and the fields whose
-    /// bit stands. 0; or 8 for another reader or a record of 2^48 bytes or more; or 1, 11, 12, 2, 3 or, for a cut state, 11 of the
-    /// first event that is refused; or 5. An output as long as the record is enough.
-    fn view(&self, record: &[u8], output: &mut [u8], reader: u32) -> ViewAnswer;
+    /// Writes what a reader, [`PURCHASING`] or [`MAINTENANCE`], sees of a whole record with [`NEW_STOCK`] or [`OLD_STOCK`]: for each
+    /// event a map and the fields whose bit stands, a stock of four bytes of either record. 0; or 8 for another reader, another stock or
+    /// a record of 2^48 bytes or more; or 1, 11, 12, 2, 3 or, for a cut state, 11 of the first event that is refused; or 5. An output
+    /// as long as the record is enough.
+    fn view(&self, record: &[u8], output: &mut [u8], reader: u32, old_stock: u32) -> ViewAnswer;
 }
 
 #[cfg(test)]
@@ -159,9 +176,14 @@ mod tests {
     use super::*;
 
     #[test]
+    fn the_most_that_a_stock_may_have() {
+        assert_eq!(MOST_STOCK, 33_619_455);
+    }
+
+    #[test]
     fn all_above_the_number_of_a_view_is_what_was_written() {
         assert_eq!(ViewAnswer::unpacked(8), ViewAnswer { number: 8, written: 0 });
-        assert_eq!(ViewAnswer::unpacked(20 << 8), ViewAnswer { number: 0, written: 20 });
+        assert_eq!(ViewAnswer::unpacked(22 << 8), ViewAnswer { number: 0, written: 22 });
         let most = (1 << 48) - 1;
         assert_eq!(
             ViewAnswer::unpacked(most << 8),

@@ -66,6 +66,7 @@ mod declared {
             output: *mut u8,
             output_length: usize,
             reader: u32,
+            old_stock: u32,
         ) -> u64;
     }
 }
@@ -167,7 +168,7 @@ impl Calls for Library {
         LampPlace::unpacked(unsafe { declared::hurfaith_lamp(frame.as_ptr(), frame.len()) })
     }
 
-    fn view(&self, record: &[u8], output: &mut [u8], reader: u32) -> ViewAnswer {
+    fn view(&self, record: &[u8], output: &mut [u8], reader: u32, old_stock: u32) -> ViewAnswer {
         // SAFETY: each pointer and length are those of one slice; the output is lent mutably.
         ViewAnswer::unpacked(unsafe {
             declared::hurfaith_view(
@@ -176,6 +177,7 @@ impl Calls for Library {
                 output.as_mut_ptr(),
                 output.len(),
                 reader,
+                old_stock,
             )
         })
     }

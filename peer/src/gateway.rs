@@ -2,7 +2,8 @@
 
 use crate::frame::{self, Frame, Sense};
 use crate::model::{
-    self, Done, Hour, Hours, Kind, Message, Settings, State, MAX_LAST_HOUR, NOTHING_DUE,
+    self, Done, Hour, Hours, Kind, Message, Settings, State, MAX_LAST_HOUR, MOST_OPENING_STOCK,
+    NOTHING_DUE,
 };
 use crate::record;
 use crate::refusal::{Reason, Refusal};
@@ -74,7 +75,7 @@ impl Setup {
         (1..=255).contains(&self.nodes)
             && self.own < self.nodes
             && self.supplier < self.nodes
-            && self.stock <= u16::MAX.into()
+            && self.stock <= MOST_OPENING_STOCK
             && self.last_hour <= MAX_LAST_HOUR
             && places.contains(&self.queue_places)
             && places.contains(&self.outstanding_places)
@@ -99,7 +100,7 @@ impl Gateway {
             settings: Settings { own, supplier, last_hour: setup.last_hour, hours: setup.hours },
             queue_places: setup.queue_places as usize,
             outstanding_places: setup.outstanding_places as usize,
-            state: State { stock: setup.stock as u16, ..State::default() },
+            state: State { stock: setup.stock, ..State::default() },
             agreed: 0,
             processed: VecDeque::new(),
             pending: Vec::new(),
@@ -492,9 +493,9 @@ mod tests {
         assert_eq!(gateway.work(9, AMPLE).count, 2);
         assert_eq!(gateway.commit(AMPLE), Err(Refusal::Nothing));
         take(&mut gateway, Frame::Update { from: 0, to: 1, hour: 12 }).unwrap();
-        assert_eq!(gateway.commit(40), Err(Refusal::NoRoom));
+        assert_eq!(gateway.commit(42), Err(Refusal::NoRoom));
         let after = State { failed: 1, ..State::default() };
-        assert_eq!(gateway.commit(41), Ok(Done { message: failure(1, 11, LAMP_1), after }));
+        assert_eq!(gateway.commit(43), Ok(Done { message: failure(1, 11, LAMP_1), after }));
         assert_eq!(gateway.commit(0), Err(Refusal::Nothing), "12 stays; 6 comes before 5");
     }
 

@@ -1,4 +1,4 @@
-//! The rules of document 01 and requests (a) to (d) of document 02 written again from the papers, for comparison.
+//! The rules of document 01 and requests (a) to (f) of document 02 written again from the papers, for comparison.
 
 pub mod arcs;
 pub mod carrier;

@@ -2,8 +2,10 @@
 
 use crate::frame::{self, Frame, Sense};
 use crate::gateway::{self, Gateway, Processed, Sent};
-use crate::model::{self, Done, Hour, Hours, Kind, Message, Settings, State, MAX_LAST_HOUR};
-use crate::record::{state, state_bytes, STATE_LENGTH};
+use crate::model::{
+    self, Done, Hour, Hours, Kind, Message, Settings, State, MAX_LAST_HOUR, MOST_STOCK,
+};
+use crate::record::{state, state_bytes, Stock, STATE_LENGTH};
 use crate::round::{Phase, Round};
 use std::ops::Range;
 
@@ -41,9 +43,13 @@ pub enum Unsound {
     Order,
     ProcessedBehindUnprocessed,
     CancelBesidePlain,
+    /// The stock held and the Restocks still to be done come to too much.
+    StockHeld,
+    /// So do a stock saved and the Restocks from there on.
+    StockSaved,
 }
 
-pub const REASONS: [Unsound; 14] = [
+pub const REASONS: [Unsound; 16] = [
     Unsound::TooShort,
     Unsound::Settings,
     Unsound::RequestHours,
@@ -58,6 +64,8 @@ pub const REASONS: [Unsound; 14] = [
     Unsound::Order,
     Unsound::ProcessedBehindUnprocessed,
     Unsound::CancelBesidePlain,
+    Unsound::StockHeld,
+    Unsound::StockSaved,
 ];
 
 /// What a queue place holds.
@@ -119,8 +127,9 @@ pub fn read(memory: &[u8]) -> Result<Gateway, Unsound> {
         outstanding.push(sent);
     }
     check_queue(&entries)?;
+    let (state, _) = state(&memory[STATE], Stock::New).ok_or(Unsound::TooShort)?;
+    check_stocks(state.stock, &entries)?;
 
-    let (state, _) = state(&memory[STATE]).ok_or(Unsound::TooShort)?;
     let of_mark = |mark| entries.iter().filter(move |entry| entry.mark == mark);
     Ok(Gateway {
         nodes,
@@ -261,7 +270,7 @@ fn entry(place: &[u8]) -> Option<Entry> {
         _ => return None,
     };
     let sense = if mark == Mark::Waiting { Sense::Cancel } else { Sense::Plain };
-    let (before, _) = state(&place[BEFORE])?;
+    let (before, _) = state(&place[BEFORE], Stock::New)?;
     let entry = Entry { mark, message: message(place, sense)?, before };
     let state_allowed = mark == Mark::Processed || entry.before == State::default();
     (state_allowed && entry_bytes(&entry) == place).then_some(entry)
@@ -335,6 +344,25 @@ fn check_queue(entries: &[Entry]) -> Result<(), Unsound> {
     Ok(())
 }
 
+/// No stock comes to more than a stock can by the Restocks that are still to be done from it: from the one held the pending ones, from the
+/// one saved before a processed message that message and all behind it.
+fn check_stocks(held: u32, entries: &[Entry]) -> Result<(), Unsound> {
+    let fits = |stock: u32, restocks: u64| u64::from(stock) + restocks <= u64::from(MOST_STOCK);
+    let brings = |entry: &Entry| u64::from(entry.message.quantity);
+    let is_pending = |entry: &&Entry| entry.mark == Mark::Pending;
+    if !fits(held, entries.iter().filter(is_pending).map(brings).sum()) {
+        return Err(Unsound::StockHeld);
+    }
+    let mut restocks = 0;
+    for entry in entries.iter().rev() {
+        restocks += brings(entry);
+        if entry.mark == Mark::Processed && !fits(entry.before.stock, restocks) {
+            return Err(Unsound::StockSaved);
+        }
+    }
+    Ok(())
+}
+
 fn message_bytes(mark: u8, message: &Message) -> Vec<u8> {
     let Message { hour, kind, origin, lamp, quantity, from, to } = *message;
     let head = [mark, kind.number(), from, to];
@@ -362,7 +390,7 @@ pub fn number(bytes: &[u8]) -> u32 {
 #[cfg(test)]
 mod tests {
     use super::*;
-    use crate::forecast::{failure, setup};
+    use crate::forecast::{failure, restock, setup};
     use crate::model::MOST_HOURS;
 
     const LAMP: [u8; 18] = *b"L00000000000000001";
@@ -383,9 +411,9 @@ mod tests {
         let hours = Hours { request: 0x0102, delivery: 0x0f_4240, life: 1 };
         let (gateway, memory) = gateway_and_memory(hours);
         assert_eq!(memory[26..38], [0, 0, 1, 2, 0, 0x0f, 0x42, 0x40, 0, 0, 0, 1]);
-        assert_eq!(memory[38..52], [0, 0, 0, 0, 0, 1, 0, 0, 0, 0, 0, 0, 0, 0]);
+        assert_eq!(memory[38..54], [0, 0, 0, 0, 0, 0, 0, 1, 0, 0, 0, 0, 0, 0, 0, 0]);
         assert_eq!(memory[5], 0x5a);
-        assert!(memory[52..256].iter().all(|&byte| byte == 0x5a), "what is not named stays");
+        assert!(memory[54..256].iter().all(|&byte| byte == 0x5a), "what is not named stays");
         assert_eq!(read(&memory), Ok(gateway), "what a processed event sent by its hours too");
     }
 
@@ -406,6 +434,65 @@ mod tests {
             assert_eq!([1, 2, MOST_HOURS].map(with), [None; 3]);
             assert_eq!([0, MOST_HOURS + 1, Hour::MAX].map(with), [Some(reason); 3]);
         }
+    }
+
+    /// A gateway with Restocks of these quantities, an hour apart, of which so many are done, and its memory.
+    fn restocked(stock: u32, quantities: &[u16], done: u32) -> Vec<u8> {
+        let restock = |(hour, &quantity): (usize, &u16)| restock(0, hour as Hour, quantity);
+        let opening: Vec<Message> = quantities.iter().enumerate().map(restock).collect();
+        let setup = setup(2, 0, 1, stock, 1_000, &opening);
+        let mut gateway = Gateway::set_up(&setup).unwrap();
+        assert_eq!(gateway.work(done, 0).count, done);
+        let mut memory = vec![0; setup.memory];
+        write(&gateway, &mut memory);
+        assert_eq!(read(&memory).as_ref(), Ok(&gateway));
+        memory
+    }
+
+    /// The most that set up takes: every stock comes to the bound with the Restocks from there on, before, while and after they are done.
+    #[test]
+    fn all_that_an_opening_list_brings() {
+        for done in [0, 1, 300, 511, 512] {
+            let memory = restocked(65_535, &[65_535; 512], done);
+            let held = 65_535 * (done + 1);
+            assert_eq!(number(&memory[STATE.start..][..4]), held);
+            let mut one_more = memory.clone();
+            one_more[STATE.start..][..4].copy_from_slice(&(held + 1).to_be_bytes());
+            assert_eq!(read(&one_more), Err(Unsound::StockHeld));
+            for place in 0..done {
+                let at = HEADER + QUEUE_PLACE * place as usize + BEFORE.start;
+                let saved = number(&memory[at..at + 4]);
+                assert_eq!(saved, 65_535 * (place + 1));
+                let mut one_more = memory.clone();
+                one_more[at..at + 4].copy_from_slice(&(saved + 1).to_be_bytes());
+                assert_eq!(read(&one_more), Err(Unsound::StockSaved));
+            }
+        }
+    }
+
+    /// Of Restocks before a saved state nothing counts for it, of those done nothing for the stock held.
+    #[test]
+    fn only_restocks_from_a_stock_on_count() {
+        let memory = restocked(0, &[1_000, 10, 200, 5], 3);
+        let with = |at: usize, stock: u32| {
+            let mut memory = memory.clone();
+            memory[at..at + 4].copy_from_slice(&stock.to_be_bytes());
+            read(&memory).err()
+        };
+        let saved_at = |place: usize| HEADER + QUEUE_PLACE * place + BEFORE.start;
+        let stocks = [
+            (STATE.start, 5, Unsound::StockHeld),
+            (saved_at(0), 1_215, Unsound::StockSaved),
+            (saved_at(1), 215, Unsound::StockSaved),
+            (saved_at(2), 205, Unsound::StockSaved),
+        ];
+        for (at, restocks, reason) in stocks {
+            assert_eq!(with(at, MOST_STOCK - restocks), None);
+            assert_eq!(with(at, MOST_STOCK - restocks + 1), Some(reason));
+            assert_eq!(with(at, u32::MAX), Some(reason));
+        }
+        let of_a_pending_one = with(saved_at(3), 1);
+        assert_eq!(of_a_pending_one, Some(Unsound::Form));
     }
 
     #[test]

@@ -1,5 +1,5 @@
 //! The lamp model of document 01: messages, the event order with the kinds as request (b) of document 02 orders them, and doing a message
-//! with each gateway's own lead times, as request (d) has them.
+//! with each gateway's own lead times, as request (d) has them, and with a stock that no shelf stops, as request (f) has it.
 
 /// An hour, 32 bits unsigned.
 pub type Hour = u32;
@@ -15,6 +15,12 @@ pub const MAX_LAST_HOUR: Hour = NOTHING_DUE - 1;
 
 /// The most hours that a lead time may have.
 pub const MOST_HOURS: Hour = 1_000_000;
+
+/// The largest opening stock.
+pub const MOST_OPENING_STOCK: u32 = 65_535;
+
+/// The most that a stock can come to: the largest opening stock, and all 512 Restocks that an opening list can have.
+pub const MOST_STOCK: u32 = 33_619_455;
 
 /// The kinds of messages that are events, in their order within an hour: goods are booked in before any are handed out.
 #[derive(Clone, Copy, Debug, PartialEq, Eq, PartialOrd, Ord)]
@@ -53,7 +59,7 @@ pub struct Message {
 /// What a gateway counts.
 #[derive(Clone, Copy, Debug, Default, PartialEq, Eq)]
 pub struct State {
-    pub stock: u16,
+    pub stock: u32,
     pub failed: u32,
     pub fitted: u32,
     pub short: u32,
@@ -108,7 +114,8 @@ impl Message {
     }
 }
 
-/// Does a message at its gateway: the state after it, and the message sent, if any.
+/// Does a message at its gateway: the state after it, and the message sent, if any. A stock that a Restock is added to is at most
+/// [`MOST_STOCK`] after it.
 pub fn perform(settings: Settings, state: State, message: &Message) -> (State, Option<Message>) {
     let Settings { own, supplier, last_hour, hours } = settings;
     let mut after = state;
@@ -131,7 +138,7 @@ pub fn perform(settings: Settings, state: State, message: &Message) -> (State, O
             (Kind::Failure, own, own, hours.life)
         }
         Kind::Restock => {
-            after.stock = state.stock.saturating_add(message.quantity);
+            after.stock = state.stock + u32::from(message.quantity);
             return (after, None);
         }
     };
@@ -179,7 +186,7 @@ mod tests {
     }
 
     /// A message of each kind that sends one, the stock before it, and its gateway's lead time until what it sends.
-    fn leading(hour: Hour, hours: Hours) -> [(Message, u16, Hour); 4] {
+    fn leading(hour: Hour, hours: Hours) -> [(Message, u32, Hour); 4] {
         [
             (failure(4, hour, LAMP_1), 0, hours.request),
             (request(hour), 0, hours.request),
@@ -189,7 +196,7 @@ mod tests {
     }
 
     /// The hour of what a message sends.
-    fn sent_at(settings: Settings, stock: u16, message: &Message) -> Option<Hour> {
+    fn sent_at(settings: Settings, stock: u32, message: &Message) -> Option<Hour> {
         let (_, sent) = perform(settings, State { stock, ..State::default() }, message);
         sent.map(|sent| sent.hour)
     }
@@ -281,14 +288,21 @@ mod tests {
     }
 
     #[test]
-    fn shelf_and_counters_stop() {
+    fn the_counters_stop_and_no_shelf_does() {
         let full = State { stock: 65_530, failed: u32::MAX, fitted: u32::MAX, short: u32::MAX };
         let empty = State { stock: 0, ..full };
         let after = |state, message: &Message| perform(settings(100), state, message).0;
-        assert_eq!(after(full, &restock(1, 6)).stock, 65_535);
+        assert_eq!(after(full, &restock(1, 6)), State { stock: 65_536, ..full });
+        let almost = State { stock: MOST_STOCK - 65_535, ..full };
+        assert_eq!(after(almost, &restock(1, 65_535)).stock, MOST_STOCK);
         assert_eq!(after(full, &failure(4, 1, LAMP_1)), full);
         assert_eq!(after(full, &delivery(1)), full);
         assert_eq!(after(empty, &request(1)), empty);
+    }
+
+    #[test]
+    fn the_most_that_a_stock_can_come_to() {
+        assert_eq!(MOST_STOCK, MOST_OPENING_STOCK + 512 * u32::from(u16::MAX));
     }
 
     #[test]

@@ -28,7 +28,7 @@ pub fn records(setups: &[Setup]) -> Vec<Vec<Done>> {
 }
 
 fn opening_state(setup: &Setup) -> State {
-    State { stock: setup.stock as u16, ..State::default() }
+    State { stock: setup.stock, ..State::default() }
 }
 
 fn settings(setup: &Setup) -> Settings {
@@ -78,7 +78,7 @@ mod tests {
         assert_eq!(done(2), [(Kind::Request, 82), (Kind::Request, second + 72)]);
     }
 
-    /// What comes in the hour of a Request serves it, and a full shelf stops before the Request draws.
+    /// What comes in the hour of a Request serves it, and no shelf stops.
     #[test]
     fn a_restock_comes_before_the_requests_of_its_hour() {
         let stocks = |opening_stock| {
@@ -88,9 +88,9 @@ mod tests {
             let kinds: Vec<Kind> = records[0].iter().map(|done| done.message.kind).collect();
             assert_eq!(kinds, [Kind::Failure, Kind::Restock, Kind::Request]);
             assert_eq!(records[0][2].after.short, 0);
-            records[0].iter().map(|done| done.after.stock).collect::<Vec<u16>>()
+            records[0].iter().map(|done| done.after.stock).collect::<Vec<u32>>()
         };
         assert_eq!(stocks(0), [0, 10, 9]);
-        assert_eq!(stocks(65_535), [65_535, 65_535, 65_534]);
+        assert_eq!(stocks(65_535), [65_535, 65_545, 65_544]);
     }
 }

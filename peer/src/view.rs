@@ -1,7 +1,8 @@
-//! Views of a record, by request (c) of document 02: what purchasing sees of it, and what maintenance does.
+//! Views of a record, by request (c) of document 02: what purchasing sees of it, and what maintenance does. Of a record with the old stock,
+//! of which request (f) tells, the stock has four bytes in the view too.
 
 use crate::model::{Done, Kind, Message, State};
-use crate::record;
+use crate::record::{self, Stock};
 use crate::refusal::Refusal;
 
 /// A record of so many bytes or more is outside the range.
@@ -49,14 +50,19 @@ impl Reader {
     }
 }
 
-/// What a reader sees of a whole record, with an output of so many bytes.
-pub fn view(record: &[u8], room: usize, reader: u32) -> Result<Vec<u8>, Refusal> {
+/// What a reader sees of a whole record, with an output of so many bytes; `old_stock` is 1 for a record with the old stock, else 0.
+pub fn view(record: &[u8], room: usize, reader: u32, old_stock: u32) -> Result<Vec<u8>, Refusal> {
     let reader = Reader::of(reader).ok_or(Refusal::Setting)?;
+    let stock = match old_stock {
+        0 => Stock::New,
+        1 => Stock::Old,
+        _ => return Err(Refusal::Setting),
+    };
     if record.len() as u64 >= RECORD_LIMIT {
         return Err(Refusal::Setting);
     }
     let bytes: Vec<u8> =
-        record::read(record)?.iter().flat_map(|done| event(&reader.fields(done))).collect();
+        record::read(record, stock)?.iter().flat_map(|done| event(&reader.fields(done))).collect();
     if bytes.len() > room {
         return Err(Refusal::NoRoom);
     }
@@ -77,86 +83,123 @@ mod tests {
 
     const AMPLE: usize = 1_000;
     const LAMP: &[u8; 18] = b"L00000000000000001";
-    const STATE: [u8; 14] = [1, 2, 3, 4, 5, 6, 7, 8, 9, 10, 11, 12, 13, 14];
+    const STATE: [u8; 16] = [1, 2, 3, 4, 5, 6, 7, 8, 9, 10, 11, 12, 13, 14, 15, 16];
     const READERS: [u32; 2] = [0, 1];
+    const STOCKS: [u32; 2] = [0, 1];
 
-    fn of_lamp(kind: u8, from: u8, to: u8, origin: u8) -> Vec<u8> {
-        [&[63, kind, from, to, 0, 0, 1, 2, origin][..], LAMP, &STATE].concat()
+    /// The state in a record, and what purchasing sees of it.
+    fn states(old_stock: u32) -> (Vec<u8>, Vec<u8>) {
+        match old_stock {
+            0 => (STATE.to_vec(), STATE.to_vec()),
+            _ => (STATE[2..].to_vec(), [&[0, 0], &STATE[2..]].concat()),
+        }
     }
 
-    fn restock() -> Vec<u8> {
-        [&[79, 3, 6, 6, 0, 0, 1, 3, 4, 5][..], &STATE].concat()
+    fn of_lamp(kind: u8, from: u8, to: u8, origin: u8, old_stock: u32) -> Vec<u8> {
+        let (state, _) = states(old_stock);
+        [&[63, kind, from, to, 0, 0, 1, 2, origin][..], LAMP, &state].concat()
     }
 
-    fn number(record: &[u8]) -> u32 {
-        let numbers =
-            READERS.map(|reader| view(record, AMPLE, reader).map_or_else(Refusal::number, |_| 0));
+    fn restock(old_stock: u32) -> Vec<u8> {
+        [&[79, 3, 6, 6, 0, 0, 1, 3, 4, 5][..], &states(old_stock).0].concat()
+    }
+
+    fn number(record: &[u8], old_stock: u32) -> u32 {
+        let numbers = READERS.map(|reader| {
+            view(record, AMPLE, reader, old_stock).map_or_else(Refusal::number, |_| 0)
+        });
         assert_eq!(numbers[0], numbers[1]);
         numbers[0]
     }
 
     #[test]
     fn the_fields_of_each_kind() {
-        for (kind, event) in
-            [of_lamp(0, 7, 7, 7), of_lamp(1, 8, 9, 7), of_lamp(2, 8, 7, 7)].iter().enumerate()
-        {
-            let begin = [0, 0, 1, 2, kind as u8];
-            let purchasing = [&[123], &begin[..], &STATE].concat();
-            assert_eq!(view(event, 20, 0), Ok(purchasing));
-            let maintenance = [&[15], &begin[..], LAMP, &[7]].concat();
-            assert_eq!(view(event, 25, 1), Ok(maintenance));
+        for old in STOCKS {
+            let (_, state) = states(old);
+            let events =
+                [of_lamp(0, 7, 7, 7, old), of_lamp(1, 8, 9, 7, old), of_lamp(2, 8, 7, 7, old)];
+            for (kind, event) in events.iter().enumerate() {
+                let begin = [0, 0, 1, 2, kind as u8];
+                let purchasing = [&[123], &begin[..], &state].concat();
+                assert_eq!(view(event, 22, 0, old), Ok(purchasing));
+                let maintenance = [&[15], &begin[..], LAMP, &[7]].concat();
+                assert_eq!(view(event, 25, 1, old), Ok(maintenance));
+            }
+            let purchasing = [&[127, 0, 0, 1, 3, 3, 4, 5][..], &state].concat();
+            assert_eq!(view(&restock(old), 24, 0, old), Ok(purchasing));
+            assert_eq!(view(&restock(old), 6, 1, old), Ok(vec![3, 0, 0, 1, 3, 3]));
         }
-        let purchasing = [&[127, 0, 0, 1, 3, 3, 4, 5][..], &STATE].concat();
-        assert_eq!(view(&restock(), 22, 0), Ok(purchasing));
-        assert_eq!(view(&restock(), 6, 1), Ok(vec![3, 0, 0, 1, 3, 3]));
     }
 
     #[test]
     fn events_stand_one_behind_the_other() {
-        let (failure, restock) = (of_lamp(0, 7, 7, 7), restock());
-        let both = [&failure[..], &restock].concat();
-        for reader in READERS {
-            let one_by_one = [&failure, &restock].map(|event| view(event, AMPLE, reader).unwrap());
-            let whole = one_by_one.concat();
-            assert_eq!(view(&both, whole.len(), reader), Ok(whole.clone()));
-            for room in 0..whole.len() {
-                assert_eq!(view(&both, room, reader), Err(Refusal::NoRoom));
+        for old in STOCKS {
+            let (failure, restock) = (of_lamp(0, 7, 7, 7, old), restock(old));
+            let both = [&failure[..], &restock].concat();
+            for reader in READERS {
+                let one_by_one =
+                    [&failure, &restock].map(|event| view(event, AMPLE, reader, old).unwrap());
+                let whole = one_by_one.concat();
+                assert_eq!(view(&both, whole.len(), reader, old), Ok(whole.clone()));
+                for room in 0..whole.len() {
+                    assert_eq!(view(&both, room, reader, old), Err(Refusal::NoRoom));
+                }
+                assert_eq!(view(&[], 0, reader, old), Ok(vec![]));
             }
-            assert_eq!(view(&[], 0, reader), Ok(vec![]));
         }
     }
 
     #[test]
-    fn another_reader_comes_first() {
-        for reader in [2, 3, 255, 256, u32::MAX] {
-            for record in [&[][..], &[9], &restock()] {
-                assert_eq!(view(record, 0, reader), Err(Refusal::Setting));
+    fn another_reader_or_stock_comes_first() {
+        let others = [2, 3, 255, 256, u32::MAX];
+        for other in others {
+            for (reader, old) in [(other, 0), (other, 1), (0, other), (1, other), (other, other)] {
+                for record in [&[][..], &[9], &restock(0), &restock(1)] {
+                    assert_eq!(view(record, 0, reader, old), Err(Refusal::Setting));
+                }
             }
         }
     }
 
     #[test]
     fn room_comes_last() {
-        for last in [
-            vec![9],
-            vec![63, 7],
-            of_lamp(0, 7, 8, 7),
-            of_lamp(1, 255, 8, 7),
-            restock()[..23].to_vec(),
-        ] {
-            let record = [restock(), last].concat();
-            for reader in READERS {
-                let refusal = view(&record, AMPLE, reader).unwrap_err();
-                assert_ne!(refusal, Refusal::NoRoom);
-                assert_eq!(view(&record, 0, reader), Err(refusal));
+        for old in STOCKS {
+            let cut = restock(old).len() - 1;
+            for last in [
+                vec![9],
+                vec![63, 7],
+                of_lamp(0, 7, 8, 7, old),
+                of_lamp(1, 255, 8, 7, old),
+                restock(old)[..cut].to_vec(),
+            ] {
+                let record = [restock(old), last].concat();
+                for reader in READERS {
+                    let refusal = view(&record, AMPLE, reader, old).unwrap_err();
+                    assert_ne!(refusal, Refusal::NoRoom);
+                    assert_eq!(view(&record, 0, reader, old), Err(refusal));
+                }
             }
         }
     }
 
     #[test]
     fn the_first_event_decides() {
-        let cut_state = restock()[..20].to_vec();
-        assert_eq!(number(&[of_lamp(1, 255, 8, 7), cut_state.clone()].concat()), 2);
-        assert_eq!(number(&[restock(), cut_state].concat()), 11);
+        for old in STOCKS {
+            let cut_state = restock(old)[..20].to_vec();
+            assert_eq!(number(&[of_lamp(1, 255, 8, 7, old), cut_state.clone()].concat(), old), 2);
+            assert_eq!(number(&[restock(old), cut_state].concat(), old), 11);
+        }
+    }
+
+    /// Fewer than sixteen bytes of state are cut, and where the stock is the old one fewer than fourteen.
+    #[test]
+    fn a_cut_state() {
+        for (old, length) in [(0, 16), (1, 14)] {
+            for found in 0..length {
+                assert_eq!(number(&restock(old)[..10 + found], old), 11);
+                assert_eq!(number(&of_lamp(1, 8, 9, 7, old)[..27 + found], old), 11);
+            }
+            assert_eq!((restock(old).len(), number(&restock(old), old)), (10 + length, 0));
+        }
     }
 }

@@ -98,8 +98,8 @@ impl Calls for Plain {
         }
     }
 
-    fn view(&self, record: &[u8], output: &mut [u8], reader: u32) -> ViewAnswer {
-        match view::view(record, output, reader) {
+    fn view(&self, record: &[u8], output: &mut [u8], reader: u32, old_stock: u32) -> ViewAnswer {
+        match view::view(record, output, reader, old_stock) {
             Ok(written) => ViewAnswer { number: 0, written },
             Err(number) => ViewAnswer { number, written: 0 },
         }

@@ -1,15 +1,11 @@
 //! A gateway's bytes in the lent memory: the header and the places (docs/ARCHITECTURE.md has the layout).
 
 use crate::message::{Hours, Kind, Message, Site, State};
+use interface::STATE_LENGTH;
 
 pub const HEADER: usize = 256;
 pub const QUEUE_PLACE: usize = 64;
 pub const OUTSTANDING_PLACE: usize = 32;
-
-/// The bytes of a state, which is one stretch wherever it stands: the stock, then the counters.
-const STOCK_SIZE: usize = 2;
-const COUNTER_SIZE: usize = 4;
-pub const STATE_SIZE: usize = STOCK_SIZE + 3 * COUNTER_SIZE;
 
 /// Where numbers stand in the header: four counts of places, then six hours, then the state.
 const COUNTS_AT: usize = 6;
@@ -18,7 +14,7 @@ const STATE_AT: usize = HOURS_AT + 6 * 4;
 
 /// Where a message ends in a place. In a queue place the state before it follows, and then nothing.
 pub const MESSAGE_END: usize = 30;
-pub const BEFORE_END: usize = MESSAGE_END + STATE_SIZE;
+pub const BEFORE_END: usize = MESSAGE_END + STATE_LENGTH;
 
 /// Phases of the round.
 pub const IDLE: u8 = 0;
@@ -103,7 +99,7 @@ impl Header {
         for (at, hour) in (HOURS_AT..).step_by(4).zip(hours) {
             memory[at..at + 4].copy_from_slice(&hour.to_be_bytes());
         }
-        memory[STATE_AT..][..STATE_SIZE].copy_from_slice(&state_bytes(&self.state));
+        memory[STATE_AT..][..STATE_LENGTH].copy_from_slice(&state_bytes(&self.state));
     }
 
     pub fn site(&self) -> Site {
@@ -165,18 +161,16 @@ pub fn sound_message(place: &[u8]) -> Message {
 
 /// The state in the first bytes.
 pub fn state(bytes: &[u8]) -> State {
-    let counter = |number| word(bytes, STOCK_SIZE + COUNTER_SIZE * number);
-    State { stock: half(bytes, 0), failed: counter(0), fitted: counter(1), short: counter(2) }
+    let [stock, failed, fitted, short] = [0, 4, 8, 12].map(|at| word(bytes, at));
+    State { stock, failed, fitted, short }
 }
 
 /// The bytes of a state, as memory and records have them.
-pub fn state_bytes(state: &State) -> [u8; STATE_SIZE] {
-    let mut bytes = [0; STATE_SIZE];
-    let (stock, counters) = bytes.split_at_mut(STOCK_SIZE);
-    stock.copy_from_slice(&state.stock.to_be_bytes());
-    let numbers = [state.failed, state.fitted, state.short];
-    for (counter, number) in counters.chunks_exact_mut(COUNTER_SIZE).zip(numbers) {
-        counter.copy_from_slice(&number.to_be_bytes());
+pub fn state_bytes(state: &State) -> [u8; STATE_LENGTH] {
+    let mut bytes = [0; STATE_LENGTH];
+    let numbers = [state.stock, state.failed, state.fitted, state.short];
+    for (part, number) in bytes.as_chunks_mut().0.iter_mut().zip(numbers) {
+        *part = number.to_be_bytes();
     }
     bytes
 }

@@ -104,7 +104,7 @@ impl Message {
 /// Stock and counters of a gateway.
 #[derive(Clone, Copy, Debug, Default, PartialEq, Eq)]
 pub struct State {
-    pub stock: u16,
+    pub stock: u32,
     pub failed: u32,
     pub fitted: u32,
     pub short: u32,
@@ -156,7 +156,8 @@ pub fn perform(site: Site, state: State, message: &Message) -> (State, Option<Me
             (site.hours.life, Kind::Failure, site.own, site.own)
         }
         Kind::Restock => {
-            after.stock = state.stock.saturating_add(message.quantity);
+            // No sum of sound memory is past `MOST_STOCK`.
+            after.stock = state.stock + u32::from(message.quantity);
             return (after, None);
         }
         Kind::Start | Kind::Lvt | Kind::Update => return (after, None),

@@ -4,7 +4,7 @@ use crate::frame::{self, Frame, Sense};
 use crate::memory::{put_entry, queue_at, queued_message, Header, IDLE, PENDING, QUEUE_PLACE};
 use crate::message::{Hours, Kind, State};
 use crate::{check_limits, refusal};
-use interface::{memory_length, Opening, MOST_PLACES, NOTHING_DUE};
+use interface::{memory_length, Opening, MOST_AT_ONCE, MOST_PLACES, NOTHING_DUE};
 
 pub fn set_up(memory: &mut [u8], list: &[u8], opening: &Opening) -> Result<(), u32> {
     if !in_range(opening, memory.len()) {
@@ -31,7 +31,7 @@ fn in_range(opening: &Opening, length: usize) -> bool {
     (1..=255).contains(&opening.gateways)
         && opening.own < opening.gateways
         && opening.supplier < opening.gateways
-        && opening.stock <= 65_535
+        && opening.stock <= MOST_AT_ONCE
         && opening.last_hour < NOTHING_DUE
         && places.contains(&opening.queue_places)
         && places.contains(&opening.outstanding_places)
@@ -62,7 +62,7 @@ fn header(opening: &Opening) -> Header {
         agreed: 0,
         note: 0,
         hours: hours(opening),
-        state: State { stock: opening.stock as u16, ..State::default() },
+        state: State { stock: opening.stock, ..State::default() },
     }
 }
 

@@ -4,10 +4,11 @@ use crate::frame::{plain_length, Output, Sense};
 use crate::memory::{
     entry, mark, put_entry, put_pending, put_processed, put_sent, queue_at, queued_message,
     sound_message, Entry, Header, COUNTING, OUTSTANDING_PLACE, PENDING, PROCESSED, QUEUE_PLACE,
-    STATE_SIZE, WAITING,
+    WAITING,
 };
 use crate::message::{perform, Message};
 use crate::refusal;
+use interface::STATE_LENGTH;
 
 /// Bytes of a frame with a lamp, without and with a sense.
 const PLAIN: usize = 27;
@@ -154,7 +155,7 @@ pub fn commit(memory: &mut [u8], mut header: Header, output: &mut Output) -> Res
     if event.message.hour >= header.agreed {
         return Err(refusal::NOTHING);
     }
-    check_room(output, plain_length(event.message.kind) + STATE_SIZE)?;
+    check_room(output, plain_length(event.message.kind) + STATE_LENGTH)?;
     let (after, _) = perform(header.site(), event.before, &event.message);
     output.put_event(Sense::Plain, &event.message);
     output.put_state(&after);

@@ -6,7 +6,7 @@ use crate::memory::{
 };
 use crate::message::{Kind, Message, State};
 use crate::routing;
-use interface::{memory_length, MOST_PLACES, NOTHING_DUE};
+use interface::{memory_length, MOST_PLACES, MOST_STOCK, NOTHING_DUE};
 
 /// The header of sound memory.
 pub fn sound(memory: &[u8]) -> Option<Header> {
@@ -53,12 +53,14 @@ fn queue_sound(header: &Header, memory: &[u8]) -> bool {
     let places = &memory[HEADER..][..QUEUE_PLACE * header.queued];
     let mut before: Option<(u8, Message)> = None;
     let mut pending_seen = false;
+    let mut stocks = Stocks::default();
     for place in places.as_chunks::<QUEUE_PLACE>().0 {
         let Some(message) = stored_message(header, place) else {
             return false;
         };
         let mark = place[0];
-        let no_state = state(&place[MESSAGE_END..]) == State::default();
+        let saved = state(&place[MESSAGE_END..]);
+        let no_state = saved == State::default();
         let mark_fits = match mark {
             PENDING => no_state,
             PROCESSED => !pending_seen,
@@ -78,9 +80,38 @@ fn queue_sound(header: &Header, memory: &[u8]) -> bool {
             }
         }
         pending_seen |= mark == PENDING;
+        stocks.add(mark, message.quantity, saved.stock);
         before = Some((mark, message));
     }
-    true
+    stocks.in_range(header.state.stock)
+}
+
+/// What the stocks come to with the Restocks still to be done from them, place by place.
+#[derive(Default)]
+struct Stocks {
+    /// What the Restocks bring, all of them and the pending ones.
+    restocked: u32,
+    pending: u32,
+    /// The most that a saved stock has beyond what the Restocks before its place bring.
+    saved_beyond: u32,
+}
+
+impl Stocks {
+    /// Adds a place; the saved stock is 0 where the place is not processed.
+    fn add(&mut self, mark: u8, quantity: u16, saved: u32) {
+        self.saved_beyond = self.saved_beyond.max(saved.saturating_sub(self.restocked));
+        self.restocked += u32::from(quantity);
+        self.pending += if mark == PENDING { quantity.into() } else { 0 };
+    }
+
+    /// Whether no stock, held or saved, comes to more than it may have. A saved one with the Restocks from its place on is what it has
+    /// beyond those before, with all of them; these alone are never too many.
+    fn in_range(&self, held: u32) -> bool {
+        let within = |stock: u32, restocks: u32| {
+            u64::from(stock) + u64::from(restocks) <= u64::from(MOST_STOCK)
+        };
+        within(held, self.pending) && within(self.saved_beyond, self.restocked)
+    }
 }
 
 fn outstanding_sound(header: &Header, memory: &[u8]) -> bool {

@@ -3,7 +3,9 @@
 use crate::frame::{self, Sense};
 use crate::message::Kind;
 use crate::refusal;
-use interface::{MAINTENANCE, NOTHING_DUE, PURCHASING};
+use interface::{
+    MAINTENANCE, NEW_STOCK, NOTHING_DUE, OLD_STATE_LENGTH, OLD_STOCK, PURCHASING, STATE_LENGTH,
+};
 
 /// A record of so many bytes or more is refused.
 const RECORD_LIMIT: u64 = 1 << 48;
@@ -11,38 +13,55 @@ const RECORD_LIMIT: u64 = 1 << 48;
 /// N is read as 255.
 const GATEWAYS: u8 = 255;
 
-/// An event of a record that is taken: its frame of 27 or 10 bytes, and the state.
-enum Event<'a> {
-    OfLamp(&'a [u8; 41]),
-    Restock(&'a [u8; 24]),
+/// The bytes of the frames of events: of a Failure, a Request or a Delivery, and of a Restock.
+const OF_LAMP: usize = 27;
+const RESTOCK: usize = 10;
+
+/// An event of a record that is taken, in which states have so many bytes.
+enum Event<'a, const STATE: usize> {
+    OfLamp(&'a [u8; OF_LAMP], &'a [u8; STATE]),
+    Restock(&'a [u8; RESTOCK], &'a [u8; STATE]),
 }
 
 /// Writes what a reader sees of a record; how many bytes that is, or the number of a refusal.
-pub fn view(record: &[u8], output: &mut [u8], reader: u32) -> Result<usize, u32> {
+pub fn view(record: &[u8], output: &mut [u8], reader: u32, old_stock: u32) -> Result<usize, u32> {
     if record.len() as u64 >= RECORD_LIMIT {
         return Err(refusal::SETTING);
     }
+    match old_stock {
+        NEW_STOCK => view_by::<STATE_LENGTH>(record, output, reader),
+        OLD_STOCK => view_by::<OLD_STATE_LENGTH>(record, output, reader),
+        _ => Err(refusal::SETTING),
+    }
+}
+
+/// The view of a record in which states have so many bytes.
+fn view_by<const STATE: usize>(
+    record: &[u8],
+    output: &mut [u8],
+    reader: u32,
+) -> Result<usize, u32> {
     match reader {
-        PURCHASING => written(record, output, [20, 22], put_for_purchasing),
-        MAINTENANCE => written(record, output, [25, 6], put_for_maintenance),
+        PURCHASING => written::<STATE>(record, output, [22, 24], put_for_purchasing),
+        MAINTENANCE => written::<STATE>(record, output, [25, 6], put_for_maintenance),
         _ => Err(refusal::SETTING),
     }
 }
 
 /// Checks the whole record, then writes: an event with a lamp, and a Restock, have so many bytes in the view.
-fn written(
+fn written<const STATE: usize>(
     record: &[u8],
     output: &mut [u8],
     [of_lamp, restock]: [usize; 2],
-    put: impl for<'a> Fn(&Event, &'a mut [u8]) -> Option<&'a mut [u8]>,
+    put: impl for<'a> Fn(&Event<STATE>, &'a mut [u8]) -> Option<&'a mut [u8]>,
 ) -> Result<usize, u32> {
     let mut length = 0;
     let mut rest = record;
     while !rest.is_empty() {
-        let (event, behind) = checked(rest)?;
+        let (event, behind) = checked::<STATE>(rest)?;
         length += match event {
-            Event::OfLamp(_) => of_lamp,
-            Event::Restock(_) => restock,
+            Event::OfLamp(..) => of_lamp,
+            Event::Restock(..) => restock,
         };
         rest = behind;
     }
@@ -56,48 +75,57 @@ fn written(
 }
 
 /// The first event of a record, by its map, and the bytes behind it; `None` where there is none or it is cut.
-fn cut(record: &[u8]) -> Option<(Event<'_>, &[u8])> {
+fn cut<const STATE: usize>(record: &[u8]) -> Option<(Event<'_, STATE>, &[u8])> {
     match *record.first()? {
-        63 => record.split_first_chunk().map(|(event, rest)| (Event::OfLamp(event), rest)),
-        79 => record.split_first_chunk().map(|(event, rest)| (Event::Restock(event), rest)),
+        63 => parts(record).map(|(frame, state, rest)| (Event::OfLamp(frame, state), rest)),
+        79 => parts(record).map(|(frame, state, rest)| (Event::Restock(frame, state), rest)),
         _ => None,
     }
 }
 
+/// A frame and a state of so many bytes each, and the bytes behind them.
+fn parts<const FRAME: usize, const STATE: usize>(
+    record: &[u8],
+) -> Option<(&[u8; FRAME], &[u8; STATE], &[u8])> {
+    let (event, rest) = record.split_at_checked(FRAME + STATE)?;
+    let (frame, state) = event.split_first_chunk()?;
+    Some((frame, state.first_chunk()?, rest))
+}
+
 /// The first event of a record that has one, and the bytes behind it, or its refusal.
-fn checked(record: &[u8]) -> Result<(Event<'_>, &[u8]), u32> {
+fn checked<const STATE: usize>(record: &[u8]) -> Result<(Event<'_, STATE>, &[u8]), u32> {
     match cut(record) {
         Some((event, rest)) if event.is_good() => Ok((event, rest)),
         _ => Err(refused(record)),
     }
 }
 
-impl Event<'_> {
+impl<const STATE: usize> Event<'_, STATE> {
     /// Whether nothing is to be refused of it.
     fn is_good(&self) -> bool {
         let (kind, [from, to], hour) = match self {
-            Event::OfLamp(bytes) => (bytes[1], [bytes[2], bytes[3]], hour(*bytes)),
-            Event::Restock(bytes) => (bytes[1], [bytes[2], bytes[3]], hour(*bytes)),
+            Event::OfLamp(frame, _) => (frame[1], [frame[2], frame[3]], hour(*frame)),
+            Event::Restock(frame, _) => (frame[1], [frame[2], frame[3]], hour(*frame)),
         };
         let fields_are_good = match self {
-            Event::OfLamp(bytes) => {
-                let origin = bytes[8];
+            Event::OfLamp(frame, _) => {
+                let origin = frame[8];
                 let agree = match kind {
                     0 => from == to && to == origin,
                     1 => true,
                     2 => to == origin,
                     _ => false,
                 };
-                agree && origin < GATEWAYS && is_lamp(&bytes[9..27])
+                agree && origin < GATEWAYS && is_lamp(&frame[9..])
             }
-            Event::Restock(_) => kind == 3 && from == to,
+            Event::Restock(..) => kind == 3 && from == to,
         };
         fields_are_good && from < GATEWAYS && to < GATEWAYS && hour != NOTHING_DUE
     }
 }
 
-fn hour(event: &[u8]) -> u32 {
-    u32::from_be_bytes([event[4], event[5], event[6], event[7]])
+fn hour(frame: &[u8]) -> u32 {
+    u32::from_be_bytes([frame[4], frame[5], frame[6], frame[7]])
 }
 
 /// Whether all bytes are those of a lamp; all are looked at, which takes less time than to stop at the first other one.
@@ -126,44 +154,58 @@ fn refused(record: &[u8]) -> u32 {
 }
 
 /// Hour, kind, the quantity of a Restock, and the state; what is left of the output.
-fn put_for_purchasing<'a>(event: &Event, output: &'a mut [u8]) -> Option<&'a mut [u8]> {
+fn put_for_purchasing<'a, const STATE: usize>(
+    event: &Event<STATE>,
+    output: &'a mut [u8],
+) -> Option<&'a mut [u8]> {
     match event {
-        Event::OfLamp(event) => {
-            let (seen, rest) = output.split_first_chunk_mut::<20>()?;
+        Event::OfLamp(frame, state) => {
+            let (seen, rest) = output.split_first_chunk_mut::<22>()?;
             seen[0] = 123;
-            seen[1..5].copy_from_slice(&event[4..8]);
-            seen[5] = event[1];
-            seen[6..].copy_from_slice(&event[27..]);
+            seen[1..5].copy_from_slice(&frame[4..8]);
+            seen[5] = frame[1];
+            put_state(state, &mut seen[6..]);
             Some(rest)
         }
-        Event::Restock(event) => {
-            let (seen, rest) = output.split_first_chunk_mut::<22>()?;
+        Event::Restock(frame, state) => {
+            let (seen, rest) = output.split_first_chunk_mut::<24>()?;
             seen[0] = 127;
-            seen[1..5].copy_from_slice(&event[4..8]);
-            seen[5] = event[1];
-            seen[6..].copy_from_slice(&event[8..]);
+            seen[1..5].copy_from_slice(&frame[4..8]);
+            seen[5] = frame[1];
+            seen[6..8].copy_from_slice(&frame[8..]);
+            put_state(state, &mut seen[8..]);
             Some(rest)
         }
     }
 }
 
+/// The state with a stock of four bytes.
+fn put_state<const STATE: usize>(state: &[u8; STATE], seen: &mut [u8]) {
+    let (high, low) = seen.split_at_mut(STATE_LENGTH - STATE);
+    high.fill(0);
+    low.copy_from_slice(state);
+}
+
 /// Hour, kind, and the lamp and the origin of what is no Restock; what is left of the output.
-fn put_for_maintenance<'a>(event: &Event, output: &'a mut [u8]) -> Option<&'a mut [u8]> {
+fn put_for_maintenance<'a, const STATE: usize>(
+    event: &Event<STATE>,
+    output: &'a mut [u8],
+) -> Option<&'a mut [u8]> {
     match event {
-        Event::OfLamp(event) => {
+        Event::OfLamp(frame, _) => {
             let (seen, rest) = output.split_first_chunk_mut::<25>()?;
             seen[0] = 15;
-            seen[1..5].copy_from_slice(&event[4..8]);
-            seen[5] = event[1];
-            seen[6..24].copy_from_slice(&event[9..27]);
-            seen[24] = event[8];
+            seen[1..5].copy_from_slice(&frame[4..8]);
+            seen[5] = frame[1];
+            seen[6..24].copy_from_slice(&frame[9..]);
+            seen[24] = frame[8];
             Some(rest)
         }
-        Event::Restock(event) => {
+        Event::Restock(frame, _) => {
             let (seen, rest) = output.split_first_chunk_mut::<6>()?;
             seen[0] = 3;
-            seen[1..5].copy_from_slice(&event[4..8]);
-            seen[5] = event[1];
+            seen[1..5].copy_from_slice(&frame[4..8]);
+            seen[5] = frame[1];
             Some(rest)
         }
     }
@@ -173,33 +215,59 @@ fn put_for_maintenance<'a>(event: &Event, output: &'a mut [u8]) -> Option<&'a mu
 mod tests {
     use super::*;
 
-    const FAILURE: &[u8; 41] =
-        b"\x3f\x00\x07\x07\x00\x00\x01\x02\x07L00000000000000001ABCDEFGHIJKLMN";
-    const RESTOCK: &[u8; 24] = b"\x4f\x03\x06\x06\x00\x00\x01\x03\x04\x05ABCDEFGHIJKLMN";
+    const FAILURE: &[u8; 43] =
+        b"\x3f\x00\x07\x07\x00\x00\x01\x02\x07L00000000000000001ABCDEFGHIJKLMNOP";
+    const RESTOCK: &[u8; 26] = b"\x4f\x03\x06\x06\x00\x00\x01\x03\x04\x05ABCDEFGHIJKLMNOP";
+
+    /// A Restock and a Failure, each with the last bytes of its state as its whole one.
+    fn record(state_length: usize) -> ([u8; 69], usize) {
+        let mut record = [0; 69];
+        let mut end = 0;
+        for (event, frame) in [(&RESTOCK[..], 10), (FAILURE, 27)] {
+            let (frame, state) = event.split_at(frame);
+            for part in [frame, &state[STATE_LENGTH - state_length..]] {
+                record[end..][..part.len()].copy_from_slice(part);
+                end += part.len();
+            }
+        }
+        (record, end)
+    }
 
     /// A view of a Restock and a Failure, in an output that was full of `.`.
-    fn check_view(reader: u32, seen: &[u8]) {
-        let mut record = [0; 65];
-        record[..24].copy_from_slice(RESTOCK);
-        record[24..].copy_from_slice(FAILURE);
+    fn check_view(reader: u32, old_stock: u32, seen: &[u8]) {
+        let (record, end) = record(if old_stock == OLD_STOCK { 14 } else { 16 });
+        let record = &record[..end];
+        let view = |record: &[u8], output: &mut [u8]| view(record, output, reader, old_stock);
         let mut output = [b'.'; 60];
         let room = seen.len() - 1;
-        assert_eq!(view(&record, &mut output[..room], reader), Err(refusal::NO_ROOM));
-        assert_eq!(view(&record[..64], &mut output[..room], reader), Err(refusal::LENGTH));
+        assert_eq!(view(record, &mut output[..room]), Err(refusal::NO_ROOM));
+        assert_eq!(view(&record[..end - 1], &mut output[..room]), Err(refusal::LENGTH));
         assert_eq!(output, [b'.'; 60]);
-        assert_eq!(view(&record, &mut output, reader), Ok(seen.len()));
+        assert_eq!(view(record, &mut output), Ok(seen.len()));
         assert_eq!(output[..seen.len()], *seen);
         assert!(output[seen.len()..].iter().all(|&byte| byte == b'.'));
-        assert_eq!(view(&[], &mut [], reader), Ok(0));
+        assert_eq!(view(&[], &mut []), Ok(0));
     }
 
     #[test]
     fn each_reader_sees_its_fields() {
         let seen =
-            b"\x7f\x00\x00\x01\x03\x03\x04\x05ABCDEFGHIJKLMN\x7b\x00\x00\x01\x02\x00ABCDEFGHIJKLMN";
-        check_view(PURCHASING, seen);
+            b"\x7f\x00\x00\x01\x03\x03\x04\x05ABCDEFGHIJKLMNOP\x7b\x00\x00\x01\x02\x00ABCDEFGHIJKLMNOP";
+        check_view(PURCHASING, NEW_STOCK, seen);
+        let seen =
+            b"\x7f\x00\x00\x01\x03\x03\x04\x05\0\0CDEFGHIJKLMNOP\x7b\x00\x00\x01\x02\x00\0\0CDEFGHIJKLMNOP";
+        check_view(PURCHASING, OLD_STOCK, seen);
         let seen = b"\x03\x00\x00\x01\x03\x03\x0f\x00\x00\x01\x02\x00L00000000000000001\x07";
-        check_view(MAINTENANCE, seen);
-        assert_eq!(view(FAILURE, &mut [], 2), Err(refusal::SETTING));
+        check_view(MAINTENANCE, NEW_STOCK, seen);
+        check_view(MAINTENANCE, OLD_STOCK, seen);
+    }
+
+    #[test]
+    fn another_reader_or_stock_comes_first() {
+        for (reader, old_stock) in [(2, NEW_STOCK), (2, OLD_STOCK), (PURCHASING, 2), (2, 2)] {
+            for record in [&[][..], &[9], FAILURE] {
+                assert_eq!(view(record, &mut [], reader, old_stock), Err(refusal::SETTING));
+            }
+        }
     }
 }

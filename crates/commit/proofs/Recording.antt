@@ -11,7 +11,9 @@ use Rattle.lists.specs.inside.Positions.{firstWhere, without}
 use Rattle.lists.proofs.PositionLaws.{first-bound, without-first}
 use Rattle.buffer.specs.Slice.{part, write, Puts}
 use Rattle.buffer.proofs.Writes.{write-join, length-write, length-part}
-use Rattle.model.specs.Doing.{after}
+use Rattle.lists.specs.Lists.{tally}
+use Rattle.model.specs.Messages.{quantityOf}
+use Rattle.model.specs.Doing.{mostStock, after}
 use Rattle.model.specs.declared.State.{State}
 use Rattle.frame.specs.Layout.{wholeLength}
 use Rattle.frame.specs.Kinds.{mapOf}
@@ -25,6 +27,8 @@ use Rattle.memory.specs.declared.Header.{Header}
 use Rattle.memory.specs.declared.Entry.{Entry}
 use Rattle.memory.specs.declared.Mark.the-variants.{Processed}
 use Rattle.memory.proofs.Stored.{length-state}
+use Rattle.memory.proofs.SoundMemory.{sound-facts}
+use Rattle.memory.proofs.Validated.{Saved, and-more, valid-facts}
 use Rattle.gateway.specs.Effects.{withQueue}
 use Rattle.gateway.specs.Undoing.{processedOf}
 use Rattle.gateway.specs.Committing.{recordFor, recordOf, recorded, commit}
@@ -58,6 +62,21 @@ oldest-processed (e ∷ es) d h = here (isProcessed e) h (oldest-processed es d)
         → (rest : List Entry) × (cond b (e ∷ processedOf es) (processedOf es) ≡ getD (e ∷ es) (cond b 0 (suc (firstWhere isProcessed es))) d ∷ rest)
     here true h r = (processedOf es, refl)
     here false h r = r (omega arith)
+
+-- its stock, with what it brings
+oldest-stock : (es : List Entry) (d : Entry) → Saved es → firstWhere isProcessed es < length es
+    → getD es (firstWhere isProcessed es) d .before .stock + quantityOf (getD es (firstWhere isProcessed es) d .message .kind) ≤ mostStock
+unfolding firstWhere tally
+oldest-stock [] d s h = absurd (omega arith)
+oldest-stock (e ∷ es) d (and-more f s) h = here (isProcessed e) refl h (oldest-stock es d s)
+  where
+    here : (b : Bool) → isProcessed e ≡ b → cond b 0 (suc (firstWhere isProcessed es)) < suc (length es)
+        → (firstWhere isProcessed es < length es → getD es (firstWhere isProcessed es) d .before .stock + quantityOf (getD es (firstWhere
+        isProcessed es) d .message .kind) ≤ mostStock)
+        → getD (e ∷ es) (cond b 0 (suc (firstWhere isProcessed es))) d .before .stock + quantityOf (getD (e ∷ es) (cond b 0 (suc (firstWhere
+        isProcessed es))) d .message .kind) ≤ mostStock
+    here true p h r = omega (arith, f p)
+    here false p h r = r (omega arith)
 
 module _ (m : List ℕ) (h : Header) (known : Known m h) (k : ℕ)
     (found : k ≡ 0 + firstWhere (hasMark Processed) (placesAt entryOf queueSize m (queueAt 0) (h .queued - 0))) where
@@ -111,6 +130,12 @@ module _ (m : List ℕ) (h : Header) (known : Known m h) (k : ℕ)
         let b = place-below n in
         let whole = length-part m (queueAt k) queueSize (omega arith) in
         rw read (length-part (part m (queueAt k) queueSize) 12 18 (omega arith))
+
+    pub stock-whole : entry .before .stock + quantityOf (entry .message .kind) ≤ mostStock
+    stock-whole =
+        let b = place-below n in
+        let stocks = valid-facts (decode m) (sound-facts m (known .soundness) .held) .stocks in
+        rw here at (oldest-stock (decode m .queue) entry (stocks .saved) (omega (arith, position, queue-count m h known)))
 
     pub commits : (output : List ℕ) {l : CallResult Answer} → entry .message .hour < h .agreed → l ≡ leaving (recorded (length output) entry
         (without k (decode m .queue)) (decode m)) m output

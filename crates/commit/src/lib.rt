@@ -18,7 +18,9 @@ use places::search::next_marked;
 use soundness::checked;
 use writer::outgoing::put_frame;
 ghost use mathlib.Core.Path.{_≡_};
-ghost use Prim.Native.Nat.{_≤_, _<_};
+ghost use Prim.Native.Nat.{_+_, _≤_, _<_};
+ghost use Rattle.model.specs.Messages.{quantityOf};
+ghost use Rattle.model.specs.Doing.{mostStock};
 ghost use lib.ListN.{length};
 ghost use Rattle.lists.specs.inside.Positions.{without};
 ghost use Rattle.buffer.specs.Slice.{write};
@@ -62,7 +64,10 @@ fn commit_place(
     k: usize,
     entry: Entry,
 ) -> Answer
-    requires { ⌜ Known (now memory) header × (k < header .queued) × (length (entry .message .lamp) ≡ 18) ⌝ }
+    requires { ⌜ Known (now memory) header
+        × (k < header .queued)
+        × (length (entry .message .lamp) ≡ 18)
+        × (entry .before .stock + quantityOf (entry .message .kind) ≤ mostStock) ⌝ }
     ensures { λ r. ⌜ Leaves r memory output (λ room g. recorded room entry (without k (g .queue)) g) ⌝ }
 {
     let message = entry.message;
@@ -80,7 +85,7 @@ fn commit_place(
 
 // Puts an event's record: its frame, then the state after it.
 fn put_record(output: &mut [u8], entry: Entry)
-    requires { ⌜ length (recordOf entry) ≤ length (now output) ⌝ }
+    requires { ⌜ (length (recordOf entry) ≤ length (now output)) × (entry .before .stock + quantityOf (entry .message .kind) ≤ mostStock) ⌝ }
     ensures { λ _. ⌜ now (output .exit) ≡ write 0 (recordOf entry) (now (output .entry)) ⌝ }
 {
     let message = entry.message;

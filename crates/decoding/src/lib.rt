@@ -85,10 +85,10 @@ pub fn state_of(bytes: &[u8]) -> State
     ensures { λ r. ⌜ r ≡ stateOf (now (bytes .entry)) ⌝ }
 {
     State {
-        stock: read16(bytes, 0),
-        failed: read32(bytes, 2),
-        fitted: read32(bytes, 6),
-        short: read32(bytes, 10),
+        stock: read32(bytes, 0),
+        failed: read32(bytes, 4),
+        fitted: read32(bytes, 8),
+        short: read32(bytes, 12),
     }
 }
 

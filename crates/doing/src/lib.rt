@@ -6,10 +6,13 @@ use model::State;
 use model::event::Reply;
 ghost use mathlib.Core.Path.{_≡_};
 ghost use mathlib.Core.List.{[]};
-ghost use Rattle.model.specs.Doing.{after, counted, shelved, notPast, reply, replyWith, replyTo};
+ghost use Prim.Native.Nat.{_+_, _≤_};
+ghost use Rattle.model.specs.Messages.{quantityOf};
+ghost use Rattle.model.specs.Doing.{after, counted, mostStock, notPast, reply, replyWith, replyTo};
 
-// The state after a message of that kind: every kind, in every state.
+// The state after a message of that kind: every kind, in every state whose stock, with what a Restock brings, is no more than it can come to.
 pub fn state_after(state: State, kind: Kind) -> State
+    requires { ⌜ state .stock + quantityOf kind ≤ mostStock ⌝ }
     ensures { λ r. ⌜ r ≡ after state kind ⌝ }
 {
     let mut next = state;
@@ -28,7 +31,7 @@ pub fn state_after(state: State, kind: Kind) -> State
             next.fitted = count(state.fitted);
         }
         Kind::Restock { quantity } => {
-            next.stock = shelve(state.stock, quantity);
+            next.stock = state.stock + (quantity as u32);
         }
         Kind::Start => {}
         Kind::Lvt => {}
@@ -70,17 +73,6 @@ fn request_for(site: Site, cause: Message, origin: u8) -> Reply
     let request = Kind::Request { origin };
     let hours = site.hours;
     sending(site, cause, hours.request, site.supplier, request)
-}
-
-// The shelf with the quantity added, which stops at its largest value.
-fn shelve(stock: u16, quantity: u16) -> u16
-    ensures { λ r. ⌜ r ≡ shelved stock quantity ⌝ }
-{
-    if quantity < 65535 - stock {
-        stock + quantity
-    } else {
-        65535
-    }
 }
 
 // A counter with one more, which stops at its largest value.

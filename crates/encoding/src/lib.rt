@@ -46,7 +46,7 @@ pub fn write_entry(memory: &mut [u8], at: usize, entry: Entry)
     let message = entry.message;
     let mark = entry.mark;
     let before = entry.before;
-    let zeros = [0; 20];
+    let zeros = [0; 18];
     write_message(memory, at, mark_number(mark), message);
     write_state(memory, at + MESSAGE_SIZE, before);
     copy(memory, at + ZEROS_AT, &zeros);
@@ -97,8 +97,8 @@ pub fn write_state(memory: &mut [u8], at: usize, state: State)
     requires { ⌜ at + stateSize ≤ length (now memory) ⌝ }
     ensures { λ _. ⌜ now (memory .exit) ≡ write at (stateBytes state) (now (memory .entry)) ⌝ }
 {
-    write16(memory, at, state.stock);
-    write_three(memory, at + 2, state.failed, state.fitted, state.short);
+    write32(memory, at, state.stock);
+    write_three(memory, at + 4, state.failed, state.fitted, state.short);
 }
 
 // Puts three numbers of four bytes one behind the other.

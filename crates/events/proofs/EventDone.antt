@@ -9,10 +9,12 @@ use lib.Dec.{leb}
 use lib.ListN.{length, take, drop, getD, length-append}
 use lib.Seq.{length-take-le}
 use borrow.Author.Tests.{le-leb, leb-true, not-true, not-false}
+use Rattle.lists.specs.Lists.{tally}
 use Rattle.lists.specs.inside.Positions.{firstWhere}
 use Rattle.lists.proofs.PositionLaws.{first-bound}
 use Rattle.buffer.specs.Slice.{part, write}
-use Rattle.model.specs.Doing.{after, replyTo, sentBy}
+use Rattle.model.specs.Messages.{quantityOf}
+use Rattle.model.specs.Doing.{mostStock, after, replyTo, sentBy}
 use Rattle.model.proofs.Sending.{reply-sends}
 use Rattle.model.specs.declared.Message.{Message}
 use Rattle.model.specs.declared.State.{State}
@@ -23,13 +25,13 @@ use Rattle.memory.specs.Records.{Gateway, headerOf, siteOf}
 use Rattle.memory.specs.Codec.{entryOf, entryBytes, placesAt}
 use Rattle.memory.specs.Ranges.{RangedState}
 use Rattle.memory.specs.inside.Fits.{EntryFits, GatewayFits}
-use Rattle.memory.specs.Validity.{isPending}
+use Rattle.memory.specs.Validity.{isPending, stillBrings}
 use Rattle.memory.specs.declared.Header.{Header}
 use Rattle.memory.specs.declared.Entry.{Entry}
 use Rattle.memory.specs.declared.Mark.the-variants.{Pending, Processed}
 use Rattle.memory.proofs.Validated.{valid-facts}
 use Rattle.lists.proofs.BoolLaws.{and-left, and-right}
-use Rattle.memory.proofs.Places.{length-read}
+use Rattle.memory.proofs.Places.{length-read, place-at}
 use Rattle.memory.proofs.Fitting.{valid-fits}
 use Rattle.gateway.specs.Effects.{bytesOfFrames, fits, withQueue, withState, sentOne, sentAll, framesFor}
 use Rattle.gateway.specs.Working.{pendingOf, processedNext, done, Progress, noneDone, worked}
@@ -37,12 +39,13 @@ use Rattle.places.specs.inside.Searching.{hasMark}
 use Rattle.gateway.proofs.Maintaining.{Proper}
 use Rattle.gateway.proofs.Keeps.{work-keeps}
 use Rattle.gateway.proofs.Replies.{after-ranged}
+use Rattle.gateway.proofs.Stocks.{stock-enough}
 use Rattle.effects.specs.inside.Placed.{Placed}
 use Rattle.effects.proofs.StoredSent.{sent-queue}
 use Rattle.effects.proofs.PlacedLaws.{placed-rest, placed-count, placed-entry, placed-split, placed-fits, placed-replaced, placed-state}
 use Rattle.replies.specs.inside.Turns.{Ready, Reached, Turned, stoppedWith, replyBytes, roomFor, MaySendReply, SendsReply}
 use Rattle.replies.specs.declared.Turn.{Turn}
-use Rattle.events.proofs.NextPending.{none-pending, next-message, processed-at, processed-length, next-behind}
+use Rattle.events.proofs.NextPending.{none-pending, next-message, next-brings, processed-at, processed-length, next-behind}
 use Rattle.events.proofs.WorkedLaws.{worked-none, worked-full, doneBy, worked-one}
 
 -- work that stops before an event
@@ -78,6 +81,20 @@ pub place-below : (memory : List ℕ) {place queued k : ℕ} → place ≤ queue
 place-below memory {place} {queued} h f n =
     let es = placesAt entryOf queueSize memory (queueAt place) (queued - place) in
     omega (arith, first-bound (hasMark Pending) es, length-read entryOf queueSize memory (queueAt place) (queued - place))
+
+-- and the message there leaves a stock that is no more than it can come to
+pub stock-there : (memory : List ℕ) (stock : ℕ) {place queued k : ℕ} → place ≤ queued
+    → k ≡ place + firstWhere (hasMark Pending) (placesAt entryOf queueSize memory (queueAt place) (queued - place)) → (k ≡ queued → ⊥)
+    → stock + tally stillBrings (placesAt entryOf queueSize memory (queueAt place) (queued - place)) ≤ mostStock
+    → stock + quantityOf (entryOf (part memory (queueAt k) queueSize) .message .kind) ≤ mostStock
+stock-there memory stock {place} {queued} {k} h f n room =
+    let es = placesAt entryOf queueSize memory (queueAt place) (queued - place) in
+    let d = entryOf (part memory (queueAt k) queueSize) in
+    let few = length-read entryOf queueSize memory (queueAt place) (queued - place) in
+    let below : firstWhere isPending es < queued - place = omega (arith, place-below memory h f n) in
+    let at : queueAt place + queueSize * firstWhere isPending es ≡ queueAt k = omega (arith, f) in
+    let there : getD es (firstWhere isPending es) d ≡ d = place-at entryOf queueSize memory (queueAt place) (queued - place) (firstWhere isPending es) d below ∙ rw at in
+    omega (arith, room, rw there at (next-brings es d (omega (arith, few))))
 
 -- what is sent beside the rest of a gateway
 module _ (reply : Reply) (g : Gateway) where
@@ -170,7 +187,10 @@ module _ {before memory : List ℕ} {t : Turn} {g : Gateway} (reached : Reached 
       state-is = ap (λ (h : Header). h .state) header-is
 
       state-fits : RangedState next
-      state-fits = rw (next-is, state-is) (after-ranged (reached .ranged .state) (e .message .kind))
+      state-fits =
+          rw (next-is, state-is)
+          (after-ranged (reached .ranged .state) (e .message .kind)
+          (stock-enough (g .state) (g .queue) (valid-facts g (reached .validity) .stocks) (e .message) (pending .1)))
 
       -- the entry as it is processed
       now-processed : Entry

@@ -3,12 +3,14 @@ use mathlib.Core.Path.{_≡_, refl, ap}
 use mathlib.Core.Bool.{Bool, true, false, cond}
 use mathlib.Core.List.{List, [], _∷_, _++_}
 use Prim.Native.Nat.{ℕ, suc, _+_, _≤_, _<_}
+use native.Mathlib.Nat.{zero-add}
 use native.Mathlib.Omega.{arith}
 use lib.ListN.{length, take, drop, getD}
+use Rattle.lists.specs.Lists.{tally}
 use Rattle.lists.specs.inside.Positions.{firstWhere}
 use Rattle.model.specs.declared.Message.{Message}
 use Rattle.model.specs.declared.State.{State}
-use Rattle.memory.specs.Validity.{isPending}
+use Rattle.memory.specs.Validity.{isPending, brings, stillBrings}
 use Rattle.memory.specs.declared.Entry.{Entry}
 use Rattle.memory.specs.declared.Mark.the-variants.{Processed}
 use Rattle.gateway.specs.Working.{pendingOf, processedNext}
@@ -37,6 +39,17 @@ next-message (e ∷ es) d h = here (isPending e) h (next-message es d)
         → (rest : List Message) × (cond b (e .message ∷ pendingOf es) (pendingOf es) ≡ getD (e ∷ es) (cond b 0 (suc (next es))) d .message ∷ rest)
     here true h r = (pendingOf es, refl)
     here false h r = r (omega arith)
+
+-- what it brings is among what is still to be brought
+pub next-brings : (es : List Entry) (d : Entry) → next es < length es → brings (getD es (next es) d) ≤ tally stillBrings es
+unfolding firstWhere tally
+next-brings [] d h = absurd (omega arith)
+next-brings (e ∷ es) d h = here (isPending e) h (next-brings es d)
+  where
+    here : (b : Bool) → cond b 0 (suc (next es)) < suc (length es) → (next es < length es → brings (getD es (next es) d) ≤ tally stillBrings es)
+        → brings (getD (e ∷ es) (cond b 0 (suc (next es))) d) ≤ cond b (brings e) 0 + tally stillBrings es
+    here true h r = omega arith
+    here false h r = rw zero-add (r (omega arith))
 
 -- the queue after it is processed
 module _ (s : State) where

@@ -15,7 +15,12 @@ use replies::has_room;
 use replies::reply_bytes;
 use replies::send_reply;
 ghost use mathlib.Core.Path.{_≡_};
-ghost use Prim.Native.Nat.{_<_};
+ghost use Prim.Native.Nat.{_+_, _<_, _≤_};
+ghost use Rattle.buffer.specs.Slice.{part};
+ghost use Rattle.model.specs.Messages.{quantityOf};
+ghost use Rattle.model.specs.Doing.{mostStock};
+ghost use Rattle.memory.specs.Layout.{queueSize, queueAt};
+ghost use Rattle.memory.specs.Codec.{entryOf};
 ghost use Rattle.replies.specs.inside.Turns.{Ready, Turns, TurnsAt, stoppedWith};
 
 // One event, for an output of room bytes.
@@ -34,7 +39,9 @@ pub fn work_one(memory: &mut [u8], room: usize, turn: Turn) -> Turn
 
 // Does the message in queue place k.
 fn work_at(memory: &mut [u8], room: usize, turn: Turn, k: usize) -> Turn
-    requires { ⌜ Ready (now memory) room turn × (k < turn .header .queued) ⌝ }
+    requires { ⌜ Ready (now memory) room turn
+        × (k < turn .header .queued)
+        × (turn .header .state .stock + quantityOf (entryOf (part (now memory) (queueAt k) queueSize) .message .kind) ≤ mostStock) ⌝ }
     ensures { λ r. ⌜ TurnsAt k (now (memory .entry)) room (now (memory .exit)) turn r ⌝ }
 {
     let header = turn.header;

@@ -4,7 +4,7 @@ use Prim.Native.Nat.{ℕ, zero, suc, _+_, _<_, _≤_}
 use native.Mathlib.Omega.{arith}
 use mathlib.Core.Bool.{Bool, true, false, not, _&&_, and-assoc, and-true}
 use mathlib.Core.List.{List, [], _++_, append-assoc}
-use lib.Dec.{eqb, leb, lit<, lit≤}
+use lib.Dec.{eqb, leb, lit<}
 use lib.ListN.{length, getD, drop, replicate, drop-of-length-le}
 use borrow.Author.Tests.{eq-eqb, ne-eqb, le-leb, lt-leb}
 use Rattle.buffer.specs.Slice.{Bytes, part, sameBytes}
@@ -143,13 +143,13 @@ module _ (b : List ℕ) (bytes : Bytes b) where
   -- five numbers, each zero
   zero-tests : length b ≡ queueSize
       → sameBytes (replicate zerosSize 0) (drop zerosAt b)
-      ≡ (eqb (numberOf (part b zerosAt 4)) 0 && (eqb (numberOf (part b 48 4)) 0 && (eqb (numberOf (part b 52 4)) 0 && (eqb (numberOf (part b 56
+      ≡ (eqb (numberOf (part b zerosAt 2)) 0 && (eqb (numberOf (part b 48 4)) 0 && (eqb (numberOf (part b 52 4)) 0 && (eqb (numberOf (part b 56
       4)) 0 && eqb (numberOf (part b 60 4)) 0))))
   unfolding sameBytes bytesOf
   zero-tests size =
       let none : drop queueSize b ≡ [] = drop-of-length-le b {i = queueSize} (omega arith) in
-      number-test b bytes zerosAt 4 0 (replicate 16 0) (omega arith) (lit< tt)
-      ∙ ap (_&&_ (eqb (numberOf (part b zerosAt 4)) 0))
+      number-test b bytes zerosAt 2 0 (replicate 16 0) (omega arith) (lit< tt)
+      ∙ ap (_&&_ (eqb (numberOf (part b zerosAt 2)) 0))
       (number-test b bytes 48 4 0 (replicate 12 0) (omega arith) (lit< tt)
       ∙ ap (_&&_ (eqb (numberOf (part b 48 4)) 0))
       (number-test b bytes 52 4 0 (replicate 8 0) (omega arith) (lit< tt)
@@ -182,7 +182,7 @@ module _ (b : List ℕ) (m : Message) {kind : ℕ} (k : kind ≡ kindNumber (m .
           rw (p, q) (sym (kind-passed ∙ rw (eq-eqb (getD b 8 0) (originOf (m .kind)) (same-origin ∙ o), eq-eqb (getD b 9 0) 0 gap)))
 
 -- the tests of the zeros, by the one that fails and by the last
-module _ (b : List ℕ) (bytes : Bytes b) (size : length b ≡ queueSize) {n₁ : ℕ} (p₁ : n₁ ≡ numberOf (part b zerosAt 4)) where
+module _ (b : List ℕ) (bytes : Bytes b) (size : length b ≡ queueSize) {n₁ : ℕ} (p₁ : n₁ ≡ numberOf (part b zerosAt 2)) where
   pub zeros-first : (n₁ ≡ 0 → ⊥) → false ≡ sameBytes (replicate zerosSize 0) (drop zerosAt b)
   zeros-first d = sym (zero-tests b bytes size ∙ rw (← p₁, ne-eqb n₁ 0 d))
 

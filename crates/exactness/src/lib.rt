@@ -4,6 +4,7 @@ use buffer::read32;
 use memory::Entry;
 use memory::MESSAGE_SIZE;
 use memory::Sent;
+use memory::ZEROS_AT;
 use model::Message;
 use model::kind_number;
 use model::origin_of;
@@ -64,12 +65,12 @@ fn message_exact(place: &[u8], message: Message) -> bool
     read16(place, 10) == quantity_of(kind)
 }
 
-// Whether a queue place's last twenty bytes are zero.
+// Whether a queue place's last eighteen bytes are zero.
 fn zeros(place: &[u8]) -> bool
     requires { ⌜ length (now place) ≡ queueSize ⌝ }
     ensures { λ r. ⌜ r ≡ sameBytes (replicate zerosSize 0) (drop zerosAt (now (place .entry))) ⌝ }
 {
-    if read32(place, 44) != 0 {
+    if read16(place, ZEROS_AT) != 0 {
         return false;
     }
     if read32(place, 48) != 0 {

@@ -1,6 +1,6 @@
 -- Two neighbours of the queue, by how they compare.
 use mathlib.Core.Path.{_≡_, refl, sym, _∙_}
-use Prim.Native.Nat.{_<_}
+use Prim.Native.Nat.{ℕ, _<_}
 use mathlib.Core.Bool.{Bool, true, not, _&&_}
 use Rattle.model.specs.EventOrder.{key, compared, different}
 use Rattle.model.specs.declared.order.Comparison.{Comparison}
@@ -25,9 +25,9 @@ module _ (before e : Entry) where
   follows-compared = by-comparison found (before .mark) (e .mark)
 
   -- a later hour decides
-  pub later-hour : before .message .hour < e .message .hour → true ≡ entryFollows before e
+  pub later-hour : {a b : ℕ} → a ≡ before .message .hour → b ≡ e .message .hour → a < b → true ≡ entryFollows before e
   unfolding compared key
-  later-hour h = sym (follows-compared ∙ rw (← less (before .message .hour) (e .message .hour) h))
+  later-hour p q h = sym (follows-compared ∙ rw (← less (before .message .hour) (e .message .hour) (rw (← p, ← q) h)))
 
   pub compared-so : {c : Comparison} {r : Bool} → c ≡ compared (key (before .message)) (key (e .message)) → r ≡ comparedFollows c
       (before .mark) (e .mark) → r ≡ entryFollows before e

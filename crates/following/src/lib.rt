@@ -16,11 +16,26 @@ ghost use Rattle.following.specs.inside.Follows.{entryFollows, comparedF
 pub fn follows(before: Entry, entry: Entry) -> bool
     ensures { λ r. ⌜ r ≡ entryFollows before entry ⌝ }
 {
-    let first = before.message;
-    let second = entry.message;
-    if first.hour < second.hour {
+    if hour_of(before) < hour_of(entry) {
         return true;
     }
+    compared_follow(before, entry)
+}
+
+// The hour of an entry's message.
+fn hour_of(entry: Entry) -> u32
+    ensures { λ r. ⌜ r ≡ entry .message .hour ⌝ }
+{
+    let message = entry.message;
+    message.hour
+}
+
+// The same with all of both messages compared.
+fn compared_follow(before: Entry, entry: Entry) -> bool
+    ensures { λ r. ⌜ r ≡ entryFollows before entry ⌝ }
+{
+    let first = before.message;
+    let second = entry.message;
     let first_mark = before.mark;
     let second_mark = entry.mark;
     may_follow(compare(first, second), first_mark, second_mark)

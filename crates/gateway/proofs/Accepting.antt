@@ -60,12 +60,12 @@ pub record Accepted (s : Settings) (f : Frame) : Type 0 where
   pub passes : Passes s f
 
 -- only a kind with a lamp has a cancel
-pub cancel-kind : (m : Message) → wellFormed (frameIf true m) ≡ true → kindNumber (m .kind) ≤ 3
+pub cancel-kind : (m : Message) → wellFormed (frameIf true m) ≡ true → kindNumber (m .kind) ≤ 2
 unfolding wellFormed
 cancel-kind m h = by-case (hasLamp (kindNumber (m .kind))) refl (search (and-left, and-right))
   where
-    by-case : (b : Bool) → hasLamp (kindNumber (m .kind)) ≡ b → (b || false) ≡ true → kindNumber (m .kind) ≤ 3
-    by-case true e k = omega (arith, leb-true (kindNumber (m .kind)) 2 (sym (lamp-kinds (kindNumber (m .kind))) ∙ e))
+    by-case : (b : Bool) → hasLamp (kindNumber (m .kind)) ≡ b → (b || false) ≡ true → kindNumber (m .kind) ≤ 2
+    by-case true e k = leb-true (kindNumber (m .kind)) 2 (sym (lamp-kinds (kindNumber (m .kind))) ∙ e)
     by-case false e k = absurd (false≢true k)
 
 -- a plain message or a cancel of an event

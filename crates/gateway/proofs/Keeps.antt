@@ -12,7 +12,7 @@ use Rattle.lists.proofs.SearchLaws.{without-part}
 use Rattle.lists.proofs.Ascents.{part-member, part-length}
 use Rattle.routing.specs.Arcs.{from, to}
 use Rattle.buffer.specs.Slice.{Bytes}
-use Rattle.model.specs.Messages.{kindNumber}
+use Rattle.model.specs.Messages.{kindNumber, quantityOf}
 use Rattle.model.specs.declared.Message.{Message}
 use Rattle.model.specs.declared.Kind.{Kind}
 use Rattle.model.specs.declared.Kind.the-variants.{Failure, Request, Delivery, Restock, Start, Lvt, Update}
@@ -41,6 +41,8 @@ use Rattle.gateway.proofs.Searches.{pending-member}
 use Rattle.gateway.proofs.Replies.{Good}
 use Rattle.gateway.proofs.Maintaining.{Proper, Standing, standing, Kept, enough, Ends, below-ten, unchanged, refuse, with-agreed, with-outstanding, fitting, settle}
 use Rattle.gateway.proofs.Queues.{leave-out}
+use Rattle.model.proofs.KindNumbers.{no-restock}
+use Rattle.gateway.proofs.Stocks.{stocks-part}
 use Rattle.gateway.proofs.Arrivals.{begun-stands, start-stands, lvt-stands}
 use Rattle.frame.proofs.FormNumbers.{number-sound, number-small, form-passed}
 use Rattle.gateway.proofs.Accepting.{Accepted, refusal-below, not-refused, accepted-good, cancel-kind}
@@ -58,8 +60,9 @@ module _ {g : Gateway} (p : Proper g) where
   refuses-form : (form : Form) → {b : Bool} → b ≡ false → Ends (g .settings) (refused (formNumber form) g)
   refuses-form form e = refuse p (formNumber form) (record { sound = number-sound form; small = number-small form })
 
-  pub plain-keeps : (room : ℕ) (m : Message) → Good (g .settings) false m → m .to ≡ g .settings .own → Ends (g .settings) (settled room g (takePlain m g))
-  plain-keeps room m good to-here = settle p room (takePlain m g) (plain-stands p m good to-here)
+  pub plain-keeps : (room : ℕ) (m : Message) → Good (g .settings) false m → m .to ≡ g .settings .own → quantityOf (m .kind) ≡ 0
+      → Ends (g .settings) (settled room g (takePlain m g))
+  plain-keeps room m good to-here nothing = settle p room (takePlain m g) (plain-stands p m good to-here nothing)
 
   pub cancel-keeps : (room : ℕ) (m : Message) → Good (g .settings) true m → m .to ≡ g .settings .own → Ends (g .settings) (settled room g (takeCancel m g))
   cancel-keeps room m good to-here = settle p room (takeCancel m g) (cancel-stands p m good to-here)
@@ -115,7 +118,7 @@ module _ {g : Gateway} (p : Proper g) where
       left =
           let v = valid-facts g (p .valid) in
           let fewer = without-part isProcessed (g .queue) in
-          enough (requeue (standing p) (withoutFirst isProcessed (g .queue)) (leave-out fewer (queue-of (standing p)))) (omega (
+          enough (requeue (standing p) (withoutFirst isProcessed (g .queue)) (leave-out fewer (queue-of (standing p))) (stocks-part fewer (standing p .stocks))) (omega (
             arith,
             part-length fewer,
             v .queued,
@@ -139,11 +142,11 @@ module _ {g : Gateway} (p : Proper g) where
       in-sense : {sense : Sense} → f .sense ≡ sense → Accepted (g .settings) (record { message = f .message; sense = sense })
       in-sense e = subst (λ (t : Sense). Accepted (g .settings) (record { message = f .message; sense = t })) e a
 
-      plain : f .sense ≡ Plain → kindNumber (f .message .kind) ≤ 3 → Ends (g .settings) (unlessBelow (f .message .hour) g (settled room g
+      plain : f .sense ≡ Plain → kindNumber (f .message .kind) ≤ 2 → Ends (g .settings) (unlessBelow (f .message .hour) g (settled room g
           (takePlain (f .message) g)))
       plain e k =
-          let t = accepted-good (g .settings) false (f .message) k (in-sense e) in
-          below-keeps (f .message .hour) (plain-keeps room (f .message) (t .good) (t .here))
+          let t = accepted-good (g .settings) false (f .message) (omega (arith, k)) (in-sense e) in
+          below-keeps (f .message .hour) (plain-keeps room (f .message) (t .good) (t .here) (no-restock (f .message .kind) k))
 
       by-kind : f .sense ≡ Plain → (kind : Kind) → f .message .kind ≡ kind → Ends (g .settings) (takeByKind room (f .message) g kind)
       by-kind e (Failure origin) i = plain e (rw i (omega arith))
@@ -157,7 +160,7 @@ module _ {g : Gateway} (p : Proper g) where
       by-sense : (sense : Sense) → f .sense ≡ sense → Ends (g .settings) (takeBySense room (f .message) g sense)
       by-sense Plain e = by-kind e (f .message .kind) refl
       by-sense Cancel e =
-          let t = accepted-good (g .settings) true (f .message) (cancel-kind (f .message) (in-sense e .form)) (in-sense e) in
+          let t = accepted-good (g .settings) true (f .message) (omega (arith, cancel-kind (f .message) (in-sense e .form))) (in-sense e) in
           below-keeps (f .message .hour) (cancel-keeps room (f .message) (t .good) (t .here))
       by-sense Acknowledgment e = acknowledgment-keeps false (f .message)
       by-sense CancelAcknowledgment e = acknowledgment-keeps true (f .message)
@@ -211,4 +214,4 @@ work-keeps (suc b) room {g} p = next (pendingOf (g .queue)) refl (λ room′ h q
         let r = pending-member (g .queue) m (rw e (here refl)) in
         let entry = standing p .entries (r .0) (r .1) in
         let good = subst (Good (g .settings) (isWaiting (r .0))) (sym (r .2)) (record { storable = entry .valid .message; ranged = entry .ranged .message }) in
-        one m (fits room (done m g)) refl (done-stands p m good) again
+        one m (fits room (done m g)) refl (done-stands p m e good) again

@@ -2,6 +2,7 @@
 pub mod Searches
 pub mod Maintaining
 pub mod Queues
+pub mod Stocks
 pub mod Arrivals
 pub mod Takings
 pub mod Accepting
@@ -11,6 +12,7 @@ pub mod SoundAfter
 pub mod LaterMessages
 pub mod Table
 pub mod ReasonTable
+pub mod StockTable
 pub mod Calling
 pub mod Replies
 pub mod Knowing

@@ -21,7 +21,7 @@ use Rattle.memory.specs.declared.Round.{Round}
 use Rattle.memory.specs.declared.Phase.{Phase}
 use Rattle.memory.specs.declared.Phase.the-variants.{Idle, Counting, Stopped}
 use Rattle.memory.specs.Ranges.{Ranged, RangedState, RangedEntry}
-use Rattle.memory.proofs.Validated.{ValidSettings, ValidEntry, MayStand, valid-facts, facts-valid}
+use Rattle.memory.proofs.Validated.{ValidSettings, ValidEntry, MayStand, Stocks, valid-facts, facts-valid}
 use Rattle.lists.proofs.BoolLaws.{and-left, and-right}
 use Rattle.gateway.specs.Effects.{Effect, Outcome, fits, refused, settled, bytesOfFrames, withQueue, withState, withAgreed, withRound}
 use Rattle.gateway.specs.Effects.{withOutstanding, loweredIn, noted, sentOne, sentAll}
@@ -52,6 +52,7 @@ pub record Standing (s : Settings) (g : Gateway) : Type 0 where
   pub round : roundPossible s (g .round) ≡ true
   pub entries : (e : Entry) → e ∈ g .queue → GoodEntry s e
   pub order : Ascending MayStand (g .queue)
+  pub stocks : Stocks (g .state) (g .queue)
   pub outstanding : (x : Sent) → x ∈ g .outstanding → GoodSent s x
 
 pub standing : {g : Gateway} → Proper g → Standing (g .settings) g
@@ -66,6 +67,7 @@ standing {g} p =
       round = v .round;
       entries = λ e m. record { valid = v .entries e m; ranged = p .ranged .queue e m };
       order = v .order;
+      stocks = v .stocks;
       outstanding = λ x m. record { valid = v .outstanding x m; ranged = p .ranged .outstanding x m };
     }
 
@@ -83,6 +85,7 @@ module _ {s : Settings} {g : Gateway} (k : Standing s g) where
             round = rw (k .same) (k .round);
             entries = λ e m. rw (k .same) (k .entries e m .valid);
             order = k .order;
+            stocks = k .stocks;
             outstanding = λ x m. rw (k .same) (k .outstanding x m .valid);
           });
           ranged = record {
@@ -95,8 +98,9 @@ module _ {s : Settings} {g : Gateway} (k : Standing s g) where
         };
       }
 
-  pub with-queue : (queue : List Entry) → ((e : Entry) → e ∈ queue → GoodEntry s e) → Ascending MayStand queue → Standing s (withQueue queue g)
-  with-queue queue h a =
+  pub with-queue : (queue : List Entry) → ((e : Entry) → e ∈ queue → GoodEntry s e) → Ascending MayStand queue → Stocks (g .state) queue
+      → Standing s (withQueue queue g)
+  with-queue queue h a t =
       record {
         same = k .same;
         settings = k .settings;
@@ -106,11 +110,12 @@ module _ {s : Settings} {g : Gateway} (k : Standing s g) where
         round = k .round;
         entries = h;
         order = a;
+        stocks = t;
         outstanding = k .outstanding;
       }
 
-  pub with-state : (state : State) → RangedState state → Standing s (withState state g)
-  with-state state h =
+  pub with-state : (state : State) → RangedState state → Stocks state (g .queue) → Standing s (withState state g)
+  with-state state h t =
       record {
         same = k .same;
         settings = k .settings;
@@ -118,9 +123,9 @@ module _ {s : Settings} {g : Gateway} (k : Standing s g) where
         agreed = k .agreed;
         note = k .note;
         round = k .round;
-        entries =
-            k .entries;
+        entries = k .entries;
         order = k .order;
+        stocks = t;
         outstanding = k .outstanding;
       }
 
@@ -135,6 +140,7 @@ module _ {s : Settings} {g : Gateway} (k : Standing s g) where
         round = k .round;
         entries = k .entries;
         order = k .order;
+        stocks = k .stocks;
         outstanding = k .outstanding;
       }
 
@@ -149,6 +155,7 @@ module _ {s : Settings} {g : Gateway} (k : Standing s g) where
         round = h;
         entries = k .entries;
         order = k .order;
+        stocks = k .stocks;
         outstanding = k .outstanding;
       }
 
@@ -164,6 +171,7 @@ module _ {s : Settings} {g : Gateway} (k : Standing s g) where
         entries =
             k .entries;
         order = k .order;
+        stocks = k .stocks;
         outstanding = h;
       }
 
@@ -191,6 +199,16 @@ unfolding sentAll
 send-all k cancel [] h = k
 send-all k cancel (m ∷ ms) h = send-all (send-one k cancel m (h m (here refl))) cancel ms (λ x n. h x (there n))
 
+-- sending leaves the state
+sent-state : (cancel : Bool) (ms : List Message) (g : Gateway) → sentAll cancel ms g .state ≡ g .state
+unfolding sentAll sentOne
+sent-state cancel [] g = refl
+sent-state cancel (m ∷ ms) g = sent-state cancel ms (sentOne cancel m g)
+
+pub rolled-state : (events : List Entry) (g : Gateway) → rolledBack events g .state ≡ restored (g .state) events
+unfolding rolledBack
+rolled-state events g = sent-state true (sentBack (siteOf (g .settings)) events) (withState (restored (g .state) events) g)
+
 -- undoing events of the queue
 module _ {s : Settings} {g : Gateway} (k : Standing s g) where
   restored-ranged : (events : List Entry) → ((e : Entry) → e ∈ events → GoodEntry s e) → RangedState (restored (g .state) events)
@@ -212,10 +230,11 @@ module _ {s : Settings} {g : Gateway} (k : Standing s g) where
       }) true (e .before) m)
       (List·Memᴰ·append-cases (sentBack (siteOf s) es) n)
 
-  pub roll-back : (events : List Entry) → ((e : Entry) → e ∈ events → GoodEntry s e) → Standing s (rolledBack events g)
+  pub roll-back : (events : List Entry) → ((e : Entry) → e ∈ events → GoodEntry s e) → Stocks (restored (g .state) events) (g .queue)
+      → Standing s (rolledBack events g)
   unfolding rolledBack
-  roll-back events h =
-      send-all (with-state k (restored (g .state) events) (restored-ranged events h)) true (sentBack (siteOf (g .settings)) events)
+  roll-back events h t =
+      send-all (with-state k (restored (g .state) events) (restored-ranged events h) t) true (sentBack (siteOf (g .settings)) events)
       (λ m n. sent-back-good events h m (rw (k .same) at n))
 
 -- either of two effects

@@ -39,7 +39,8 @@ use Rattle.gateway.specs.declared.Opening.{Opening}
 use Rattle.lists.proofs.PieceLaws.{first-none}
 use Rattle.frame.proofs.PieceBytes.{cut-bytes}
 use Rattle.gateway.proofs.Maintaining.{Kept, enough}
-use Rattle.gateway.proofs.Queues.{GoodQueue, pending-good, opening-enters}
+use Rattle.gateway.proofs.Queues.{GoodQueue, pending-good, opening-enters, pending-not-processed}
+use Rattle.gateway.proofs.Stocks.{stocks-open}
 use Rattle.frame.proofs.FormNumbers.{form-passed}
 use Rattle.gateway.proofs.Accepting.{Accepted, Taken, not-refused, accepted-good}
 
@@ -95,10 +96,14 @@ length-queued es (f ∷ fs) =
     let m = reading f .frame .message in
     omega (arith, length-queued (beforeFirst (isLater m) es ++ (pendingEntry m ∷ fromFirst (isLater m) es)) fs, length-entered m (pendingEntry m) es)
 
+pub record OpeningQueue (s : Settings) (es : List Entry) : Type 0 where
+  pub good : GoodQueue s es
+  pub pending : (e : Entry) → e ∈ es → isPending e ≡ true
+
 queued-good : {s : Settings} (es : List Entry) → GoodQueue s es → ((e : Entry) → e ∈ es → isPending e ≡ true)
-    → (fs : List (List ℕ)) → ((f : List ℕ) → f ∈ fs → Taken s false (reading f .frame .message)) → GoodQueue s (queued es fs)
+    → (fs : List (List ℕ)) → ((f : List ℕ) → f ∈ fs → Taken s false (reading f .frame .message)) → OpeningQueue s (queued es fs)
 unfolding queued
-queued-good es q h [] t = q
+queued-good es q h [] t = record { good = q; pending = h }
 queued-good es q h (f ∷ fs) t =
     let m = reading f .frame .message in
     let a = t f (here refl) in
@@ -170,8 +175,13 @@ opened-keeps o size list bytes h =
       agreed = omega arith;
       note = omega arith;
       round = refl;
-      entries = q .entries;
-      order = q .order;
+      entries = q .good .entries;
+      order = q .good .order;
+      stocks = stocks-open (record { stock = o .stock; failed = 0; fitted = 0; short = 0 }) (queued [] fs)
+          (leb-true (o .stock) 65535 (search (and-left, and-right)))
+          (omega (arith, length-queued [] fs, passes .places, opening-settings o size list h .q))
+          (λ e m. pending-not-processed (e .mark) (q .pending e m))
+          (λ e m. omega (arith, q .good .entries e m .ranged .message .quantity));
       outstanding = λ x m. absurd (List·Memᴰ·not-nil m);
     })
     (omega (arith, length-queued [] fs, passes .places)) (omega arith)

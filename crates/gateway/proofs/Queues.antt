@@ -47,7 +47,7 @@ pending-not-waiting Pending h = refl
 pending-not-waiting Processed h = refl
 pending-not-waiting Waiting h = absurd (false≢true h)
 
-pending-not-processed : (k : Mark) → pendingMark k ≡ true → processedMark k ≡ false
+pub pending-not-processed : (k : Mark) → pendingMark k ≡ true → processedMark k ≡ false
 pending-not-processed Pending h = refl
 pending-not-processed Processed h = absurd (false≢true h)
 pending-not-processed Waiting h = refl

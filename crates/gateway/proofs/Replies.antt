@@ -10,7 +10,7 @@ use Rattle.frame.proofs.Branches.{lamp-map}
 use Rattle.frame.proofs.Presence.{lamp-kinds, hour-stands}
 use Rattle.lists.specs.Lists.{_∈_}
 use Rattle.model.specs.Messages.{kindNumber, originOf, quantityOf}
-use Rattle.model.specs.Doing.{after, counted, notPast, reply, sent, sentFor}
+use Rattle.model.specs.Doing.{after, counted, mostStock, notPast, reply, sent, sentFor}
 use Rattle.model.specs.declared.Kind.{Kind}
 use Rattle.model.specs.declared.Kind.the-variants.{Failure, Request, Delivery, Restock, Start, Lvt, Update}
 use Rattle.model.specs.declared.Message.{Message}
@@ -119,10 +119,10 @@ module _ (s : Settings) (v : ValidSettings s) {cancel : Bool} (m : Message) (goo
       by-kind Lvt e = λ x n. absurd (List·Memᴰ·not-nil n)
       by-kind Update e = λ x n. absurd (List·Memᴰ·not-nil n)
 
--- the state after it
-pub after-ranged : {s : State} → RangedState s → (kind : Kind) → RangedState (after s kind)
-after-ranged r (Failure origin) = record { stock = r .stock; failed = omega arith; fitted = r .fitted; short = r .short }
-after-ranged {s} r (Request origin) = by-case (ltb 0 (s .stock))
+-- the state after it, where the stock comes to no more than it can
+pub after-ranged : {s : State} → RangedState s → (kind : Kind) → s .stock + quantityOf kind ≤ mostStock → RangedState (after s kind)
+after-ranged r (Failure origin) h = record { stock = r .stock; failed = omega arith; fitted = r .fitted; short = r .short }
+after-ranged {s} r (Request origin) h = by-case (ltb 0 (s .stock))
   where
     by-case : (b : Bool)
         → RangedState (cond b (record { stock = s .stock - 1; failed = s .failed; fitted = s .fitted; short = s .short }) (record {
@@ -134,8 +134,8 @@ after-ranged {s} r (Request origin) = by-case (ltb 0 (s .stock))
         }))
     by-case true = record { stock = omega arith; failed = r .failed; fitted = r .fitted; short = r .short }
     by-case false = record { stock = r .stock; failed = r .failed; fitted = r .fitted; short = omega arith }
-after-ranged r (Delivery origin) = record { stock = r .stock; failed = r .failed; fitted = omega arith; short = r .short }
-after-ranged r (Restock quantity) = record { stock = omega arith; failed = r .failed; fitted = r .fitted; short = r .short }
-after-ranged r Start = r
-after-ranged r Lvt = r
-after-ranged r Update = r
+after-ranged r (Delivery origin) h = record { stock = r .stock; failed = r .failed; fitted = omega arith; short = r .short }
+after-ranged r (Restock quantity) h = record { stock = omega arith; failed = r .failed; fitted = r .fitted; short = r .short }
+after-ranged r Start h = r
+after-ranged r Lvt h = r
+after-ranged r Update h = r

@@ -15,7 +15,8 @@ use Rattle.frame.specs.Writing.{contents, written, allBetween, lampFits, wellFo
 use Rattle.frame.specs.Reasons.{valuesOf, fieldsOf, mapFits, formOf, reading}
 use Rattle.frame.specs.Limits.{refusal, refusalWhere}
 use Rattle.memory.specs.Codec.{stateBytes}
-use Rattle.memory.specs.Validity.{settingsValid, roundPossible, equal, later, ordered, processedFirst, noneMeet, storable, entryValid, sentValid, valid}
+use Rattle.memory.specs.Validity.{settingsValid, roundPossible, equal, later, ordered, processedFirst, noneMeet, storable, entryValid, sentValid}
+use Rattle.memory.specs.Validity.{savedStocksBounded, heldStockBounded, valid}
 use Rattle.gateway.specs.Effects.{fits, settled, sentAll}
 use Rattle.gateway.specs.Undoing.{processedOf, undone, restored, sentBack, rolledBack}
 use Rattle.gateway.specs.Taking.{takeCancel}
@@ -30,7 +31,7 @@ unfolding
     gvtcfg widen share setFrom setTo from to mid0 mid1 arcs arcsOfFirst sum together children roundMessages neighboursOf totalsOf
     part write bytesOf numberFrom numberOf stateBytes key compared standing tally joined wholeLength cut mapOfKind hasHour hasLamp mapOf contents written
     allBetween lampFits wellFormed valuesOf fieldsOf mapFits formOf reading refusal refusalWhere every settingsValid leadTimesValid roundPossible equal later ordered
-    processedFirst noneMeet storable entryValid sentValid valid fits settled sentAll processedOf undone restored sentBack
+    processedFirst noneMeet savedStocksBounded heldStockBounded storable entryValid sentValid valid fits settled sentAll processedOf undone restored sentBack
     rolledBack any withoutFirst beforeLast fromLast takeCancel leastOutstanding leastQueued finished begun start bitOf allBits
     oneStart takeStart oneLvt takeLvt takeUpdate recordFor commit openingValid setUpRefusal setUp takeFrame takeBytes roundOfTwo
 starred =

@@ -1,19 +1,24 @@
--- What is proved of the calls beside their contracts: no call answers 10 to memory that the calls left, and at every gateway that set up
--- accepts a message is later than its cause.
+-- What is proved of the calls beside their contracts: no call answers 10 to memory that the calls left, at every gateway that set up
+-- accepts a message is later than its cause, and no sum of a stock and a Restock wraps.
 use mathlib.Core.Path.{_≡_}
-use Prim.Native.Nat.{ℕ, _<_}
+use Prim.Native.Nat.{ℕ, _+_, _≤_, _<_}
 use mathlib.Core.Bool.{true}
 use mathlib.Core.List.{List, [], _∷_}
 use lib.ListN.{length}
 use Rattle.buffer.specs.Slice.{Bytes, part}
-use Rattle.model.specs.Doing.{sent}
+use Rattle.lists.specs.Lists.{_∈_}
+use Rattle.model.specs.Messages.{quantityOf}
+use Rattle.model.specs.Doing.{mostStock, sent}
 use Rattle.model.specs.declared.Message.{Message}
 use Rattle.model.specs.declared.State.{State}
 use Rattle.memory.specs.Layout.{sizeFor}
 use Rattle.memory.specs.Records.{siteOf}
 use Rattle.memory.specs.Codec.{decode}
+use Rattle.memory.specs.Validity.{isProcessed}
 use Rattle.memory.specs.Soundness.{sound}
+use Rattle.memory.specs.declared.Entry.{Entry}
 use Rattle.memory.specs.declared.Settings.{Settings}
+use Rattle.gateway.specs.Working.{pendingOf}
 use Rattle.gateway.specs.SettingUp.{settingsOf}
 use Rattle.gateway.specs.Calls.{taken, started, committed, workedOff, setUp, agreedTime}
 use Rattle.gateway.specs.declared.Opening.{Opening}
@@ -55,3 +60,11 @@ Later settings = (s : State) (m x : Message) → sent (siteOf settings) s m ≡ 
 pub record LaterThanItsCause : Type 0 where
   pub bySetUp : (o : Opening) (list memory : List ℕ) → setUp o list memory .answer .number ≡ 0 → Later (settingsOf o)
   pub inMemory : (memory : List ℕ) → SoundBytes memory → Later (decode memory .settings)
+
+-- in sound memory no sum of a stock and a Restock comes to more than 33,619,455: that of the stock held and the message to be done next, and
+-- that of each stock saved and its own message
+pub record NoStockWraps : Type 0 where
+  pub held : (memory : List ℕ) → SoundBytes memory → (m : Message) (ms : List Message) → pendingOf (decode memory .queue) ≡ m ∷ ms
+      → decode memory .state .stock + quantityOf (m .kind) ≤ mostStock
+  pub saved : (memory : List ℕ) → SoundBytes memory → (e : Entry) → e ∈ decode memory .queue → isProcessed e ≡ true
+      → e .before .stock + quantityOf (e .message .kind) ≤ mostStock

@@ -10,5 +10,6 @@ pub mod Rounds
 pub mod Calls
 pub mod Examples
 pub mod ReasonExamples
+pub mod StockExamples
 pub mod Claims
 pub mod inside

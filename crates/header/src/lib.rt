@@ -106,7 +106,7 @@ fn phase_number(phase: Phase) -> u8
     }
 }
 
-// Puts a header; byte 5 and those from 52 on stay as they are.
+// Puts a header; byte 5 and those from 54 on stay as they are.
 pub fn write_header(memory: &mut [u8], header: Header)
     requires { ⌜ headerUsed ≤ length (now memory) ⌝ }
     ensures { λ _. ⌜ now (memory .exit) ≡ headerWritten header (now (memory .entry)) ⌝ }

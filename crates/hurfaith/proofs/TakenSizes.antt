@@ -12,7 +12,8 @@ use Rattle.lists.specs.Lists.{_∈_, any, fromLast, joined}
 use Rattle.lists.proofs.SearchLaws.{cut-first}
 use Rattle.routing.specs.Arcs.{from, to, children}
 use Rattle.buffer.specs.Slice.{Bytes}
-use Rattle.model.specs.Messages.{kindNumber}
+use Rattle.model.specs.Messages.{kindNumber, quantityOf}
+use Rattle.model.proofs.KindNumbers.{no-restock}
 use Rattle.model.specs.Doing.{sent}
 use Rattle.model.specs.declared.Message.{Message}
 use Rattle.model.specs.declared.Kind.{Kind}
@@ -101,13 +102,13 @@ module _ {g : Gateway} (p : Proper g) where
           omega (arith, h, v .sent, v .settings .u)
       by false q = omega arith
 
-  plain-small : (room : ℕ) (m : Message) → Good s false m → m .to ≡ s .own → length (settled room g (takePlain m g) .output) ≤ 14364
+  plain-small : (room : ℕ) (m : Message) → Good s false m → m .to ≡ s .own → quantityOf (m .kind) ≡ 0 → length (settled room g (takePlain m g) .output) ≤ 14364
   unfolding takePlain
-  plain-small room m good to-here =
+  plain-small room m good to-here nothing =
       let rest = fromFirst (isLater m) (g .queue) in
       let among : (e : Entry) → e ∈ rest → e ∈ g .queue = λ e n. rw (cut-first (isLater m) (g .queue)) at (Memᴰ·append-right (beforeFirst
       (isLater m) (g .queue)) n) in
-      placed-small room (takePlain m g) (plain-stands p m good to-here)
+      placed-small room (takePlain m g) (plain-stands p m good to-here nothing)
       (by-places (any (isCancelOf m) (g .queue)) _ _
       (alone-small false m (good .ranged .lamp) _)
       (λ e. undone-small false m (good .ranged .lamp) (processedOf rest) (λ x n. among x (processed-member rest x n))))
@@ -162,11 +163,11 @@ module _ {g : Gateway} (p : Proper g) where
       in-sense : {sense : Sense} → f .sense ≡ sense → Accepted s (record { message = f .message; sense = sense })
       in-sense e = subst (λ (t : Sense). Accepted s (record { message = f .message; sense = t })) e a
 
-      plain : f .sense ≡ Plain → kindNumber (f .message .kind) ≤ 3 → length (unlessBelow (f .message .hour) g (settled room g (takePlain
+      plain : f .sense ≡ Plain → kindNumber (f .message .kind) ≤ 2 → length (unlessBelow (f .message .hour) g (settled room g (takePlain
           (f .message) g)) .output) ≤ 14364
       plain e k =
-          let t = accepted-good s false (f .message) k (in-sense e) in
-          below-small (f .message .hour) _ (plain-small room (f .message) (t .good) (t .here))
+          let t = accepted-good s false (f .message) (omega (arith, k)) (in-sense e) in
+          below-small (f .message .hour) _ (plain-small room (f .message) (t .good) (t .here) (no-restock (f .message .kind) k))
 
       by-kind : f .sense ≡ Plain → (kind : Kind) → f .message .kind ≡ kind → length (takeByKind room (f .message) g kind .output) ≤ 14364
       by-kind e (Failure origin) i = plain e (rw i (omega arith))
@@ -180,7 +181,7 @@ module _ {g : Gateway} (p : Proper g) where
       by-sense : (sense : Sense) → f .sense ≡ sense → length (takeBySense room (f .message) g sense .output) ≤ 14364
       by-sense Plain e = by-kind e (f .message .kind) refl
       by-sense Cancel e =
-          let t = accepted-good s true (f .message) (cancel-kind (f .message) (in-sense e .form)) (in-sense e) in
+          let t = accepted-good s true (f .message) (omega (arith, cancel-kind (f .message) (in-sense e .form))) (in-sense e) in
           below-small (f .message .hour) _ (cancel-small room (f .message) (t .good) (t .here))
       by-sense Acknowledgment e = acknowledgment-small false (f .message)
       by-sense CancelAcknowledgment e = acknowledgment-small true (f .message)

@@ -15,9 +15,11 @@ pub view-packed : {l : ViewResult} {r : ViewAnswer} {v : ℕ} {output : List ℕ
     → v ≡ packedTwo (r .number) (r .written) → record { answer = v; output = output } ≡ packedView l
 view-packed {output = output} e p = ap (λ (x : ℕ). record { answer = x; output = output }) p ∙ ap packedView e
 
-pub view-fits : (reader : ℕ) (bytes output : List ℕ) → Bytes bytes → {written : List ℕ} {r : ViewAnswer}
-    → record { answer = r; output = written } ≡ viewed reader bytes output → r .written < 72057594037927936
-view-fits reader bytes output b e = let same = ap (λ (x : ViewResult). x .answer .written) e in omega (arith, same, written-few reader bytes output b)
+pub view-fits : (reader oldStock : ℕ) (bytes output : List ℕ) → Bytes bytes → {written : List ℕ} {r : ViewAnswer}
+    → record { answer = r; output = written } ≡ viewed reader oldStock bytes output → r .written < 72057594037927936
+view-fits reader oldStock bytes output b e =
+    let same = ap (λ (x : ViewResult). x .answer .written) e in omega (arith, same, written-few reader oldStock bytes output b)
 
-pub view-read-back : (reader : ℕ) (bytes output : List ℕ) → ReadBackTwo (viewed reader bytes output .answer .number) (viewed reader bytes output .answer .written)
-view-read-back reader bytes output = read-back-two _ _ (number-small reader bytes output)
+pub view-read-back : (reader oldStock : ℕ) (bytes output : List ℕ)
+    → ReadBackTwo (viewed reader oldStock bytes output .answer .number) (viewed reader oldStock bytes output .answer .written)
+view-read-back reader oldStock bytes output = read-back-two _ _ (number-small reader oldStock bytes output)

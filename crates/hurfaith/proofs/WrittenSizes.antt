@@ -88,14 +88,14 @@ module _ {g : Gateway} (p : Proper g) where
   start-small room = either-small (eqb (s .own) 0 && isIdle (g .round .phase)) _ _ (settled-small room g (begun g) begun-small) (omega arith)
 
   -- an event's record
-  commit-small : (room : ℕ) → length (commit room g .output) ≤ 42
+  commit-small : (room : ℕ) → length (commit room g .output) ≤ 44
   unfolding commit recordFor
   commit-small room = oldest (processedOf (g .queue)) (λ e n. processed-member (g .queue) e n)
     where
-      one : (e : Entry) → length (e .message .lamp) ≡ 18 → length (recordOf e) ≤ 42
+      one : (e : Entry) → length (e .message .lamp) ≡ 18 → length (recordOf e) ≤ 44
       one e lamp = rw (length-append, length-state) (omega (arith, frame-small (frameIf false (e .message)) lamp))
 
-      oldest : (es : List Entry) → ((e : Entry) → e ∈ es → e ∈ g .queue) → length (commitOldest room g es .output) ≤ 42
+      oldest : (es : List Entry) → ((e : Entry) → e ∈ es → e ∈ g .queue) → length (commitOldest room g es .output) ≤ 44
       oldest [] h = omega arith
       oldest (e ∷ es) h =
           either-small (ltb (e .message .hour) (g .agreed)) _ _
@@ -129,12 +129,12 @@ work-places (suc b) room {g} p = next (pendingOf (g .queue)) refl (λ room′ h 
         let small = messages-small false ms (λ x n. sent-good (g .settings) (standing p .settings) m good false (g .state) x n .ranged .lamp) in
         omega arith
 
-    one : (m : Message) {cancel : Bool} → Good (g .settings) cancel m → (t : Bool) → fits room (done m g) ≡ t → Again → Places (cond t (rest m) (noneDone 5 g))
-    one m good true e again =
-        let now = fitting room (done m g) (done-stands p m good) e in
+    one : (m : Message) {ms : List Message} → pendingOf (g .queue) ≡ m ∷ ms → {cancel : Bool} → Good (g .settings) cancel m → (t : Bool) → fits room (done m g) ≡ t → Again → Places (cond t (rest m) (noneDone 5 g))
+    one m first good true e again =
+        let now = fitting room (done m g) (done-stands p m first good) e in
         let then = again (room - length (bytesOfFrames (done m g .frames))) (done m g .gateway) (now .proper) in
         rw length-append (omega (arith, then, event m good))
-    one m good false e again = omega arith
+    one m first good false e again = omega arith
 
     next : (ms : List Message) → pendingOf (g .queue) ≡ ms → Again → Places (workedBy ms (noneDone 6 g) (λ m. cond (fits room (done m g))
         (rest m) (noneDone 5 g)))
@@ -143,7 +143,7 @@ work-places (suc b) room {g} p = next (pendingOf (g .queue)) refl (λ room′ h 
         let r = pending-member (g .queue) m (rw e (here refl)) in
         let entry = standing p .entries (r .0) (r .1) in
         let good = subst (Good (g .settings) (isWaiting (r .0))) (sym (r .2)) (record { storable = entry .valid .message; ranged = entry .ranged .message }) in
-        one m good (fits room (done m g)) refl again
+        one m e good (fits room (done m g)) refl again
 
 -- the calls
 module _ (memory output : List ℕ) (bytes : Bytes memory) where
@@ -178,7 +178,7 @@ module _ (memory output : List ℕ) (bytes : Bytes memory) where
   unfolding started
   started-small = call-small start (λ p. start-small p (length output))
 
-  pub committed-small : committed memory output .answer .written ≤ 42
+  pub committed-small : committed memory output .answer .written ≤ 44
   unfolding committed
   committed-small = call-small commit (λ p. commit-small p (length output))
 

@@ -86,5 +86,6 @@ pub record AnswersReadBack : Type 0 where
   pub ofCommitting : (memory output : List ℕ) → Bytes memory → ReadBack (committed memory output .answer .number) (committed memory output .answer .written) 0
   pub ofWorking : (b : ℕ) (memory output : List ℕ) → Bytes memory
       → ReadBack (workedOff b memory output .answer .why) (workedOff b memory output .answer .written) (workedOff b memory output .answer .count)
-  pub ofViewing : (reader : ℕ) (bytes output : List ℕ) → ReadBackTwo (viewed reader bytes output .answer .number) (viewed reader bytes output .answer .written)
+  pub ofViewing : (reader oldStock : ℕ) (bytes output : List ℕ)
+      → ReadBackTwo (viewed reader oldStock bytes output .answer .number) (viewed reader oldStock bytes output .answer .written)
   pub ofReadingTime : (memory : List ℕ) → ReadBack (agreedTime memory .number) 0 (agreedTime memory .hour)

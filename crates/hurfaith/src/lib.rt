@@ -145,11 +145,13 @@ pub extern "C" fn hurfaith_lamp(frame: &[u8]) -> u64
     packed(number, LAMP_PLACE, 0)
 }
 
-// A reader's view of a record: the number, and the bytes written. Reader 0 is purchasing, 1 maintenance.
+// A reader's view of a record: the number, and the bytes written. Reader 0 is purchasing, 1 maintenance; old_stock is 1 for a record with
+// the old stock, else 0.
 #[no_mangle]
-pub extern "C" fn hurfaith_view(bytes: &[u8], output: &mut [u8], reader: u32) -> u64
-    ensures { λ r. ⌜ record { answer = r; output = now (output .exit) } ≡ packedView (viewed reader (now (bytes .entry)) (now (output .entry))) ⌝ }
+pub extern "C" fn hurfaith_view(bytes: &[u8], output: &mut [u8], reader: u32, old_stock: u32) -> u64
+    ensures { λ r. ⌜ record { answer = r; output = now (output .exit) }
+        ≡ packedView (viewed reader «old_stock» (now (bytes .entry)) (now (output .entry))) ⌝ }
 {
-    let answer = view(bytes, output, reader);
+    let answer = view(bytes, output, reader, old_stock);
     packed_two(answer.number, answer.written)
 }

@@ -4,10 +4,10 @@ use mathlib.Core.Logic.{⊎-elim}
 use mathlib.Core.List.{List, [], _∷_, _++_, map, List·Memᴰ·head as here, List·Memᴰ·tail as there, List·Memᴰ·not-nil, List·Memᴰ·cases-cons}
 use mathlib.Core.List.{List·Memᴰ·append-cases, Memᴰ·append-left, Memᴰ·append-right, Sublistᴰ, Sublistᴰ·slnil as neither}
 use mathlib.Core.List.{Sublistᴰ·cons as leave, Sublistᴰ·cons-cons as keep}
-use Prim.Native.Nat.{_≤_}
+use Prim.Native.Nat.{ℕ, _≤_}
 use native.Mathlib.Omega.{arith}
 use lib.ListN.{length}
-use Rattle.lists.specs.Lists.{_∈_, Ascending, none, more}
+use Rattle.lists.specs.Lists.{_∈_, Ascending, none, more, tally}
 
 module _ {A : Type 0} where
   -- some elements left out
@@ -20,6 +20,12 @@ module _ {A : Type 0} where
   part-length neither = omega arith
   part-length (leave p) = let h = part-length p in omega arith
   part-length (keep e p) = let h = part-length p in omega arith
+
+  pub part-tally : (f : A → ℕ) {xs ys : List A} → Sublistᴰ xs ys → tally f xs ≤ tally f ys
+  unfolding tally
+  part-tally f neither = omega arith
+  part-tally f (leave p) = let h = part-tally f p in omega arith
+  part-tally f (keep e p) = let h = part-tally f p in rw e (omega arith)
 
   pub part-ascending : {R : A → A → Type 0} {xs ys : List A} → Sublistᴰ xs ys → Ascending R ys → Ascending R xs
   part-ascending neither a = none

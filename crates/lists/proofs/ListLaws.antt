@@ -3,9 +3,9 @@ use mathlib.Core.List.{List, [], _∷_, _++_, map, append-nil, append-assoc, Lis
 use mathlib.Core.List.{List·Memᴰ·not-nil, List·Memᴰ·cases-cons}
 use mathlib.Core.Path.{_≡_, refl, sym, subst, _∙_, ap}
 use mathlib.Core.Logic.{_≢_, ⊎-elim}
-use Prim.Native.Nat.{ℕ, _+_, _≤_}
+use Prim.Native.Nat.{ℕ, suc, _+_, _*_, _≤_}
 use native.Mathlib.Omega.{arith}
-use lib.ListN.{length, length-append}
+use lib.ListN.{length, take, drop, length-append, take-append-drop}
 use Rattle.lists.specs.Lists.{_∈_, All, nil, cons, Insert, here, there, Inserts, unchanged, one-more, joined, least, tally, matches, count}
 
 module _ {A : Type 0} {p : A → Type 0} where
@@ -121,6 +121,9 @@ module _ {A : Type 0} (f : A → ℕ) where
   tally-none nil = refl
   tally-none (cons e t) = omega (arith, tally-none t)
 
+  pub tally-behind : (k : ℕ) (l : List A) → tally f (drop k l) ≤ tally f l
+  tally-behind k l = let all = rw (take-append-drop k l) at (tally-append (take k l) (drop k l)) in omega arith
+
   pub tally-map : {B : Type 0} (g : B → A) (l : List B) → tally f (map g l) ≡ tally (λ b. f (g b)) l
   unfolding tally
   tally-map g [] = refl
@@ -141,6 +144,13 @@ pub tally-less : {A : Type 0} (f g : A → ℕ) (l : List A) → ((a : A) → a 
 unfolding tally
 tally-less f g [] h = omega arith
 tally-less f g (a ∷ l) h = omega (arith, h a (first refl), tally-less f g l (λ b m. h b (later m)))
+
+pub tally-most : {A : Type 0} (f : A → ℕ) (most : ℕ) (l : List A) → ((a : A) → a ∈ l → f a ≤ most) → tally f l ≤ most * length l
+unfolding tally
+tally-most f most [] h = omega arith
+tally-most f most (a ∷ l) h =
+    let whole : most * suc (length l) ≡ most + most * length l = omega arith in
+    omega (arith, h a (first refl), tally-most f most l (λ b m. h b (later m)))
 
 pub tally-same : {A : Type 0} (f g : A → ℕ) (l : List A) → ((a : A) → a ∈ l → f a ≡ g a) → tally f l ≡ tally g l
 unfolding tally

@@ -18,7 +18,7 @@ use Rattle.model.specs.declared.Kind.{Kind}
 use Rattle.model.specs.declared.Kind.the-variants.{Failure, Request, Delivery, Restock, Start, Lvt, Update}
 use Rattle.memory.specs.Layout.{backSize, headerUsed, messageSize, outstandingSize, queueSize, stateAt, stateSize, stockWidth}
 use Rattle.memory.specs.Ranges.{RangedState}
-use Rattle.memory.specs.Codec.{phaseNumber, phaseOf, stateBytes, stateOf, messageOf, entryOf, sentOf, headerAt, headerFront, headerBack, placesAt}
+use Rattle.memory.specs.Codec.{phaseNumber, phaseOf, stateBytes, stateOf, stateWith, messageOf, entryOf, sentOf, headerAt, headerFront, headerBack, placesAt}
 use Rattle.memory.specs.inside.Fits.{MessageFits, EntryFits, SentFits, HeaderFits}
 use Rattle.buffer.proofs.Standing.{part-add, part-whole}
 use Rattle.memory.proofs.RoundTrips.{byte-back}
@@ -58,7 +58,7 @@ kind-read n o q = kind-within (eqb n 0) (eqb n 1) (eqb n 2) (eqb n 3) (eqb n 4) 
 
 -- states, messages and places
 pub state-ranged : (b : List ℕ) → stateSize ≤ length b → Bytes b → RangedState (stateOf b)
-unfolding stateOf
+unfolding stateWith
 state-ranged b h bytes = record {
   stock = number-fits b 0 stockWidth bytes (omega arith);
   failed = number-fits b stockWidth 4 bytes (omega arith);
@@ -67,7 +67,7 @@ state-ranged b h bytes = record {
 }
 
 pub state-again : (b : List ℕ) → length b ≡ stateSize → Bytes b → stateBytes (stateOf b) ≡ b
-unfolding stateBytes stateOf
+unfolding stateBytes stateWith
 state-again b h bytes =
     number-next b bytes 0 stockWidth 12 (omega arith)
     (number-next b bytes stockWidth 4 8 (omega arith)

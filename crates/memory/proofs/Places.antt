@@ -1,10 +1,10 @@
 -- Laws of places one behind the other, for any element and size: what is stored is read back, what is read is stored the
 -- same, and a change of the list is a write of the places that change.
 use mathlib.Core.Path.{_≡_, refl, sym, _∙_, ap, ap₂}
-use Prim.Native.Nat.{ℕ, zero, suc, _+_, _*_, _≤_, _<_}
+use Prim.Native.Nat.{ℕ, zero, suc, _+_, _-_, _*_, _≤_, _<_}
 use native.Mathlib.Nat.{add-zero, zero-add, suc-add, mul-zero}
 use native.Mathlib.Omega.{arith}
-use mathlib.Core.List.{List, [], _∷_, _++_, append-nil, List·Memᴰ·head as here}
+use mathlib.Core.List.{List, [], _∷_, _++_, map, append-nil, List·Memᴰ·head as here}
 use lib.ListN.{length, getD, length-append}
 use Rattle.lists.proofs.ListLaws.{joined-append}
 use Rattle.lists.specs.Lists.{All, nil, cons, joined}
@@ -188,3 +188,20 @@ place-at f size m at (suc n) zero d h = rw (mul-zero, add-zero)
 place-at f size m at (suc n) (suc i) d h =
     let e : at + size * suc i ≡ at + size + size * i = omega arith in
     rw e (place-at f size m (at + size) n i d (omega arith))
+
+-- places one after the other
+module _ {A : Type 0} (f : List ℕ → A) (size : ℕ) (m : List ℕ) where
+  pub places-map : (at n : ℕ) → placesAt f size m at n ≡ map f (placesAt (λ b. b) size m at n)
+  unfolding placesAt
+  places-map at zero = refl
+  places-map at (suc n) = ap (_∷_ (f (part m at size))) (places-map (at + size) n)
+
+  pub next-place : (at left : ℕ) → 0 < left → placesAt f size m at left ≡ f (part m at size) ∷ placesAt f size m (at + size) (left - 1)
+  unfolding placesAt
+  next-place at zero h = absurd (omega arith)
+  next-place at (suc left) h = let e : suc left - 1 ≡ left = omega arith in rw e
+
+  pub no-place : (at left : ℕ) → left ≤ 0 → placesAt f size m at left ≡ []
+  unfolding placesAt
+  no-place at zero h = refl
+  no-place at (suc left) h = absurd (omega arith)

@@ -20,7 +20,7 @@ use Rattle.model.specs.declared.Message.{Message}
 use Rattle.model.specs.declared.State.{State}
 use Rattle.memory.specs.Layout.{backSize, messageSize, outstandingSize, queueSize, stateSize, stockWidth, zerosSize}
 use Rattle.memory.specs.Ranges.{RangedState}
-use Rattle.memory.specs.Codec.{markNumber, markOf, phaseNumber, phaseOf, cancelNumber, stateBytes, stateOf, messageBytes, messageOf}
+use Rattle.memory.specs.Codec.{markNumber, markOf, phaseNumber, phaseOf, cancelNumber, stateBytes, stateOf, stateWith, messageBytes, messageOf}
 use Rattle.memory.specs.Codec.{entryBytes, entryOf, sentBytes, sentOf, headerAt, headerFront, headerBack}
 use Rattle.memory.specs.declared.Header.{Header}
 use Rattle.memory.specs.declared.Entry.{Entry}
@@ -68,7 +68,7 @@ cancel-back false = refl
 
 -- a state
 pub state-back : (s : State) → RangedState s → stateOf (stateBytes s) ≡ s
-unfolding stateBytes stateOf bytesOf part
+unfolding stateBytes stateWith bytesOf part
 state-back s r = λ i. record {
   stock = number-of-bytes stockWidth (s .stock) (r .stock) i;
   failed = number-of-bytes 4 (s .failed) (r .failed) i;

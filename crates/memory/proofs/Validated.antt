@@ -3,19 +3,23 @@ use mathlib.Core.Path.{_≡_, refl, sym, _∙_, ap, subst}
 use mathlib.Core.Logic.{⊎-elim}
 use mathlib.Core.Bool.{Bool, true, false, cond, not, _&&_, _||_, true≢false, false≢true}
 use mathlib.Core.List.{List, [], _∷_, List·Memᴰ·head as here, List·Memᴰ·tail as there, List·Memᴰ·not-nil, List·Memᴰ·cases-cons}
-use Prim.Native.Nat.{_≤_, _<_}
+use Prim.Native.Nat.{_+_, _≤_, _<_}
+use native.Mathlib.Omega.{arith}
+use lib.Dec.{leb}
 use lib.ListN.{length}
 use Rattle.frame.proofs.Presence.{lamp-kinds}
 use borrow.Author.Tests.{leb-true, ltb-true, eqb-true, not-true, le-leb, lt-ltb, eq-eqb}
-use Rattle.lists.specs.Lists.{_∈_, Ascending, none, more, every}
+use Rattle.lists.specs.Lists.{_∈_, Ascending, none, more, every, tally}
 use Rattle.model.specs.Messages.{kindNumber, originOf}
-use Rattle.model.specs.Doing.{leadTimesValid}
+use Rattle.model.specs.Doing.{leadTimesValid, mostStock}
 use Rattle.model.specs.declared.Message.{Message}
+use Rattle.model.specs.declared.State.{State}
 use Rattle.frame.specs.Writing.{wellFormed}
 use Rattle.frame.specs.Limits.{nothingDue}
 use Rattle.memory.specs.Records.{Gateway}
 use Rattle.memory.specs.Validity.{settingsValid, roundPossible, isPending, isProcessed, isWaiting, equal, later, ordered}
 use Rattle.memory.specs.Validity.{processedFirst, meet, noneMeet, frameIf, storable, isNoState, entryValid, sentValid, valid}
+use Rattle.memory.specs.Validity.{brings, stillBrings, savedStocksBounded, heldStockBounded}
 use Rattle.memory.specs.declared.Settings.{Settings}
 use Rattle.memory.specs.declared.Entry.{Entry}
 use Rattle.memory.specs.declared.Sent.{Sent}
@@ -284,6 +288,46 @@ facts-processed seen (e ∷ es) h a =
     either true b p q k = p refl
     either false b p q k = q k
 
+-- an entry is still to bring no more than it brings
+pub still-less : (e : Entry) → stillBrings e ≤ brings e
+still-less e = by-case (isPending e)
+  where
+    by-case : (b : Bool) → cond b (brings e) 0 ≤ brings e
+    by-case true = omega arith
+    by-case false = omega arith
+
+-- each stock saved, with the Restocks from its message on
+pub data Saved : List Entry → Type 0 where
+  no-more : Saved []
+  and-more : {e : Entry} {es : List Entry} → (isProcessed e ≡ true → e .before .stock + tally brings (e ∷ es) ≤ mostStock) → Saved es → Saved (e ∷ es)
+
+pub saved-facts : (es : List Entry) → savedStocksBounded es ≡ true → Saved es
+unfolding savedStocksBounded
+saved-facts [] h = no-more
+saved-facts (e ∷ es) h =
+    let first = not (isProcessed e) || leb (e .before .stock + tally brings (e ∷ es)) mostStock in
+    and-more (by-case (isProcessed e) (and-left first (savedStocksBounded es) h)) (saved-facts es (and-right first (savedStocksBounded es) h))
+  where
+    by-case : (b : Bool) → (not b || leb (e .before .stock + tally brings (e ∷ es)) mostStock) ≡ true → b ≡ true → e .before .stock + tally brings
+        (e ∷ es) ≤ mostStock
+    by-case true k p = leb-true (e .before .stock + tally brings (e ∷ es)) mostStock k
+    by-case false k p = absurd (false≢true p)
+
+pub facts-saved : {es : List Entry} → Saved es → savedStocksBounded es ≡ true
+unfolding savedStocksBounded
+facts-saved no-more = refl
+facts-saved (and-more {e} {es} f s) = and-both (not (isProcessed e) || leb (e .before .stock + tally brings (e ∷ es)) mostStock) (savedStocksBounded es) (by-case (isProcessed e) f) (facts-saved s)
+  where
+    by-case : (b : Bool) → (b ≡ true → e .before .stock + tally brings (e ∷ es) ≤ mostStock) → (not b || leb (e .before .stock + tally brings (e
+        ∷ es)) mostStock) ≡ true
+    by-case true k = le-leb (e .before .stock + tally brings (e ∷ es)) mostStock (k refl)
+    by-case false k = refl
+
+-- every stock, held and saved
+pub record Stocks (state : State) (es : List Entry) : Type 0 where
+  pub held : state .stock + tally stillBrings es ≤ mostStock
+  pub saved : Saved es
+
 -- all of it
 pub record Valid (g : Gateway) : Type 0 where
   pub settings : ValidSettings (g .settings)
@@ -292,24 +336,29 @@ pub record Valid (g : Gateway) : Type 0 where
   pub round : roundPossible (g .settings) (g .round) ≡ true
   pub entries : (e : Entry) → e ∈ g .queue → ValidEntry (g .settings) e
   pub order : Ascending MayStand (g .queue)
+  pub stocks : Stocks (g .state) (g .queue)
   pub outstanding : (x : Sent) → x ∈ g .outstanding → ValidSent (g .settings) x
 
 module _ (g : Gateway) where
   pub valid-facts : valid g ≡ true → Valid g
-  unfolding valid
+  unfolding valid heldStockBounded
   valid-facts h =
       record {
-        settings = settings-facts (g .settings) (search (and-left, and-right) depth 9);
-        queued = leb-true (length (g .queue)) (g .settings .q) (search (and-left, and-right) depth 9);
-        sent = leb-true (length (g .outstanding)) (g .settings .u) (search (and-left, and-right) depth 9);
-        round = search (and-left, and-right) depth 9;
-        entries = λ e m. entry-facts (g .settings) e (every-each (entryValid (g .settings)) (g .queue) (search (and-left, and-right) depth 9) e m);
-        order = queue-facts (g .queue) (search (and-left, and-right) depth 9) (search (and-left, and-right) depth 9) (search (and-left, and-right) depth 9);
-        outstanding = λ x m. sent-facts (g .settings) x (every-each (sentValid (g .settings)) (g .outstanding) (search (and-left, and-right) depth 9) x m);
+        settings = settings-facts (g .settings) (search (and-left, and-right) depth 11);
+        queued = leb-true (length (g .queue)) (g .settings .q) (search (and-left, and-right) depth 11);
+        sent = leb-true (length (g .outstanding)) (g .settings .u) (search (and-left, and-right) depth 11);
+        round = search (and-left, and-right) depth 11;
+        entries = λ e m. entry-facts (g .settings) e (every-each (entryValid (g .settings)) (g .queue) (search (and-left, and-right) depth 11) e m);
+        order = queue-facts (g .queue) (search (and-left, and-right) depth 11) (search (and-left, and-right) depth 11) (search (and-left, and-right) depth 11);
+        stocks = record {
+          held = leb-true (g .state .stock + tally stillBrings (g .queue)) mostStock (search (and-left, and-right) depth 11);
+          saved = saved-facts (g .queue) (search (and-left, and-right) depth 11);
+        };
+        outstanding = λ x m. sent-facts (g .settings) x (every-each (sentValid (g .settings)) (g .outstanding) (search (and-left, and-right) depth 11) x m);
       }
 
   pub facts-valid : Valid g → valid g ≡ true
-  unfolding valid
+  unfolding valid heldStockBounded
   facts-valid v = rw (
     facts-settings (g .settings) (v .settings),
     le-leb (length (g .queue)) (g .settings .q) (v .queued),
@@ -322,6 +371,8 @@ module _ (g : Gateway) where
     facts-processed false (g .queue) (λ k. absurd (false≢true k))
         (v .order),
     facts-apart (g .queue) (v .order),
+    facts-saved (v .stocks .saved),
+    le-leb (g .state .stock + tally stillBrings (g .queue)) mostStock (v .stocks .held),
     each-every (sentValid (g .settings)) (g .outstanding) (λ x m. facts-sent (g .settings)
         x (v .outstanding x m)),
   )

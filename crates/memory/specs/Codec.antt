@@ -45,14 +45,17 @@ cancelNumber cancel = cond cancel 1 0
 unfoldable pub stateBytes : State → List ℕ
 stateBytes s = bytesOf stockWidth (s .stock) ++ (bytesOf 4 (s .failed) ++ (bytesOf 4 (s .fitted) ++ bytesOf 4 (s .short)))
 
--- the state that they hold
-unfoldable pub stateOf : List ℕ → State
-stateOf b = record {
-  stock = numberOf (part b 0 stockWidth);
-  failed = numberOf (part b stockWidth 4);
-  fitted = numberOf (part b (stockWidth + 4) 4);
-  short = numberOf (part b (stockWidth + 8) 4);
+-- the state that bytes hold whose stock has that width, and the one that a state's bytes hold
+unfoldable pub stateWith : ℕ → List ℕ → State
+stateWith width b = record {
+  stock = numberOf (part b 0 width);
+  failed = numberOf (part b width 4);
+  fitted = numberOf (part b (width + 4) 4);
+  short = numberOf (part b (width + 8) 4);
 }
+
+abbrev pub stateOf : List ℕ → State
+stateOf b = stateWith stockWidth b
 
 -- a stored message's bytes, behind those of its mark
 unfoldable pub messageBytes : ℕ → Message → List ℕ
@@ -84,7 +87,7 @@ entryBytes e = messageBytes (markNumber (e .mark)) (e .message) ++ (stateBytes (
 
 -- the entry that a queue place holds
 unfoldable pub entryOf : List ℕ → Entry
-unfolding messageOf stateOf
+unfolding messageOf stateWith
 entryOf b = record { message = messageOf b; mark = markOf (getD b 0 0); before = stateOf (part b messageSize stateSize) }
 
 -- an outstanding place's thirty-two bytes
@@ -99,7 +102,7 @@ sentOf b = record { message = messageOf b; cancel = eqb (getD b 0 0) 1 }
 
 -- the header that the memory's first bytes hold
 unfoldable pub headerAt : List ℕ → Header
-unfolding stateOf
+unfolding stateWith
 headerAt m = record {
   settings = record {
     n = getD m 0 0;
@@ -117,7 +120,7 @@ headerAt m = record {
   outstanding = numberOf (part m outstandingCountAt 2);
 }
 
--- the header's bytes 0 to 4 and 6 to 51; byte 5 is not used
+-- the header's bytes 0 to 4 and 6 to 53; byte 5 is not used
 unfoldable pub headerFront : Header → List ℕ
 headerFront h =
     bytesOf 1 (h .settings .n)

@@ -3,22 +3,22 @@
 -- Header, 256 bytes (what is not named is never read or written):
 --   0 N   1 own number   2 supplier   3 phase   4 arrivals   6 Q (2)   8 U (2)   10 queue places used (2)
 --   12 outstanding places used (2)   14 H (4)   18 agreed time (4)   22 note or value (4)
---   26 request hours (4)   30 delivery hours (4)   34 life hours (4)   38 state (14)
+--   26 request hours (4)   30 delivery hours (4)   34 life hours (4)   38 state (16)
 -- Queue place, 64 bytes, and outstanding place, 32 bytes, begin alike:
 --   0 mark (queue: 0 pending, 1 processed, 2 waiting cancel; outstanding: 0 message, 1 cancel)   1 kind   2 from   3 to
 --   4 hour (4)   8 origin   9 zero   10 quantity (2)   12 lamp (18)
--- Queue place, from 30: the state before the message (14), zero unless it is processed; 44 zeros (20). Outstanding place, from 30: zeros (2).
--- A state, wherever it stands: stock (2), failed (4), fitted (4), short (4).
+-- Queue place, from 30: the state before the message (16), zero unless it is processed; 46 zeros (18). Outstanding place, from 30: zeros (2).
+-- A state, wherever it stands: stock (4), failed (4), fitted (4), short (4).
 use Prim.Native.Nat.{ℕ, _+_, _-_, _*_}
 
 -- a state: its stock, and behind it three counters of four bytes
 abbrev pub stockWidth : ℕ
-stockWidth = 2
+stockWidth = 4
 
 abbrev pub stateSize : ℕ
 stateSize = stockWidth + 12
 
--- the header, its bytes that are used, 0 to 4 and 6 to 51, where it counts the places that are used, and where its state stands
+-- the header, its bytes that are used, 0 to 4 and 6 to 53, where it counts the places that are used, and where its state stands
 abbrev pub headerSize : ℕ
 headerSize = 256
 

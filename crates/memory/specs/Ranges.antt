@@ -11,7 +11,7 @@ use Rattle.memory.specs.declared.Entry.{Entry}
 use Rattle.memory.specs.declared.Sent.{Sent}
 
 pub record RangedState (s : State) : Type 0 where
-  pub stock : s .stock < 65536
+  pub stock : s .stock < 4294967296
   pub failed : s .failed < 4294967296
   pub fitted : s .fitted < 4294967296
   pub short : s .short < 4294967296

@@ -1,13 +1,13 @@
--- What a gateway must keep to for its memory to be sound: settings, counts, phase and arrivals, order, stored messages.
-use Prim.Native.Nat.{ℕ}
+-- What a gateway must keep to for its memory to be sound: settings, counts, phase and arrivals, order, stored messages, stocks.
+use Prim.Native.Nat.{ℕ, _+_}
 use mathlib.Core.Bool.{Bool, true, false, cond, not, _&&_, _||_}
 use mathlib.Core.List.{List, [], _∷_}
 use lib.Dec.{leb, ltb, eqb}
 use lib.ListN.{length}
-use Rattle.lists.specs.Lists.{every}
+use Rattle.lists.specs.Lists.{every, tally}
 use Rattle.routing.specs.Arcs.{from, to}
-use Rattle.model.specs.Messages.{kindNumber}
-use Rattle.model.specs.Doing.{leadTimesValid}
+use Rattle.model.specs.Messages.{kindNumber, quantityOf}
+use Rattle.model.specs.Doing.{leadTimesValid, mostStock}
 use Rattle.model.specs.EventOrder.{key, compared, different}
 use Rattle.model.specs.declared.Message.{Message}
 use Rattle.model.specs.declared.State.{State}
@@ -143,6 +143,25 @@ entryValid s e = storable s (isWaiting e) (e .message) && eqb (e .message .to) (
 unfoldable pub sentValid : Settings → Sent → Bool
 sentValid s x = storable s (x .cancel) (x .message) && hasLamp (kindNumber (x .message .kind)) && eqb (x .message .from) (s .own)
 
+-- the drivers that a queued message brings: a Restock its quantity, any other none
+abbrev pub brings : Entry → ℕ
+brings e = quantityOf (e .message .kind)
+
+-- those that it is still to bring to the stock held: it is not processed
+abbrev pub stillBrings : Entry → ℕ
+stillBrings e = cond (isPending e) (brings e) 0
+
+-- each stock saved and the Restocks still to be done from it, its own message and those behind it, come to at most 33,619,455
+unfoldable pub savedStocksBounded : List Entry → Bool
+unfolding tally
+savedStocksBounded [] = true
+savedStocksBounded (e ∷ es) = (not (isProcessed e) || leb (e .before .stock + tally brings (e ∷ es)) mostStock) && savedStocksBounded es
+
+-- and so do the stock held and the Restocks still to be done from it
+unfoldable pub heldStockBounded : State → List Entry → Bool
+unfolding tally
+heldStockBounded state queue = leb (state .stock + tally stillBrings queue) mostStock
+
 -- all of it
 unfoldable pub valid : Gateway → Bool
 valid g =
@@ -154,4 +173,6 @@ valid g =
     && ordered (g .queue)
     && processedFirst false (g .queue)
     && noneMeet (g .queue)
+    && savedStocksBounded (g .queue)
+    && heldStockBounded (g .state) (g .queue)
     && every (sentValid (g .settings)) (g .outstanding)

@@ -14,7 +14,7 @@ pub const OUTSTANDING_SIZE: usize = 32;
 
 pub const MESSAGE_SIZE: usize = 30;
 
-pub const STATE_SIZE: usize = 14;
+pub const STATE_SIZE: usize = 16;
 
 pub const ZEROS_AT: usize = MESSAGE_SIZE + STATE_SIZE;
 

@@ -1,9 +1,9 @@
 -- The numbers of the kinds.
-use mathlib.Core.Path.{_≡_}
-use Prim.Native.Nat.{ℕ, _<_}
+use mathlib.Core.Path.{_≡_, refl}
+use Prim.Native.Nat.{ℕ, _≤_, _<_}
 use native.Mathlib.Omega.{arith}
 use borrow.Author.Tests.{ne-eqb}
-use Rattle.model.specs.Messages.{kindNumber, kindOf}
+use Rattle.model.specs.Messages.{kindNumber, quantityOf, kindOf}
 use Rattle.model.specs.declared.Kind.{Kind}
 use Rattle.model.specs.declared.Kind.the-variants.{Failure, Request, Delivery, Restock, Start, Lvt, Update}
 
@@ -20,3 +20,13 @@ kind-below (Restock quantity) = omega arith
 kind-below Start = omega arith
 kind-below Lvt = omega arith
 kind-below Update = omega arith
+
+-- only a Restock brings drivers
+pub no-restock : (k : Kind) → kindNumber k ≤ 2 → quantityOf k ≡ 0
+no-restock (Failure origin) h = refl
+no-restock (Request origin) h = refl
+no-restock (Delivery origin) h = refl
+no-restock (Restock quantity) h = absurd (omega arith)
+no-restock Start h = refl
+no-restock Lvt h = refl
+no-restock Update h = refl

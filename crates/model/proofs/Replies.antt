@@ -1,11 +1,16 @@
 -- What the code's branches come to, as the state after a message and what it sends.
 use mathlib.Core.Path.{_≡_, _∙_, subst⁻¹}
 use Prim.Native.Nat.{ℕ, _+_, _-_, _≤_, _<_}
+use mathlib.Core.Bool.{Bool, true, false, cond}
 use mathlib.Core.List.{[], _∷_}
+use native.Mathlib.Omega.{arith}
+use lib.Dec.{ltb}
 use borrow.Author.Tests.{lt-ltb, le-ltb, le-leb, lt-leb}
-use Rattle.model.specs.Doing.{after, counted, shelved, notPast, reply, sent, sentFor, replyWith, replyTo}
+use Rattle.model.specs.Doing.{after, counted, notPast, reply, sent, sentFor, replyWith, replyTo}
 use Rattle.model.specs.declared.event.Reply.{Reply}
+use Rattle.model.specs.Messages.{quantityOf}
 use Rattle.model.specs.declared.Kind.{Kind}
+use Rattle.model.specs.declared.Kind.the-variants.{Failure, Request, Delivery, Restock, Start, Lvt, Update}
 use Rattle.model.specs.declared.Message.{Message}
 use Rattle.model.specs.declared.State.{State}
 use Rattle.model.specs.declared.Site.{Site}
@@ -56,14 +61,33 @@ module _ (s : State) (kind : Kind) where
   } ≡ after s kind
   one-less e h = rw (e, lt-ltb 0 (s .stock) h)
 
-  pub restocked : {quantity n : ℕ} → kind ≡ Kind.Restock quantity → n ≡ shelved (s .stock) quantity → record {
-    stock = n;
-    failed =
-        s .failed;
+  pub restocked : {quantity : ℕ} → kind ≡ Kind.Restock quantity → record {
+    stock = s .stock + quantity;
+    failed = s .failed;
     fitted = s .fitted;
     short = s .short;
   } ≡ after s kind
-  restocked e f = rw (e, f)
+  restocked e = rw e
+
+-- no message brings more to the stock than its quantity
+pub after-less : (s : State) (k : Kind) → after s k .stock ≤ s .stock + quantityOf k
+after-less s (Failure origin) = omega arith
+after-less s (Request origin) = by-case (ltb 0 (s .stock))
+  where
+    by-case : (b : Bool)
+        → cond {A = State} b (record { stock = s .stock - 1; failed = s .failed; fitted = s .fitted; short = s .short }) (record {
+          stock = s .stock;
+          failed = s .failed;
+          fitted = s .fitted;
+          short = counted (s .short);
+        }) .stock ≤ s .stock + 0
+    by-case true = omega arith
+    by-case false = omega arith
+after-less s (Delivery origin) = omega arith
+after-less s (Restock quantity) = omega arith
+after-less s Start = omega arith
+after-less s Lvt = omega arith
+after-less s Update = omega arith
 
 -- what a message of each kind sends
 module _ (site : Site) (s : State) (m : Message) {r : Reply} where

@@ -23,9 +23,9 @@ leadTimesValid t = hoursInRange (t .request) && hoursInRange (t .delivery) && ho
 abbrev pub counted : ℕ → ℕ
 counted n = min (n + 1) 4294967295
 
--- the shelf with the quantity added; it stops at 65,535
-abbrev pub shelved : ℕ → ℕ → ℕ
-shelved stock quantity = min (stock + quantity) 65535
+-- the most that a stock can come to: an opening stock of 65,535 and 512 Restocks of 65,535 each
+abbrev pub mostStock : ℕ
+mostStock = 33619455
 
 -- the state after doing a message of that kind
 abbrev pub after : State → Kind → State
@@ -39,7 +39,7 @@ after s (Request origin) =
 -- Delivery: fitted + 1
 after s (Delivery origin) = record { stock = s .stock; failed = s .failed; fitted = counted (s .fitted); short = s .short }
 -- Restock: stock + quantity
-after s (Restock quantity) = record { stock = shelved (s .stock) quantity; failed = s .failed; fitted = s .fitted; short = s .short }
+after s (Restock quantity) = record { stock = s .stock + quantity; failed = s .failed; fitted = s .fitted; short = s .short }
 -- the round's messages are no events
 after s Start = s
 after s Lvt = s

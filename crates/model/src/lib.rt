@@ -29,7 +29,7 @@ pub struct Message {
 
 // A gateway's state.
 pub struct State {
-    pub stock: u16,
+    pub stock: u32,
     pub failed: u32,
     pub fitted: u32,
     pub short: u32,

@@ -84,13 +84,13 @@ pub fn settings_of(opening: Opening) -> Settings
 
 // The header of a gateway just set up, with so many messages in its queue.
 pub fn opened_header(opening: Opening, settings: Settings, count: usize) -> Header
-    requires { ⌜ (settings ≡ settingsOf opening) × (opening .stock ≤ 65535) × (count ≤ 65535) ⌝ }
+    requires { ⌜ (settings ≡ settingsOf opening) × (count ≤ 65535) ⌝ }
     ensures { λ r. ⌜ r ≡ openedHeader opening count ⌝ }
 {
     Header {
         settings,
         state: State {
-            stock: opening.stock as u16,
+            stock: opening.stock,
             failed: 0,
             fitted: 0,
             short: 0,

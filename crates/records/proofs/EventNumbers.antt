@@ -9,8 +9,8 @@ use Rattle.frame.specs.Reasons.{reading, formIn, formNumber}
 use Rattle.frame.specs.declared.Reading.{Reading}
 use Rattle.frame.proofs.FormNumbers.{number-small}
 use Rattle.frame.proofs.Turning.{refusal-few}
-use Rattle.memory.specs.Layout.{stateSize}
-use Rattle.records.specs.Events.{mostGateways, latestHour, frameIn, stateIn, isEvent, frameRefusal, eventRefusal}
+use Rattle.records.specs.declared.StockField.{StockField}
+use Rattle.records.specs.Events.{mostGateways, latestHour, stateSizeOf, frameIn, stateIn, isEvent, frameRefusal, eventRefusal}
 
 chosen : (b : Bool) {n m : ℕ} → n < 256 → m < 256 → cond b n m < 256
 chosen true h k = h
@@ -20,7 +20,7 @@ frame-number : (r : Reading) → frameRefusal r < 256
 unfolding frameRefusal
 frame-number r = chosen (eqb (formNumber (formIn isEvent r)) 0) (omega (arith, refusal-few true (r .frame) mostGateways latestHour)) (number-small (formIn isEvent r))
 
-pub event-number : (s : List ℕ) → eventRefusal s < 256
+pub event-number : (field : StockField) (s : List ℕ) → eventRefusal field s < 256
 unfolding eventRefusal
-event-number s =
-    chosen (eqb (frameRefusal (reading (frameIn s))) 0) (chosen (leb stateSize (length (stateIn s))) (omega arith) (omega arith)) (frame-number (reading (frameIn s)))
+event-number field s =
+    chosen (eqb (frameRefusal (reading (frameIn s))) 0) (chosen (leb (stateSizeOf field) (length (stateIn field s))) (omega arith) (omega arith)) (frame-number (reading (frameIn s)))

@@ -14,9 +14,9 @@ use Rattle.lists.proofs.BoolLaws.{and-left, and-right}
 use Rattle.lists.proofs.PieceLaws.{both-zero}
 use Rattle.buffer.specs.Slice.{Bytes, part}
 use Rattle.buffer.specs.Number.{bytesOf}
-use Rattle.buffer.proofs.Lent.{bytes-take, bytes-part}
+use Rattle.buffer.proofs.Lent.{bytes-take}
 use Rattle.buffer.proofs.Readings.{getD-part}
-use Rattle.buffer.proofs.Writes.{part-part, length-part}
+use Rattle.buffer.proofs.Writes.{part-part}
 use Rattle.model.specs.Messages.{kindNumber, originOf, quantityOf}
 use Rattle.frame.specs.Layout.{standing, wholeLength}
 use Rattle.frame.specs.Kinds.{mapOfKind, mapOf, senseNumber}
@@ -29,25 +29,24 @@ use Rattle.frame.proofs.FormNumbers.{form-passed}
 use Rattle.frame.proofs.Laws.{one-to-one}
 use Rattle.frame.proofs.Presence.{lamp-fields, restock-fields}
 use Rattle.frame.proofs.Sizes.{whole-some}
-use Rattle.memory.specs.Layout.{stateSize}
-use Rattle.memory.specs.Codec.{stateBytes}
-use Rattle.memory.proofs.FromBytes.{state-again}
+use Rattle.memory.specs.Codec.{stateWith}
 use Rattle.memory.proofs.RoundTrips.{byte-back}
-use Rattle.records.specs.Events.{mostGateways, latestHour, frameIn, stateIn, isEvent, frameRefusal, eventRefusal, eventOf}
+use Rattle.records.specs.declared.StockField.{StockField}
+use Rattle.records.specs.Events.{mostGateways, latestHour, stockWidthOf, stateSizeOf, frameIn, stateIn, isEvent, frameRefusal, eventRefusal, eventOf}
 
 -- what an event keeps to that is not refused
-pub record TakenEvent (s : List ℕ) : Type 0 where
+pub record TakenEvent (field : StockField) (s : List ℕ) : Type 0 where
   pub form : reading (frameIn s) .form ≡ Good
   pub sense : senseNumber (reading (frameIn s) .frame .sense) ≡ 0
   pub kind : kindNumber (reading (frameIn s) .frame .message .kind) ≤ 3
   pub limits : refusalWhere true (reading (frameIn s) .frame) mostGateways latestHour ≡ 0
-  pub state : stateSize ≤ length (stateIn s)
+  pub state : stateSizeOf field ≤ length (stateIn field s)
 
-pub event-taken : (s : List ℕ) → eventRefusal s ≡ 0 → TakenEvent s
+pub event-taken : (field : StockField) (s : List ℕ) → eventRefusal field s ≡ 0 → TakenEvent field s
 unfolding eventRefusal frameRefusal
-event-taken s z =
+event-taken field s z =
     let r = reading (frameIn s) in
-    let outer = both-zero (frameRefusal r) (cond (leb stateSize (length (stateIn s))) 0 11) z in
+    let outer = both-zero (frameRefusal r) (cond (leb (stateSizeOf field) (length (stateIn field s))) 0 11) z in
     let inner = both-zero (formNumber (formIn isEvent r)) (refusalWhere true (r .frame) mostGateways latestHour) (outer .0) in
     let passed = form-passed isEvent r (eq-eqb (formNumber (formIn isEvent r)) 0 (inner .0)) in
     let both = passed .1 in
@@ -56,40 +55,40 @@ event-taken s z =
       sense = eqb-true _ 0 (and-left _ (leb (kindNumber (r .frame .message .kind)) 3) both);
       kind = leb-true (kindNumber (r .frame .message .kind)) 3 (and-right (eqb (senseNumber (r .frame .sense)) 0) _ both);
       limits = inner .1;
-      state = enough (length (stateIn s)) (outer .1);
+      state = enough (length (stateIn field s)) (outer .1);
     }
   where
-    enough : (n : ℕ) → _≡_ {A = ℕ} (cond (leb stateSize n) 0 11) 0 → stateSize ≤ n
-    enough n = go (decLt n stateSize)
+    enough : (n : ℕ) → _≡_ {A = ℕ} (cond (leb (stateSizeOf field) n) 0 11) 0 → stateSizeOf field ≤ n
+    enough n = go (decLt n (stateSizeOf field))
       where
-        go : Dec (n < stateSize) → _≡_ {A = ℕ} (cond (leb stateSize n) 0 11) 0 → stateSize ≤ n
-        go (yes h) e = absurd (omega (arith, rw (lt-leb stateSize n h) at e))
+        go : Dec (n < stateSizeOf field) → _≡_ {A = ℕ} (cond (leb (stateSizeOf field) n) 0 11) 0 → stateSizeOf field ≤ n
+        go (yes h) e = absurd (omega (arith, rw (lt-leb (stateSizeOf field) n h) at e))
         go (no h) e = omega arith
 
 -- a Failure, Request or Delivery
-pub record LampParts (s : List ℕ) : Type 0 where
+pub record LampParts (field : StockField) (s : List ℕ) : Type 0 where
   pub kind : getD s 1 0 ≤ 2
-  pub number : kindNumber (eventOf s .message .kind) ≡ getD s 1 0
+  pub number : kindNumber (eventOf field s .message .kind) ≡ getD s 1 0
   pub whole : wholeLength (getD s 0 0) ≡ 27
-  pub long : 41 ≤ length s
-  pub hour : bytesOf 4 (eventOf s .message .hour) ≡ part s 4 4
-  pub origin : bytesOf 1 (originOf (eventOf s .message .kind)) ≡ part s 8 1
-  pub lamp : eventOf s .message .lamp ≡ part s 9 18
-  pub state : stateBytes (eventOf s .state) ≡ part s 27 14
+  pub long : 27 + stateSizeOf field ≤ length s
+  pub hour : bytesOf 4 (eventOf field s .message .hour) ≡ part s 4 4
+  pub origin : bytesOf 1 (originOf (eventOf field s .message .kind)) ≡ part s 8 1
+  pub lamp : eventOf field s .message .lamp ≡ part s 9 18
+  pub state : eventOf field s .state ≡ stateWith (stockWidthOf field) (part s 27 (stateSizeOf field))
 
 -- a Restock
-pub record RestockParts (s : List ℕ) : Type 0 where
+pub record RestockParts (field : StockField) (s : List ℕ) : Type 0 where
   pub kind : getD s 1 0 ≡ 3
-  pub number : kindNumber (eventOf s .message .kind) ≡ getD s 1 0
+  pub number : kindNumber (eventOf field s .message .kind) ≡ getD s 1 0
   pub whole : wholeLength (getD s 0 0) ≡ 10
-  pub long : 24 ≤ length s
-  pub hour : bytesOf 4 (eventOf s .message .hour) ≡ part s 4 4
-  pub quantity : bytesOf 2 (quantityOf (eventOf s .message .kind)) ≡ part s 8 2
-  pub state : stateBytes (eventOf s .state) ≡ part s 10 14
+  pub long : 10 + stateSizeOf field ≤ length s
+  pub hour : bytesOf 4 (eventOf field s .message .hour) ≡ part s 4 4
+  pub quantity : bytesOf 2 (quantityOf (eventOf field s .message .kind)) ≡ part s 8 2
+  pub state : eventOf field s .state ≡ stateWith (stockWidthOf field) (part s 10 (stateSizeOf field))
 
-pub data Parts (s : List ℕ) : Type 0 where
-  withLamp : LampParts s → Parts s
-  restock : RestockParts s → Parts s
+pub data Parts (field : StockField) (s : List ℕ) : Type 0 where
+  withLamp : LampParts field s → Parts field s
+  restock : RestockParts field s → Parts field s
 
 -- the map of a frame without a sense
 pub plain-map : (f : Frame) → senseNumber (f .sense) ≡ 0 → mapOf f ≡ mapOfKind (kindNumber (f .message .kind))
@@ -112,7 +111,7 @@ module _ (f : Frame) where
   unfolding written contents standing joined bytesOf
   restock-written e = rw e
 
-module _ (s : List ℕ) (bytes : Bytes s) (t : TakenEvent s) where
+module _ (field : StockField) (s : List ℕ) (bytes : Bytes s) (t : TakenEvent field s) where
   abbrev f : Frame
   f = reading (frameIn s) .frame
 
@@ -135,14 +134,13 @@ module _ (s : List ℕ) (bytes : Bytes s) (t : TakenEvent s) where
     unfolding part
     kind-there h = ap (λ (l : List ℕ). getD l 1 0) same ∙ getD-part s 0 (wholeLength (getD s 0 0)) 1 (rw e h)
 
-    whole-event : w + 14 ≤ length s
+    whole-event : w + stateSizeOf field ≤ length s
     unfolding part
-    whole-event = omega (arith, e, t .state, length-take 14 (drop (wholeLength (getD s 0 0)) s), length-drop (wholeLength (getD s 0 0)) s)
+    whole-event = omega (arith, e, t .state, length-take (stateSizeOf field) (drop (wholeLength (getD s 0 0)) s), length-drop (wholeLength (getD s 0 0)) s)
 
-    state-there : stateBytes (eventOf s .state) ≡ part s w 14
+    state-there : eventOf field s .state ≡ stateWith (stockWidthOf field) (part s w (stateSizeOf field))
     unfolding eventOf
-    state-there =
-        state-again (stateIn s) (length-part s (wholeLength (getD s 0 0)) 14 (rw e whole-event)) (bytes-part s (wholeLength (getD s 0 0)) 14 bytes) ∙ rw e
+    state-there = rw e
 
   lamp-whole : length (f .message .lamp) ≡ 18
   lamp-whole = one-to-one .readRanged (frameIn s) (bytes-take (wholeLength (getD s 0 0)) s bytes) (t .form) .lamp
@@ -150,7 +148,7 @@ module _ (s : List ℕ) (bytes : Bytes s) (t : TakenEvent s) where
   kind-few : kindNumber (f .message .kind) < 256
   kind-few = let k = t .kind in omega arith
 
-  lamp-parts : kindNumber (f .message .kind) ≤ 2 → LampParts s
+  lamp-parts : kindNumber (f .message .kind) ≤ 2 → LampParts field s
   unfolding eventOf part bytesOf wholeLength
   lamp-parts k =
       let is = lamp-written f (plain-map f (t .sense) ∙ lamp-fields (kindNumber (f .message .kind)) k .map) in
@@ -169,7 +167,7 @@ module _ (s : List ℕ) (bytes : Bytes s) (t : TakenEvent s) where
         state = state-there whole;
       }
 
-  restock-parts : kindNumber (f .message .kind) ≡ 3 → RestockParts s
+  restock-parts : kindNumber (f .message .kind) ≡ 3 → RestockParts field s
   unfolding eventOf part bytesOf wholeLength
   restock-parts k =
       let is = restock-written f (plain-map f (t .sense) ∙ restock-fields (kindNumber (f .message .kind)) k .map) in
@@ -187,9 +185,9 @@ module _ (s : List ℕ) (bytes : Bytes s) (t : TakenEvent s) where
         state = state-there whole;
       }
 
-  pub parts : Parts s
+  pub parts : Parts field s
   parts = go (decLt (kindNumber (f .message .kind)) 3)
     where
-      go : Dec (kindNumber (reading (frameIn s) .frame .message .kind) < 3) → Parts s
+      go : Dec (kindNumber (reading (frameIn s) .frame .message .kind) < 3) → Parts field s
       go (yes h) = withLamp (lamp-parts (omega arith))
       go (no h) = restock (restock-parts (let k = t .kind in omega arith))

@@ -11,6 +11,7 @@ use Rattle.lists.specs.inside.Pieces.{pieceEnd}
 use Rattle.lists.proofs.BoolLaws.{and-left, and-right}
 use Rattle.buffer.specs.Slice.{Bytes, part}
 use Rattle.buffer.specs.Number.{bytesOf, numberOf}
+use Rattle.buffer.proofs.Copies.{number-again}
 use Rattle.buffer.proofs.Lent.{bytes-part}
 use Rattle.buffer.proofs.Readings.{getD-part}
 use Rattle.buffer.proofs.Standing.{part-add, part-whole}
@@ -19,18 +20,18 @@ use Rattle.model.specs.Messages.{kindNumber, originOf, quantityOf, kindOf}
 use Rattle.model.specs.declared.Kind.{Kind}
 use Rattle.model.specs.declared.Kind.the-variants.{Restock}
 use Rattle.model.specs.declared.Message.{Message}
-use Rattle.frame.specs.Layout.{wholeLength}
 use Rattle.frame.specs.Kinds.{hasHour, hasLamp}
-use Rattle.frame.specs.Writing.{allBetween, lampFits, gatewaysAgree, wellFormed}
+use Rattle.frame.specs.Writing.{allBetween, lampFits, gatewaysAgree, wellFormed, written}
 use Rattle.frame.proofs.Accepted.{kind-back}
 use Rattle.frame.proofs.Presence.{EventFields, lamp-fields, restock-fields, own-fields}
-use Rattle.memory.specs.Codec.{stateBytes, stateOf}
+use Rattle.memory.specs.Layout.{stateSize}
 use Rattle.memory.specs.Validity.{frameIf}
-use Rattle.memory.proofs.FromBytes.{byte-next, number-next, number-fits, state-again}
-use Rattle.records.specs.Events.{mostGateways, latestHour, Event, eventLength, eventRefusal, eventOf}
+use Rattle.memory.proofs.FromBytes.{byte-next, number-next, number-fits}
+use Rattle.records.specs.declared.StockField.{StockField}
+use Rattle.records.specs.Events.{mostGateways, latestHour, stateSizeOf, eventLength, eventRefusal, eventOf}
 use Rattle.records.specs.inside.Finding.{eventAt, foundAt, goodGateways, goodWithLamp, goodRestock}
 use Rattle.records.proofs.EventParts.{lamp-written, restock-written, plain-map}
-use Rattle.records.proofs.WrittenEvents.{Recordable, eventBytes, event-taken, message-read}
+use Rattle.records.proofs.WrittenEvents.{Recordable, event-whole, event-taken, message-read}
 
 -- the branches of the code: a test that fails, and one that passes
 module _ (from to : ℕ) (k : Kind) where
@@ -133,28 +134,38 @@ good-gateways from to k e =
       agree = and-right (not (eqb (originOf k) 255)) _ last;
     }
 
--- an event is found at a position
-module _ (bytes : List ℕ) (at n : ℕ) (inside : at + n ≤ length bytes) (some : 1 ≤ n) where
+-- an event is found at a position where its frame is written and enough bytes for its state follow
+module _ (field : StockField) (bytes : List ℕ) (at w : ℕ) (inside : at + (w + stateSizeOf field) ≤ length bytes) where
   abbrev piece : List ℕ
-  piece = take n (drop at bytes)
+  piece = part bytes at (w + stateSizeOf field)
+
+  abbrev state : List ℕ
+  state = part bytes (at + w) (stateSizeOf field)
 
   first : getD piece 0 0 ≡ getD bytes at 0
-  unfolding part
   first =
       let same : at + 0 ≡ at = omega arith in
-      getD-part bytes at n 0 some ∙ ap (λ (k : ℕ). getD bytes k 0) same
+      getD-part bytes at (w + stateSizeOf field) 0 (omega arith) ∙ ap (λ (k : ℕ). getD bytes k 0) same
 
-  pub found-whole : (e : Event) → Recordable (e .message) → eventBytes e ≡ piece → eventLength (getD piece 0 0) ≡ n → {kind end : ℕ}
-      → kind ≡ kindNumber (e .message .kind) → end ≡ at + n → record { number = 0; kind = kind; end = end } ≡ foundAt bytes at
-  unfolding foundAt pieceEnd
-  found-whole e k is size {kind} {end} ek ee =
-      let long : eventLength (getD bytes at 0) ≡ n = ap eventLength (sym first) ∙ size in
-      let behind : pieceEnd eventLength bytes at ≡ at + n = omega (arith, long) in
-      let there : eventAt bytes at ≡ piece = let k : pieceEnd eventLength bytes at - at ≡ n = omega (arith, behind) in ap (λ (k : ℕ). take k (drop at bytes)) k in
-      let taken : eventRefusal (eventAt bytes at) ≡ 0 = ap eventRefusal (there ∙ sym is) ∙ event-taken e k in
-      let same : kind ≡ kindNumber (eventOf (eventAt bytes at) .message .kind) =
-      ek ∙ sym (ap (λ (m : Message). kindNumber (m .kind)) (ap (λ (l : List ℕ). eventOf l .message) (there ∙ sym is) ∙ message-read e k)) in
-      let last : end ≡ pieceEnd eventLength bytes at = ee ∙ sym behind in
+  pub found-whole : (m : Message) → Recordable m → written (frameIf false m) ≡ part bytes at w → {kind end : ℕ} → kind ≡ kindNumber (m .kind)
+      → end ≡ at + (w + stateSizeOf field) → record { number = 0; kind = kind; end = end } ≡ foundAt field bytes at
+  unfolding foundAt pieceEnd part
+  found-whole m k frame {kind} {end} ek ee =
+      let size : length state ≡ stateSizeOf field = length-part bytes (at + w) (stateSizeOf field) (omega arith) in
+      let is : written (frameIf false m) ++ state ≡ piece = ap (λ (l : List ℕ). l ++ state) frame ∙ sym (part-add bytes at w (stateSizeOf field)) in
+      let long : eventLength field (getD bytes at 0) ≡ w + stateSizeOf field =
+      ap (eventLength field) (sym first)
+      ∙ ap (λ (l : List ℕ). eventLength field (getD l 0 0)) (sym is)
+      ∙ event-whole field m k state size
+      ∙ ap length is
+      ∙ length-part bytes at (w + stateSizeOf field) inside in
+      let behind : pieceEnd (eventLength field) bytes at ≡ at + (w + stateSizeOf field) = omega (arith, long) in
+      let there : eventAt field bytes at ≡ written (frameIf false m) ++ state =
+      let k : pieceEnd (eventLength field) bytes at - at ≡ w + stateSizeOf field = omega (arith, behind) in ap (λ (k : ℕ). take k (drop at bytes)) k ∙ sym is in
+      let taken : eventRefusal field (eventAt field bytes at) ≡ 0 = ap (eventRefusal field) there ∙ event-taken field m k state size in
+      let same : kind ≡ kindNumber (eventOf field (eventAt field bytes at) .message .kind) =
+      ek ∙ sym (ap (λ (m : Message). kindNumber (m .kind)) (ap (λ (l : List ℕ). eventOf field l .message) there ∙ message-read field m k state size)) in
+      let last : end ≡ pieceEnd (eventLength field) bytes at = ee ∙ sym behind in
       rw taken (λ i. record { number = 0; kind = same i; end = last i })
 
 -- a kind with a lamp, made of its number and its origin
@@ -172,16 +183,13 @@ lamp-kind n origin h =
       no-quantity = own-fields .quantity n origin 0 ∙ rw (fields .quantity);
     }
 
--- a Failure, Request or Delivery
-module _ (s : List ℕ) (b : Bytes s) (long : length s ≡ 41) (g : goodWithLamp s ≡ true) where
+-- the frame of a Failure, Request or Delivery
+module _ (s : List ℕ) (b : Bytes s) (long : length s ≡ 27) (g : goodWithLamp s ≡ true) where
   abbrev k : Kind
   k = kindOf (getD s 1 0) (getD s 8 0) 0
 
-  abbrev pub lampEvent : Event
-  lampEvent = record {
-    message = record { hour = numberOf (part s 4 4); from = getD s 2 0; to = getD s 3 0; kind = k; lamp = part s 9 18 };
-    state = stateOf (part s 27 14);
-  }
+  abbrev lampMessage : Message
+  lampMessage = record { hour = numberOf (part s 4 4); from = getD s 2 0; to = getD s 3 0; kind = k; lamp = part s 9 18 }
 
   record Tests : Type 0 where
     map : getD s 0 0 ≡ 63
@@ -216,30 +224,24 @@ module _ (s : List ℕ) (b : Bytes s) (long : length s ≡ 41) (g : goodWithLamp
       bytesOf 1 (getD s 1 0)
       ++ (bytesOf 1 (getD s 2 0)
       ++ (bytesOf 1 (getD s 3 0)
-      ++ (bytesOf 4 (numberOf (part s 4 4)) ++ (bytesOf 1 (getD s 8 0) ++ (part s 9 18 ++ part s 27 14)))))
+      ++ (bytesOf 4 (numberOf (part s 4 4)) ++ (bytesOf 1 (getD s 8 0) ++ part s 9 18))))
 
-  fields-are : fields ≡ part s 1 40
+  fields-are : fields ≡ part s 1 26
   fields-are =
-      byte-next s b 1 39 (omega arith)
-      (byte-next s b 2 38 (omega arith)
-      (byte-next s b 3 37 (omega arith)
-      (number-next s b 4 4 33 (omega arith) (byte-next s b 8 32 (omega arith) (sym (part-add s 9 18 14))))))
+      byte-next s b 1 25 (omega arith)
+      (byte-next s b 2 24 (omega arith)
+      (byte-next s b 3 23 (omega arith) (number-next s b 4 4 19 (omega arith) (byte-next s b 8 18 (omega arith) refl))))
 
   all-are : 63 ∷ fields ≡ s
-  all-are = ap₂ _∷_ (sym (tests .map)) fields-are ∙ sym (part-cons s 0 40 (omega arith)) ∙ part-whole s 41 (omega arith)
+  all-are = ap₂ _∷_ (sym (tests .map)) fields-are ∙ sym (part-cons s 0 26 (omega arith)) ∙ part-whole s 27 (omega arith)
 
-  joined-fields : eventBytes lampEvent ≡ 63 ∷ fields
-  unfolding eventBytes bytesOf
-  joined-fields =
-      let map = plain-map (frameIf false (lampEvent .message)) refl ∙ lamp-fields (kindNumber k) (rw (is-kind .number) (tests .kind)) .map in
-      let state = state-again (part s 27 14) (length-part s 27 14 (omega arith)) (bytes-part s 27 14 b) in
-      ap (λ (l : List ℕ). l ++ stateBytes (lampEvent .state)) (lamp-written (frameIf false (lampEvent .message)) map)
-      ∙ rw (is-kind .number, is-kind .its-origin, append-nil (part s 9 18), state)
+  lamp-bytes : written (frameIf false lampMessage) ≡ s
+  unfolding bytesOf
+  lamp-bytes =
+      let map = plain-map (frameIf false lampMessage) refl ∙ lamp-fields (kindNumber k) (rw (is-kind .number) (tests .kind)) .map in
+      lamp-written (frameIf false lampMessage) map ∙ rw (is-kind .number, is-kind .its-origin, append-nil (part s 9 18)) all-are
 
-  lamp-bytes : eventBytes lampEvent ≡ s
-  lamp-bytes = joined-fields ∙ all-are
-
-  lamp-recordable : Recordable (lampEvent .message)
+  lamp-recordable : Recordable lampMessage
   unfolding wellFormed lampFits
   lamp-recordable =
       let t = tests in
@@ -263,18 +265,15 @@ module _ (s : List ℕ) (b : Bytes s) (long : length s ≡ 41) (g : goodWithLamp
         hour = t .hour;
       }
 
--- a Restock
-module _ (s : List ℕ) (b : Bytes s) (long : length s ≡ 24) (g : goodRestock s ≡ true) where
-  abbrev restockEvent : Event
-  restockEvent = record {
-    message = record {
-      hour = numberOf (part s 4 4);
-      from = getD s 2 0;
-      to = getD s 3 0;
-      kind = Restock (numberOf (part s 8 2));
-      lamp = replicate 18 0;
-    };
-    state = stateOf (part s 10 14);
+-- the frame of a Restock
+module _ (s : List ℕ) (b : Bytes s) (long : length s ≡ 10) (g : goodRestock s ≡ true) where
+  abbrev restockMessage : Message
+  restockMessage = record {
+    hour = numberOf (part s 4 4);
+    from = getD s 2 0;
+    to = getD s 3 0;
+    kind = Restock (numberOf (part s 8 2));
+    lamp = replicate 18 0;
   }
 
   record RestockTests : Type 0 where
@@ -299,29 +298,24 @@ module _ (s : List ℕ) (b : Bytes s) (long : length s ≡ 24) (g : goodRestock 
   restockFields =
       bytesOf 1 (getD s 1 0)
       ++ (bytesOf 1 (getD s 2 0)
-      ++ (bytesOf 1 (getD s 3 0) ++ (bytesOf 4 (numberOf (part s 4 4)) ++ (bytesOf 2 (numberOf (part s 8 2)) ++ part s 10 14))))
+      ++ (bytesOf 1 (getD s 3 0) ++ (bytesOf 4 (numberOf (part s 4 4)) ++ bytesOf 2 (numberOf (part s 8 2)))))
 
   restock-are : 79 ∷ restockFields ≡ s
   restock-are =
       ap₂ _∷_ (sym (restock-tests .map))
-      (byte-next s b 1 22 (omega arith)
-      (byte-next s b 2 21 (omega arith)
-      (byte-next s b 3 20 (omega arith) (number-next s b 4 4 16 (omega arith) (number-next s b 8 2 14 (omega arith) refl)))))
-      ∙ sym (part-cons s 0 23 (omega arith))
-      ∙ part-whole s 24 (omega arith)
+      (byte-next s b 1 8 (omega arith)
+      (byte-next s b 2 7 (omega arith)
+      (byte-next s b 3 6 (omega arith) (number-next s b 4 4 2 (omega arith) (number-again s b 8 2 (omega arith))))))
+      ∙ sym (part-cons s 0 9 (omega arith))
+      ∙ part-whole s 10 (omega arith)
 
-  restock-joined : eventBytes restockEvent ≡ 79 ∷ restockFields
-  unfolding eventBytes bytesOf
-  restock-joined =
-      let map = plain-map (frameIf false (restockEvent .message)) refl ∙ restock-fields 3 refl .map in
-      let state = state-again (part s 10 14) (length-part s 10 14 (omega arith)) (bytes-part s 10 14 b) in
-      ap (λ (l : List ℕ). l ++ stateBytes (restockEvent .state)) (restock-written (frameIf false (restockEvent .message)) map)
-      ∙ rw (restock-tests .kind, state)
+  restock-bytes : written (frameIf false restockMessage) ≡ s
+  unfolding bytesOf
+  restock-bytes =
+      let map = plain-map (frameIf false restockMessage) refl ∙ restock-fields 3 refl .map in
+      restock-written (frameIf false restockMessage) map ∙ (rw (restock-tests .kind) at restock-are)
 
-  restock-bytes : eventBytes restockEvent ≡ s
-  restock-bytes = restock-joined ∙ restock-are
-
-  restock-recordable : Recordable (restockEvent .message)
+  restock-recordable : Recordable restockMessage
   unfolding wellFormed lampFits allBetween hasHour hasLamp
   restock-recordable =
       let t = restock-tests in
@@ -348,30 +342,29 @@ module _ (s : List ℕ) (b : Bytes s) (long : length s ≡ 24) (g : goodRestock 
       zeros (suc n) zero = lit< tt
       zeros (suc n) (suc i) = zeros n i
 
--- the event that is found where the bytes from a position on are good
-module _ (bytes : List ℕ) (b : Bytes bytes) (at : ℕ) where
-  pub lamp-found : {good : Bool} → 41 ≤ length bytes - at → good ≡ goodWithLamp (take (at + 41 - at) (drop at bytes)) → good ≡ true
-      → record { number = 0; kind = getD bytes (at + 1) 0; end = at + 41 } ≡ foundAt bytes at
-  unfolding part wholeLength
+-- the event that is found where the frame at a position is good
+module _ (field : StockField) (bytes : List ℕ) (b : Bytes bytes) (at : ℕ) {state : ℕ} (w : (state ≡ stateSizeOf field) × (state ≤ stateSize)) where
+  pub lamp-found : {good : Bool} → 27 + state ≤ length bytes - at → good ≡ goodWithLamp (take (at + 27 - at) (drop at bytes)) → good ≡ true
+      → record { number = 0; kind = getD bytes (at + 1) 0; end = at + (27 + state) } ≡ foundAt field bytes at
+  unfolding part
   lamp-found room e t =
-      let h : at + 41 ≤ length bytes = omega arith in
-      let whole : at + 41 - at ≡ 41 = omega arith in
-      let s = part bytes at 41 in
-      let bs = bytes-part bytes at 41 b in
-      let long = length-part bytes at 41 h in
+      let h : at + (27 + stateSizeOf field) ≤ length bytes = omega (arith, w .0) in
+      let whole : at + 27 - at ≡ 27 = omega arith in
+      let s = part bytes at 27 in
+      let bs = bytes-part bytes at 27 b in
+      let long = length-part bytes at 27 (omega arith) in
       let g = sym (rw whole at e) ∙ t in
-      found-whole bytes at 41 h (omega arith) (lampEvent s bs long g) (lamp-recordable s bs long g) (lamp-bytes s bs long g) (ap
-      eventLength (tests s bs long g .map)) (sym (getD-part bytes at 41 1 (omega arith)) ∙ sym (is-kind s bs long g .number)) refl
+      found-whole field bytes at 27 h (lampMessage s bs long g) (lamp-recordable s bs long g) (lamp-bytes s bs long g)
+      (sym (getD-part bytes at 27 1 (omega arith)) ∙ sym (is-kind s bs long g .number)) (omega (arith, w .0))
 
-  pub restock-found : {good : Bool} → 24 ≤ length bytes - at → good ≡ goodRestock (take (at + 24 - at) (drop at bytes)) → good ≡ true
-      → record { number = 0; kind = 3; end = at + 24 } ≡ foundAt bytes at
-  unfolding part wholeLength
+  pub restock-found : {good : Bool} → 10 + state ≤ length bytes - at → good ≡ goodRestock (take (at + 10 - at) (drop at bytes)) → good ≡ true
+      → record { number = 0; kind = 3; end = at + (10 + state) } ≡ foundAt field bytes at
+  unfolding part
   restock-found room e t =
-      let h : at + 24 ≤ length bytes = omega arith in
-      let whole : at + 24 - at ≡ 24 = omega arith in
-      let s = part bytes at 24 in
-      let bs = bytes-part bytes at 24 b in
-      let long = length-part bytes at 24 h in
+      let h : at + (10 + stateSizeOf field) ≤ length bytes = omega (arith, w .0) in
+      let whole : at + 10 - at ≡ 10 = omega arith in
+      let s = part bytes at 10 in
+      let bs = bytes-part bytes at 10 b in
+      let long = length-part bytes at 10 (omega arith) in
       let g = sym (rw whole at e) ∙ t in
-      found-whole bytes at 24 h (omega arith) (restockEvent s bs long g) (restock-recordable s bs long g) (restock-bytes s bs long g) (ap
-      eventLength (restock-tests s bs long g .map)) refl refl
+      found-whole field bytes at 10 h (restockMessage s bs long g) (restock-recordable s bs long g) (restock-bytes s bs long g) {kind = 3} refl (omega (arith, w .0))

@@ -26,11 +26,12 @@ use Rattle.frame.specs.declared.Reading.{Reading}
 use Rattle.frame.specs.declared.Form.the-variants.{Good}
 use Rattle.frame.proofs.Laws.{one-to-one}
 use Rattle.frame.proofs.Output.{whole-size}
-use Rattle.memory.specs.Layout.{stateSize}
 use Rattle.memory.specs.Codec.{stateBytes}
 use Rattle.memory.specs.Validity.{frameIf}
 use Rattle.memory.proofs.Stored.{length-state}
-use Rattle.records.specs.Events.{mostGateways, latestHour, Event, eventLength, frameIn, stateIn, frameRefusal, eventRefusal, recordRefusal, eventOf}
+use Rattle.records.specs.declared.StockField.{StockField}
+use Rattle.records.specs.declared.StockField.the-variants.{Present}
+use Rattle.records.specs.Events.{mostGateways, latestHour, Event, stateSizeOf, eventLength, frameIn, stateIn, frameRefusal, eventRefusal, recordRefusal, eventOf}
 use Rattle.records.proofs.EventBranches.{event-some}
 
 -- a message that may stand in a record
@@ -43,64 +44,70 @@ pub record Recordable (m : Message) : Type 0 where
   pub origin : originOf (m .kind) < mostGateways
   pub hour : m .hour ≤ latestHour
 
--- an event as it is written: its frame, then the state after it
-unfoldable pub eventBytes : Event → List ℕ
-eventBytes e = written (frameIf false (e .message)) ++ stateBytes (e .state)
-
--- one event
-module _ (e : Event) (k : Recordable (e .message)) where
+-- an event whose frame is written, with any bytes of a state's size behind it
+module _ (field : StockField) (m : Message) (k : Recordable m) (state : List ℕ) (size : length state ≡ stateSizeOf field) where
   abbrev f : Frame
-  f = frameIf false (e .message)
+  f = frameIf false m
 
-  map-first : getD (eventBytes e) 0 0 ≡ mapOf f
-  unfolding eventBytes written
+  abbrev s : List ℕ
+  s = written f ++ state
+
+  map-first : getD s 0 0 ≡ mapOf f
+  unfolding written
   map-first = refl
 
   frame-size : length (written f) ≡ wholeLength (mapOf f)
   frame-size = whole-size f (k .ranged .lamp)
 
   -- as long as its first byte says
-  pub event-whole : eventLength (getD (eventBytes e) 0 0) ≡ length (eventBytes e)
-  unfolding eventBytes
-  event-whole = omega (arith, ap wholeLength map-first, frame-size, length-append (written f) (stateBytes (e .state)), length-state (e .state))
+  pub event-whole : eventLength field (getD s 0 0) ≡ length s
+  event-whole = omega (arith, ap wholeLength map-first, frame-size, length-append (written f) state, size)
 
-  frame-back : frameIn (eventBytes e) ≡ written f
-  unfolding eventBytes
-  frame-back =
-      ap (λ (map : ℕ). take (wholeLength map) (eventBytes e)) map-first
-      ∙ take-at (written f) (stateBytes (e .state)) (wholeLength (mapOf f)) frame-size
+  frame-back : frameIn s ≡ written f
+  frame-back = ap (λ (map : ℕ). take (wholeLength map) s) map-first ∙ take-at (written f) state (wholeLength (mapOf f)) frame-size
 
-  state-back : stateIn (eventBytes e) ≡ stateBytes (e .state)
-  unfolding eventBytes
+  state-back : stateIn field s ≡ state
   state-back =
-      ap (λ (map : ℕ). part (eventBytes e) (wholeLength map) stateSize) map-first
-      ∙ rw add-zero at (part-back (written f) (stateBytes (e .state)) (wholeLength (mapOf f)) 0 stateSize frame-size)
-      ∙ part-whole (stateBytes (e .state)) stateSize (omega (arith, length-state (e .state)))
+      ap (λ (map : ℕ). part s (wholeLength map) (stateSizeOf field)) map-first
+      ∙ rw add-zero at (part-back (written f) state (wholeLength (mapOf f)) 0 (stateSizeOf field) frame-size)
+      ∙ part-whole state (stateSizeOf field) (omega (arith, size))
 
   -- its frame is read as it was written, and is not refused
   frame-taken : frameRefusal (readAs Good f) ≡ 0
   unfolding frameRefusal refusalWhere
   frame-taken = rw (
-    le-leb (kindNumber (e .message .kind)) 3 (k .kind),
-    lt-ltb (e .message .from) mostGateways (k .from),
-    lt-ltb (e .message .to) mostGateways (k .to),
-    lt-ltb (originOf (e .message .kind)) mostGateways (k .origin),
-    le-leb (e .message .hour) latestHour (k .hour),
+    le-leb (kindNumber (m .kind)) 3 (k .kind),
+    lt-ltb (m .from) mostGateways (k .from),
+    lt-ltb (m .to) mostGateways (k .to),
+    lt-ltb (originOf (m .kind)) mostGateways (k .origin),
+    le-leb (m .hour) latestHour (k .hour),
   )
 
-  frame-read : reading (frameIn (eventBytes e)) ≡ readAs Good f
+  frame-read : reading (frameIn s) ≡ readAs Good f
   frame-read = ap reading frame-back ∙ one-to-one .writtenRead f (k .ranged) (k .form)
 
-  pub message-read : eventOf (eventBytes e) .message ≡ e .message
+  pub message-read : eventOf field s .message ≡ m
   unfolding eventOf
   message-read = ap (λ (r : Reading). r .frame .message) frame-read
 
-  pub event-taken : eventRefusal (eventBytes e) ≡ 0
+  pub event-taken : eventRefusal field s ≡ 0
   unfolding eventRefusal
   event-taken =
-      let number : frameRefusal (reading (frameIn (eventBytes e))) ≡ 0 = ap frameRefusal frame-read ∙ frame-taken in
-      let size : length (stateIn (eventBytes e)) ≡ stateSize = ap length state-back ∙ length-state (e .state) in
-      rw (number, size)
+      let number : frameRefusal (reading (frameIn s)) ≡ 0 = ap frameRefusal frame-read ∙ frame-taken in
+      let whole : stateSizeOf field ≤ length (stateIn field s) = omega (arith, ap length state-back, size) in
+      rw (number, le-leb (stateSizeOf field) (length (stateIn field s)) whole)
+
+-- an event as commit writes it: its frame, then the state after it
+unfoldable pub eventBytes : Event → List ℕ
+eventBytes e = written (frameIf false (e .message)) ++ stateBytes (e .state)
+
+written-whole : (e : Event) → Recordable (e .message) → eventLength Present (getD (eventBytes e) 0 0) ≡ length (eventBytes e)
+unfolding eventBytes
+written-whole e k = event-whole Present (e .message) k (stateBytes (e .state)) (length-state (e .state))
+
+written-taken : (e : Event) → Recordable (e .message) → eventRefusal Present (eventBytes e) ≡ 0
+unfolding eventBytes
+written-taken e k = event-taken Present (e .message) k (stateBytes (e .state)) (length-state (e .state))
 
 -- a record of events that were written one behind the other
 pub record Recorded (bytes : List ℕ) : Type 0 where
@@ -125,9 +132,10 @@ one-recorded {bytes} r e k =
     }
 
 -- it is not refused
-pub record-taken : {bytes : List ℕ} → Recorded bytes → recordRefusal bytes ≡ 0
+pub record-taken : {bytes : List ℕ} → Recorded bytes → recordRefusal Present bytes ≡ 0
 unfolding recordRefusal
 record-taken r =
-    ap recordRefusal (r .are)
-    ∙ ap (firstNumber eventRefusal) (pieces-joined eventLength event-some eventBytes (r .events) (all-map event-whole (r .recordable)))
-    ∙ none-first eventRefusal (all-image eventBytes (all-map event-taken (r .recordable)))
+    ap (recordRefusal Present) (r .are)
+    ∙ ap (firstNumber (eventRefusal Present)) (pieces-joined (eventLength Present) (event-some Present) eventBytes (r .events) (all-map written-whole
+    (r .recordable)))
+    ∙ none-first (eventRefusal Present) (all-image eventBytes (all-map written-taken (r .recordable)))

@@ -24,7 +24,8 @@ ghost use mathlib.Core.Path.{_≡_};
 ghost use Prim.Native.Nat.{_<_, _≤_};
 ghost use lib.ListN.{length};
 ghost use Rattle.frame.specs.Reasons.{formIn, formNumber};
-ghost use Rattle.records.specs.Events.{isEvent, frameRefusal};
+ghost use Rattle.memory.specs.Layout.{stateSize};
+ghost use Rattle.records.specs.Events.{stateSizeOf, isEvent, frameRefusal};
 ghost use Rattle.records.specs.inside.Finding.{foundAt, lengthOfKind, goodWithLamp, goodRestock, goodGateways};
 
 // The N and the H that a record is read with.
@@ -35,14 +36,19 @@ const LATEST_HOUR: u32 = 4294967294;
 // The number that is no gateway's in a record.
 const NO_GATEWAY: u8 = 255;
 
-// The map and the whole length of a Failure, Request or Delivery, and of a Restock.
+// The map of a Failure, Request or Delivery, and of a Restock.
 const LAMP_MAP: u8 = 63;
-
-const LAMP_EVENT: usize = LAMP_END + STATE_SIZE;
 
 const RESTOCK_MAP: u8 = 79;
 
-const RESTOCK_EVENT: usize = QUANTITY_END + STATE_SIZE;
+// The size of a state with the old stock.
+const OLD_STATE_SIZE: usize = 14;
+
+// How wide the stock is in a record's states: four bytes, or two in a record from before.
+pub enum StockField {
+    Present,
+    Old,
+}
 
 // What stands at a position of a record: 0, the event's kind and the position behind it, or what the event is refused with.
 pub struct Found {
@@ -52,51 +58,63 @@ pub struct Found {
 }
 
 // The event that begins at a position. Nearly every one is good, and is told from its bytes at their places; any other is read.
-pub fn event_at(bytes: &[u8], at: usize) -> Found
+pub fn event_at(bytes: &[u8], at: usize, stock: StockField) -> Found
     requires { ⌜ at < length (now bytes) ⌝ }
-    ensures { λ r. ⌜ r ≡ foundAt (now (bytes .entry)) at ⌝ }
+    ensures { λ r. ⌜ r ≡ foundAt stock (now (bytes .entry)) at ⌝ }
 {
     let left = bytes.len() - at;
-    if left >= LAMP_EVENT {
-        if good_with_lamp(&bytes[at..at + LAMP_EVENT]) {
+    let state = state_size(stock);
+    if left >= LAMP_END + state {
+        if good_with_lamp(&bytes[at..at + LAMP_END]) {
             return Found {
                 number: 0,
                 kind: bytes[at + 1],
-                end: at + LAMP_EVENT,
+                end: at + (LAMP_END + state),
             };
         }
     }
-    if left >= RESTOCK_EVENT {
-        if good_restock(&bytes[at..at + RESTOCK_EVENT]) {
+    if left >= QUANTITY_END + state {
+        if good_restock(&bytes[at..at + QUANTITY_END]) {
             return Found {
                 number: 0,
                 kind: 3,
-                end: at + RESTOCK_EVENT,
+                end: at + (QUANTITY_END + state),
             };
         }
     }
-    event_read(bytes, at)
+    event_read(bytes, at, stock)
+}
+
+// The size of a state with that stock.
+pub fn state_size(stock: StockField) -> usize
+    ensures { λ r. ⌜ (r ≡ stateSizeOf stock) × (r ≤ stateSize) ⌝ }
+{
+    match stock {
+        StockField::Present => STATE_SIZE,
+        StockField::Old => OLD_STATE_SIZE,
+    }
 }
 
 // Its frame's refusals come first, then that of a cut state.
-fn event_read(bytes: &[u8], at: usize) -> Found
+fn event_read(bytes: &[u8], at: usize, stock: StockField) -> Found
     requires { ⌜ at < length (now bytes) ⌝ }
-    ensures { λ r. ⌜ r ≡ foundAt (now (bytes .entry)) at ⌝ }
+    ensures { λ r. ⌜ r ≡ foundAt stock (now (bytes .entry)) at ⌝ }
 {
     let end = frame_end(bytes, at);
     let left = bytes.len() - end;
+    let state = state_size(stock);
     let reading = read(&bytes[at..end]);
     let refusal = frame_refusal(reading);
     if refusal != 0 {
         return refused(refusal, at);
     }
-    if left < STATE_SIZE {
+    if left < state {
         return refused(11, at);
     }
     let frame = reading.frame;
     let message = frame.message;
     let kind = message.kind;
-    let behind = end + STATE_SIZE;
+    let behind = end + state;
     Found {
         number: 0,
         kind: kind_number(kind),
@@ -149,51 +167,52 @@ fn is_event(frame: Frame) -> bool
 }
 
 // The whole length of an event of that kind, which is 0 to 3.
-pub fn event_length(kind: u8) -> usize
-    ensures { λ r. ⌜ r ≡ lengthOfKind kind ⌝ }
+pub fn event_length(kind: u8, stock: StockField) -> usize
+    ensures { λ r. ⌜ r ≡ lengthOfKind stock kind ⌝ }
 {
+    let state = state_size(stock);
     if kind == 3 {
-        return RESTOCK_EVENT;
+        return QUANTITY_END + state;
     }
-    LAMP_EVENT
+    LAMP_END + state
 }
 
-// Whether a Failure, Request or Delivery is good.
-fn good_with_lamp(event: &[u8]) -> bool
-    requires { ⌜ 41 ≤ length (now event) ⌝ }
-    ensures { λ r. ⌜ r ≡ goodWithLamp (now (event .entry)) ⌝ }
+// Whether the frame of a Failure, Request or Delivery is good.
+fn good_with_lamp(frame: &[u8]) -> bool
+    requires { ⌜ 27 ≤ length (now frame) ⌝ }
+    ensures { λ r. ⌜ r ≡ goodWithLamp (now (frame .entry)) ⌝ }
 {
-    let kind = event[1];
-    if event[0] != LAMP_MAP {
+    let kind = frame[1];
+    if frame[0] != LAMP_MAP {
         return false;
     }
     if kind > 2 {
         return false;
     }
-    if !good_gateways(event[2], event[3], kind_of(kind, event[ORIGIN_PLACE], 0)) {
+    if !good_gateways(frame[2], frame[3], kind_of(kind, frame[ORIGIN_PLACE], 0)) {
         return false;
     }
-    if read32(event, HOUR_PLACE) > LATEST_HOUR {
+    if read32(frame, HOUR_PLACE) > LATEST_HOUR {
         return false;
     }
-    all_between(read_lamp(event, LAMP_PLACE), 33, 126)
+    all_between(read_lamp(frame, LAMP_PLACE), 33, 126)
 }
 
-// Whether a Restock is good.
-fn good_restock(event: &[u8]) -> bool
-    requires { ⌜ 24 ≤ length (now event) ⌝ }
-    ensures { λ r. ⌜ r ≡ goodRestock (now (event .entry)) ⌝ }
+// Whether the frame of a Restock is good.
+fn good_restock(frame: &[u8]) -> bool
+    requires { ⌜ 10 ≤ length (now frame) ⌝ }
+    ensures { λ r. ⌜ r ≡ goodRestock (now (frame .entry)) ⌝ }
 {
-    if event[0] != RESTOCK_MAP {
+    if frame[0] != RESTOCK_MAP {
         return false;
     }
-    if event[1] != 3 {
+    if frame[1] != 3 {
         return false;
     }
-    if !good_gateways(event[2], event[3], Kind::Restock { quantity: 0 }) {
+    if !good_gateways(frame[2], frame[3], Kind::Restock { quantity: 0 }) {
         return false;
     }
-    read32(event, HOUR_PLACE) <= LATEST_HOUR
+    read32(frame, HOUR_PLACE) <= LATEST_HOUR
 }
 
 // Whether the gateways agree and their numbers are below 255.

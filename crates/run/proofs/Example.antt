@@ -20,6 +20,7 @@ use Rattle.frame.specs.Limits.{refusal}
 use Rattle.memory.specs.Codec.{entryBytes, entryOf, sentBytes, sentOf, decode, encode}
 use Rattle.memory.specs.Soundness.{sound}
 use Rattle.memory.specs.Validity.{settingsValid, roundPossible, equal, later, ordered, processedFirst, noneMeet, storable, entryValid, sentValid, valid}
+use Rattle.memory.specs.Validity.{savedStocksBounded, heldStockBounded}
 use Rattle.lists.proofs.BoolLaws.{and-left, and-right}
 use Rattle.gateway.specs.Effects.{settled, sentAll}
 use Rattle.gateway.specs.Undoing.{processedOf, undone, rolledBack}
@@ -101,7 +102,7 @@ unfolding
     bytesOf numberOf part sameBytes write hasHour hasLamp mapOf refusal reading allBetween wellFormed written agreedTime committed setUp started taken
     workedOff commit recordFor sentAll settled allBits bitOf leastOutstanding leastQueued start takeLvt takeStart takeUpdate opened
     setUpRefusal takeAcknowledgment takePlain processedOf rolledBack undone worked change every decode encode entryBytes entryOf
-    sentBytes sentOf sound entryValid equal later noneMeet ordered processedFirst roundPossible sentValid settingsValid leadTimesValid storable valid
+    sentBytes sentOf sound entryValid equal later noneMeet ordered processedFirst savedStocksBounded heldStockBounded roundPossible sentValid settingsValid leadTimesValid storable valid
     sent compared key from mid0 mid1 to gvtcfg setFrom setTo share widen worldAtEnd acceptsLvt afterCalls afterCall
     afterCommitting afterStarting afterTaking afterWorking openingWorld roundFrames tagOf
 examples =

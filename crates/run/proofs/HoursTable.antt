@@ -17,6 +17,7 @@ use Rattle.frame.specs.Limits.{refusal}
 use Rattle.memory.specs.Codec.{entryBytes, entryOf, sentBytes, sentOf, decode, encode}
 use Rattle.memory.specs.Soundness.{sound}
 use Rattle.memory.specs.Validity.{settingsValid, roundPossible, equal, later, ordered, processedFirst, noneMeet, storable, entryValid, sentValid, valid}
+use Rattle.memory.specs.Validity.{savedStocksBounded, heldStockBounded}
 use Rattle.gateway.specs.Effects.{settled, sentAll}
 use Rattle.gateway.specs.Undoing.{processedOf, undone, rolledBack}
 use Rattle.gateway.specs.Taking.{takePlain, takeAcknowledgment}
@@ -36,6 +37,7 @@ pub hours-of-each-gateway : HoursOfEachGateway
 unfolding
     every change together sameBytes part write bytesOf numberOf sent key compared hasHour hasLamp mapOf written allBetween wellFormed reading
     refusal entryBytes entryOf sentBytes sentOf decode encode sound settingsValid leadTimesValid roundPossible equal later ordered processedFirst noneMeet
+    savedStocksBounded heldStockBounded
     storable entryValid sentValid valid settled sentAll processedOf undone rolledBack takePlain takeAcknowledgment worked leastOutstanding
     leastQueued start bitOf allBits takeStart takeLvt takeUpdate recordFor commit opened setUpRefusal taken started committed workedOff setUp agreedTime
     from mid0 mid1 to gvtcfg setFrom setTo share widen acceptsLvt tagOf

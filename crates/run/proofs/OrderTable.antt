@@ -15,6 +15,7 @@ use Rattle.frame.specs.Limits.{refusal}
 use Rattle.memory.specs.Codec.{entryBytes, entryOf, sentBytes, sentOf, decode, encode}
 use Rattle.memory.specs.Soundness.{sound}
 use Rattle.memory.specs.Validity.{settingsValid, roundPossible, equal, later, ordered, processedFirst, noneMeet, storable, entryValid, sentValid, valid}
+use Rattle.memory.specs.Validity.{savedStocksBounded, heldStockBounded}
 use Rattle.gateway.specs.Effects.{settled, sentAll}
 use Rattle.gateway.specs.Undoing.{processedOf, undone, rolledBack}
 use Rattle.gateway.specs.Taking.{takePlain, takeCancel, takeAcknowledgment}
@@ -34,6 +35,7 @@ pub order-within-an-hour : OrderWithinAnHour
 unfolding
     every change together sameBytes part write bytesOf numberOf sent key compared hasHour mapOf written allBetween wellFormed reading
     refusal entryBytes entryOf sentBytes sentOf decode encode sound settingsValid leadTimesValid roundPossible equal later ordered processedFirst noneMeet
+    savedStocksBounded heldStockBounded
     storable entryValid sentValid valid settled sentAll processedOf undone rolledBack takePlain takeCancel takeAcknowledgment worked leastOutstanding
     leastQueued start recordFor commit opened setUpRefusal taken started committed workedOff setUp agreedTime roundFrames afterTaking
     afterStarting afterWorking afterCommitting afterCall afterCalls openingWorld afterPlain openingMessages openingQueue earliest others
@@ -52,7 +54,7 @@ order-within-an-hour =
       sound = refl;
       unsound = (refl, refl, refl, refl);
       hourFirst = (refl, refl);
-      shelfStops = refl;
+      largeShelf = refl;
       whileStockLasts = (refl, refl);
       committed = (refl, refl, refl, refl);
       ledger = refl;

@@ -10,6 +10,7 @@ use Rattle.frame.specs.Writing.{written, allBetween}
 use Rattle.frame.specs.Reasons.{reading}
 use Rattle.frame.specs.Limits.{refusalWhere}
 use Rattle.records.specs.Events.{recordRefusal, eventsOf}
+use Rattle.records.specs.declared.StockField.the-variants.{Present}
 use Rattle.run.specs.OrderExamples.{sameHourRecord}
 use Rattle.run.specs.RecordsTaken.{exampleRecord, RecordsTakenExample}
 use Rattle.run.proofs.OrderTable.{order-within-an-hour}
@@ -22,6 +23,6 @@ pub records-taken-example : RecordsTakenExample
 unfolding joined part bytesOf numberOf mapOf written allBetween reading refusalWhere recordRefusal eventsOf
 records-taken-example =
     record {
-      notRefused = ap recordRefusal is-record;
-      events = ap (λ bytes. length (eventsOf bytes)) is-record;
+      notRefused = ap (recordRefusal Present) is-record;
+      events = ap (λ bytes. length (eventsOf Present bytes)) is-record;
     }

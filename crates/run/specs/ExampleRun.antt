@@ -31,7 +31,7 @@ abbrev pub exampleMemory : ℕ → List ℕ
 exampleMemory i = replicate 352 0
 
 abbrev pub exampleOutput : List ℕ
-exampleOutput = replicate 41 0
+exampleOutput = replicate 43 0
 
 -- One gateway, with a stock of 2, the last hour 10, and a Restock of 3 at hour 5 as the opening list.
 abbrev restock : List ℕ
@@ -46,7 +46,7 @@ oneCalls = works 0 9 exampleOutput ∷ starts 0 exampleOutput ∷ commits 0 exam
 
 -- the Restock and the state after it, a stock of 5
 abbrev pub oneRecords : ℕ → List ℕ
-oneRecords i = restock ++ (0 ∷ 5 ∷ 0 ∷ 0 ∷ 0 ∷ 0 ∷ 0 ∷ 0 ∷ 0 ∷ 0 ∷ 0 ∷ 0 ∷ 0 ∷ 0 ∷ [])
+oneRecords i = restock ++ (0 ∷ 0 ∷ 0 ∷ 5 ∷ 0 ∷ 0 ∷ 0 ∷ 0 ∷ 0 ∷ 0 ∷ 0 ∷ 0 ∷ 0 ∷ 0 ∷ 0 ∷ 0 ∷ [])
 
 -- Two gateways, with the last hour 10: 0, whose supplier is 1, has a Failure at hour 5, and 1 has a stock of 1.
 abbrev lamp : List ℕ
@@ -84,8 +84,8 @@ twoCalls =
 
 -- 0 has done the Failure, failed 1; 1 the Request, from its stock: the Delivery at hour 30 is past the last
 abbrev pub twoRecords : ℕ → List ℕ
-twoRecords zero = failure ++ (0 ∷ 0 ∷ 0 ∷ 0 ∷ 0 ∷ 1 ∷ 0 ∷ 0 ∷ 0 ∷ 0 ∷ 0 ∷ 0 ∷ 0 ∷ 0 ∷ [])
-twoRecords (suc i) = request ++ (0 ∷ 0 ∷ 0 ∷ 0 ∷ 0 ∷ 0 ∷ 0 ∷ 0 ∷ 0 ∷ 0 ∷ 0 ∷ 0 ∷ 0 ∷ 0 ∷ [])
+twoRecords zero = failure ++ (0 ∷ 0 ∷ 0 ∷ 0 ∷ 0 ∷ 0 ∷ 0 ∷ 1 ∷ 0 ∷ 0 ∷ 0 ∷ 0 ∷ 0 ∷ 0 ∷ 0 ∷ 0 ∷ [])
+twoRecords (suc i) = request ++ (0 ∷ 0 ∷ 0 ∷ 0 ∷ 0 ∷ 0 ∷ 0 ∷ 0 ∷ 0 ∷ 0 ∷ 0 ∷ 0 ∷ 0 ∷ 0 ∷ 0 ∷ 0 ∷ [])
 
 -- one gateway does its round without a frame; two take 3 messages
 pub record ExampleRuns : Type 0 where

@@ -122,7 +122,7 @@ districtCalls =
 
 -- a state's bytes: no stock, so many failed and fitted, none short
 abbrev stateAfter : ℕ → ℕ → List ℕ
-stateAfter failed fitted = 0 ∷ 0 ∷ 0 ∷ 0 ∷ 0 ∷ failed ∷ 0 ∷ 0 ∷ 0 ∷ fitted ∷ replicate 4 0
+stateAfter failed fitted = 0 ∷ 0 ∷ 0 ∷ 0 ∷ 0 ∷ 0 ∷ 0 ∷ failed ∷ 0 ∷ 0 ∷ 0 ∷ fitted ∷ replicate 4 0
 
 -- gateway 0's record: Failure, Delivery, Failure; gateway 1's: the Request, which found its one driver
 abbrev pub districtRecords : ℕ → List ℕ
@@ -140,9 +140,9 @@ pub record HoursOfEachGateway : Type 0 where
   pub farTooLong : refusedWith (hours 1 4294967295 43800) ≡ 8
   -- before any frame of the opening list is looked at
   pub beforeFrames : (setUpRefusal (told (hours 0 24 43800)) 640 (63 ∷ []) ≡ 8) × (setUpRefusal (told (hours 1 24 43800)) 640 (63 ∷ []) ≡ 11)
-  -- they stand in the header from byte 26 on, four bytes each; byte 52, behind the header, stays as it was
+  -- they stand in the header from byte 26 on, four bytes each; byte 54, behind the header's last, stays as it was
   pub stored : (part (afterSetUp (hours 1 258 1000000)) 26 12 ≡ 0 ∷ 0 ∷ 0 ∷ 1 ∷ 0 ∷ 0 ∷ 1 ∷ 2 ∷ 0 ∷ 15 ∷ 66 ∷ 64 ∷ [])
-      × (getD (afterSetUp (hours 1 258 1000000)) 52 0 ≡ 7)
+      × (getD (afterSetUp (hours 1 258 1000000)) 54 0 ≡ 7)
   -- memory with hours in their range is sound; 10 where one is 0 or 1,000,001
   pub sound : (answerWith (hours 1 1000000 1) ≡ 0) × (answerWith (hours 1000000 1 1000000) ≡ 0)
   pub unsoundNone : (answerWith (hours 0 24 43800) ≡ 10) × (answerWith (hours 1 0 43800) ≡ 10) × (answerWith (hours 1 24 0) ≡ 10)

@@ -104,9 +104,9 @@ processed before m = record { message = m; mark = Processed; before = before }
 abbrev comes : Message → Gateway → Gateway
 comes m g = takePlain m g .gateway
 
--- a Request and then a Restock of 10 come to a full shelf; two Requests and then a Restock of 1 to an empty one; and work
-abbrev fullShelf : Progress
-fullShelf = worked 9 100 (comes (restock 10) (comes request (stocked 65535 [])))
+-- a Request and then a Restock of 10 come to a shelf of 65,535; two Requests and then a Restock of 1 to an empty one; and work
+abbrev restocked : Progress
+restocked = worked 9 100 (comes (restock 10) (comes request (stocked 65535 [])))
 
 abbrev oneForTwo : Progress
 oneForTwo = worked 9 100 (comes (restock 1) (comes secondRequest (comes request (stocked 0 []))))
@@ -123,7 +123,7 @@ nextCommit o = commit 100 (o .gateway)
 
 -- a state's bytes: that stock, one failed, so many fitted, none short
 abbrev stateAfter : ℕ → ℕ → List ℕ
-stateAfter stock fitted = 0 ∷ stock ∷ 0 ∷ 0 ∷ 0 ∷ 1 ∷ 0 ∷ 0 ∷ 0 ∷ fitted ∷ replicate 4 0
+stateAfter stock fitted = 0 ∷ 0 ∷ 0 ∷ stock ∷ 0 ∷ 0 ∷ 0 ∷ 1 ∷ 0 ∷ 0 ∷ 0 ∷ fitted ∷ replicate 4 0
 
 -- in a ledger, not done
 abbrev notYet : Message → Item
@@ -191,8 +191,8 @@ pub record OrderWithinAnHour : Type 0 where
       × (answerWhereQueued (delivery ∷ request ∷ []) ≡ 10) × (answerWhereQueued (restock 5 ∷ failure ∷ []) ≡ 10)
   -- the hour weighs more: a Delivery of hour 6 comes before a Restock of hour 7
   pub hourFirst : (answerWhereQueued (messageAt 6 (Delivery 0) ∷ restock 5 ∷ []) ≡ 0) × (answerWhereQueued (restock 5 ∷ messageAt 6 (Delivery 0) ∷ []) ≡ 10)
-  -- the shelf stops at 65,535, then the Request draws: 65,534
-  pub shelfStops : fullShelf .gateway .state ≡ state 65534 0 0
+  -- the Restock comes to the shelf before the Request draws; the shelf does not stop at 65,535
+  pub largeShelf : restocked .gateway .state ≡ state 65544 0 0
   -- Requests of the Restock's hour are served while stock lasts: the first sends a Delivery, the second falls short and is passed on
   pub whileStockLasts : (oneForTwo .gateway .state ≡ state 0 0 1)
       × (oneForTwo .output ≡ plain (messageAt 31 (Delivery 0)) ++ plain (aboutLamp 50 8 (Request 0)))

@@ -19,8 +19,10 @@ use model::Message;
 use model::State;
 use model::event::Reply;
 ghost use mathlib.Core.Path.{_≡_};
-ghost use Prim.Native.Nat.{_≤_, _<_};
+ghost use Prim.Native.Nat.{_+_, _≤_, _<_, max};
+ghost use Rattle.model.specs.Messages.{quantityOf};
 ghost use lib.ListN.{length};
+ghost use Rattle.single_queue.specs.inside.Shelves.{beforeOne};
 ghost use Rattle.memory.specs.Layout.{headerSize, queueAt};
 
 // The states of the two gateways, where their records end, and the number of messages.
@@ -32,7 +34,7 @@ struct Machine {
     count: usize,
 }
 
-// Feeds the queue the opening list, and does its messages, at most 1000. Answers where the records end.
+// Feeds the queue the opening list, and does its messages, at most 512. Answers where the records end.
 pub fn run(
     list: &[u8],
     queue: &mut [u8],
@@ -45,7 +47,7 @@ pub fn run(
 {
     let mut machine = machine_of(enter_list(list, queue));
     let mut k = 0;
-    while k < 1000 {
+    while k < 512 {
         if k >= machine.count {
             break;
         }
@@ -60,7 +62,7 @@ pub fn run(
 
 // Both gateways as they are set up, with stock 0 and 1, and so many messages in the queue.
 fn machine_of(count: usize) -> Machine
-    ensures { λ r. ⌜ (r .count ≡ count) × (r .end0 ≡ 0) × (r .end1 ≡ 0) ⌝ }
+    ensures { λ r. ⌜ (r .count ≡ count) × (r .end0 ≡ 0) × (r .end1 ≡ 0) × (r .state0 .stock ≤ 65535) × (r .state1 .stock ≤ 65535) ⌝ }
 {
     Machine {
         state0: state_with(0),
@@ -71,7 +73,9 @@ fn machine_of(count: usize) -> Machine
     }
 }
 
-fn state_with(stock: u16) -> State {
+fn state_with(stock: u32) -> State
+    ensures { λ r. ⌜ r .stock ≡ stock ⌝ }
+{
     State {
         stock,
         failed: 0,
@@ -92,18 +96,21 @@ fn step(
     requires { ⌜ (k < machine .count)
         × (queueAt (machine .count) ≤ length (now queue))
         × (machine .end0 ≤ length (now record0))
-        × (machine .end1 ≤ length (now record1)) ⌝ }
+        × (machine .end1 ≤ length (now record1))
+        × (machine .state0 .stock ≤ beforeOne)
+        × (machine .state1 .stock ≤ beforeOne) ⌝ }
     ensures { λ r. ⌜ (queueAt (r .count) ≤ length (now (queue .entry)))
         × (r .end0 ≤ length (now (record0 .entry)))
-        × (r .end1 ≤ length (now (record1 .entry))) ⌝ }
+        × (r .end1 ≤ length (now (record1 .entry)))
+        × (r .state0 .stock ≤ max (machine .state0 .stock) (machine .state1 .stock) + 65535)
+        × (r .state1 .stock ≤ max (machine .state0 .stock) (machine .state1 .stock) + 65535) ⌝ }
 {
     let entry = read_entry(queue, HEADER_SIZE + QUEUE_SIZE * k);
     let message = entry.message;
-    let state = state_for(machine, message);
-    finish(queue, output, record0, record1, machine, message, state)
+    finish(queue, output, record0, record1, machine, message)
 }
 
-// Enters what a message sends in that state, and puts the message at the end of its gateway's record.
+// Enters what a message sends, and puts the message at the end of its gateway's record.
 fn finish(
     queue: &mut [u8],
     output: &mut [u8],
@@ -111,13 +118,20 @@ fn finish(
     record1: &mut [u8],
     machine: Machine,
     message: Message,
-    state: State,
 ) -> Machine
-    requires { ⌜ (queueAt (machine .count) ≤ length (now queue)) × (machine .end0 ≤ length (now record0)) × (machine .end1 ≤ length (now record1)) ⌝ }
+    requires { ⌜ (queueAt (machine .count) ≤ length (now queue))
+        × (machine .end0 ≤ length (now record0))
+        × (machine .end1 ≤ length (now record1))
+        × (machine .state0 .stock ≤ beforeOne)
+        × (machine .state1 .stock ≤ beforeOne)
+        × (quantityOf (message .kind) ≤ 65535) ⌝ }
     ensures { λ r. ⌜ (queueAt (r .count) ≤ length (now (queue .entry)))
         × (r .end0 ≤ length (now (record0 .entry)))
-        × (r .end1 ≤ length (now (record1 .entry))) ⌝ }
+        × (r .end1 ≤ length (now (record1 .entry)))
+        × (r .state0 .stock ≤ max (machine .state0 .stock) (machine .state1 .stock) + 65535)
+        × (r .state1 .stock ≤ max (machine .state0 .stock) (machine .state1 .stock) + 65535) ⌝ }
 {
+    let state = state_for(machine, message);
     let reply = reply_at(state, message);
     let count = enter_sent(queue, machine.count, reply);
     let kind = message.kind;
@@ -137,7 +151,10 @@ fn put_event(
     state: State,
 ) -> Machine
     requires { ⌜ (machine .end0 ≤ length (now record0)) × (machine .end1 ≤ length (now record1)) ⌝ }
-    ensures { λ r. ⌜ (r .end0 ≤ length (now (record0 .entry))) × (r .end1 ≤ length (now (record1 .entry))) ⌝ }
+    ensures { λ r. ⌜ (r .end0 ≤ length (now (record0 .entry)))
+        × (r .end1 ≤ length (now (record1 .entry)))
+        × (r .state0 .stock ≤ max (machine .state0 .stock) (state .stock))
+        × (r .state1 .stock ≤ max (machine .state1 .stock) (state .stock)) ⌝ }
 {
     let mut next = machine;
     if message.to == 0 {
@@ -151,7 +168,9 @@ fn put_event(
 }
 
 // The state of the gateway that a message is to.
-fn state_for(machine: Machine, message: Message) -> State {
+fn state_for(machine: Machine, message: Message) -> State
+    ensures { λ r. ⌜ r .stock ≤ max (machine .state0 .stock) (machine .state1 .stock) ⌝ }
+{
     if message.to == 0 {
         return machine.state0;
     }

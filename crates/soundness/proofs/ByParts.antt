@@ -12,6 +12,7 @@ use Rattle.memory.specs.Records.{Gateway}
 use Rattle.memory.specs.Layout.{outstandingAt, sizeFor, headerSize, outstandingSize, queueSize, queueAt}
 use Rattle.memory.specs.Codec.{entryOf, sentOf, headerAt, placesAt, decode}
 use Rattle.memory.specs.Validity.{settingsValid, roundPossible, ordered, processedFirst, noneMeet, entryValid, sentValid, valid}
+use Rattle.memory.specs.Validity.{savedStocksBounded, heldStockBounded}
 use Rattle.memory.specs.Soundness.{entryExact, sentExact, sound}
 use Rattle.soundness.specs.inside.Passes.{headerSound, queueSound, outstandingSound}
 use Rattle.memory.specs.declared.Header.{Header}
@@ -64,22 +65,26 @@ header-of m s =
 pub header-facts : (m : List ℕ) {h : Header} {ok : Bool} → h ≡ headerAt m → ok ≡ headerSound m → not ok ≡ false → HeaderFacts h (length m)
 header-facts m e p k = rw e (facts-at m (granted p k))
 
-regrouped : (ee se r ev o pf nm ss : Bool)
-    → ((ee && se) && (((((r && ev) && o) && pf) && nm) && ss)) ≡ (r && ((ee && (ev && (o && (pf && nm)))) && (se && ss)))
-regrouped false se true ev o pf nm ss = refl
-regrouped false se false ev o pf nm ss = refl
-regrouped true se false ev o pf nm ss = and-false se
-regrouped true true true false o pf nm ss = refl
-regrouped true true true true false pf nm ss = refl
-regrouped true true true true true false nm ss = refl
-regrouped true true true true true true nm ss = refl
-regrouped true false true ev o pf nm ss = sym (and-false (ev && (o && (pf && nm))))
+regrouped : (ee se r ev o pf nm sv hd ss : Bool)
+    → ((ee && se) && (((((((r && ev) && o) && pf) && nm) && sv) && hd) && ss))
+    ≡ (r && ((ee && (ev && (pf && (o && (nm && (sv && hd)))))) && (se && ss)))
+regrouped false se true ev o pf nm sv hd ss = refl
+regrouped false se false ev o pf nm sv hd ss = refl
+regrouped true se false ev o pf nm sv hd ss = and-false se
+regrouped true false true ev o pf nm sv hd ss = sym (and-false (ev && (pf && (o && (nm && (sv && hd))))))
+regrouped true true true false o pf nm sv hd ss = refl
+regrouped true true true true false false nm sv hd ss = refl
+regrouped true true true true false true nm sv hd ss = refl
+regrouped true true true true true false nm sv hd ss = refl
+regrouped true true true true true true false sv hd ss = refl
+regrouped true true true true true true true false hd ss = refl
+regrouped true true true true true true true true hd ss = refl
 
 -- validity where settings and counts are right
 valid-rest : (g : Gateway) → settingsValid (g .settings) ≡ true → length (g .queue) ≤ g .settings .q → length (g .outstanding) ≤ g .settings .u
     → valid g
-    ≡ (((((roundPossible (g .settings) (g .round) && every (entryValid (g .settings)) (g .queue)) && ordered (g .queue)) && processedFirst
-    false (g .queue)) && noneMeet (g .queue))
+    ≡ (((((((roundPossible (g .settings) (g .round) && every (entryValid (g .settings)) (g .queue)) && ordered (g .queue)) && processedFirst
+    false (g .queue)) && noneMeet (g .queue)) && savedStocksBounded (g .queue)) && heldStockBounded (g .state) (g .queue))
     && every (sentValid (g .settings)) (g .outstanding))
 unfolding valid
 valid-rest g s q u = rw (s, le-leb (length (g .queue)) (g .settings .q) q, le-leb (length (g .outstanding)) (g .settings .u) u)
@@ -103,9 +108,9 @@ module _ (m : List ℕ) (ok : headerSound m ≡ true) where
 
   by-parts : sound m
       ≡ (roundPossible (headerAt m .settings) (headerAt m .round)
-      && (queueSound (headerAt m .settings) m (headerAt m .queued)
+      && (queueSound (headerAt m .settings) (headerAt m .state .stock) m (headerAt m .queued)
       && outstandingSound (headerAt m .settings) m (outstandingAt (headerAt m .settings .q) 0) (headerAt m .outstanding)))
-  unfolding decode queueSound outstandingSound
+  unfolding decode queueSound outstandingSound heldStockBounded
   by-parts =
       let g = decode m in
       let facts = facts-at m ok in
@@ -117,7 +122,7 @@ module _ (m : List ℕ) (ok : headerSound m ≡ true) where
       (regrouped (every entryExact (placesAt (λ b. b) queueSize m headerSize (headerAt m .queued)))
       (every sentExact (placesAt (λ b. b) outstandingSize m (outstandingAt (headerAt m .settings .q) 0) (headerAt m .outstanding)))
       (roundPossible (g .settings) (g .round)) (every (entryValid (g .settings)) (g .queue)) (ordered (g .queue)) (processedFirst false
-      (g .queue)) (noneMeet (g .queue))
+      (g .queue)) (noneMeet (g .queue)) (savedStocksBounded (g .queue)) (heldStockBounded (g .state) (g .queue))
       (every (sentValid (g .settings)) (g .outstanding)))
 
 module _ (m : List ℕ) where
@@ -143,13 +148,13 @@ module _ (m : List ℕ) where
     module _ (k : not ok ≡ false) {round : Bool} (r : round ≡ roundPossible (h .settings) (h .round)) where
       whole : sound m
           ≡ (roundPossible (h .settings) (h .round)
-          && (queueSound (h .settings) m (h .queued) && outstandingSound (h .settings) m (queueAt (h .settings .q)) (h .outstanding)))
+          && (queueSound (h .settings) (h .state .stock) m (h .queued) && outstandingSound (h .settings) m (queueAt (h .settings .q)) (h .outstanding)))
       whole = rw (← add-zero (queueAt (h .settings .q)), e) (by-parts m (granted p k))
 
       pub sound-round : not round ≡ true → false ≡ sound m
       sound-round f = sym (whole ∙ rw (refuted r f))
 
-      module _ (f : not round ≡ false) {queue : Bool} (q : queue ≡ queueSound (h .settings) m (h .queued)) where
+      module _ (f : not round ≡ false) {queue : Bool} (q : queue ≡ queueSound (h .settings) (h .state .stock) m (h .queued)) where
         pub sound-queue : not queue ≡ true → false ≡ sound m
         sound-queue g = sym (whole ∙ rw (granted r f, refuted q g))
 

@@ -1,6 +1,8 @@
 // Whether lent memory is sound: its header, then one pass over the used queue places and one over the used outstanding places.
 use decoding::entry_of;
 use decoding::sent_of;
+use entries::is_pending;
+use entries::is_processed;
 use exactness::entry_exact;
 use exactness::sent_exact;
 use following::follows;
@@ -18,6 +20,7 @@ use memory::Round;
 use memory::Settings;
 use model::LeadTimes;
 use model::State;
+use model::quantity_of;
 use validity::entry_valid;
 use validity::round_possible;
 use validity::sent_valid;
@@ -27,14 +30,28 @@ ghost use mathlib.Core.Path.{_≡_};
 ghost use Prim.Native.Nat.{_+_, _*_, _≤_};
 ghost use lib.ListN.{length};
 ghost use Rattle.memory.specs.Layout.{headerSize, queueSize, outstandingSize, queueAt};
+ghost use mathlib.Core.Bool.{cond};
 ghost use Rattle.memory.specs.Codec.{headerAt};
+ghost use Rattle.memory.specs.Validity.{brings};
 ghost use Rattle.memory.specs.Soundness.{sound};
 ghost use Rattle.memory.specs.inside.Checking.{blankHeader, checkedAs};
-ghost use Rattle.soundness.specs.inside.Passes.{headerSound, nonePassed, passedOn, entryAccepted, queueSound, outstandingSound};
+ghost use Rattle.soundness.specs.inside.Passes.{headerSound, mostBrought, passedOn, higherWith, stocksFit, entryAccepted, queueSound, outstandingSound};
 
-// What the pass over the queue carries from place to place: whether an unprocessed plain message was passed.
+// What a stock and the Restocks still to be done from it may come to, what 512 Restocks bring at most, and both together.
+const MOST_STOCK: u32 = 33619455;
+
+const MOST_BROUGHT: u32 = 33553920;
+
+const MOST_TOGETHER: u64 = 67173375;
+
+// What the pass over the queue carries from place to place: whether an unprocessed plain message was passed; what the Restocks passed
+// bring, all of them and those that are pending; and of the stocks saved the highest, each more by what 512 Restocks bring at most and
+// less by what the Restocks before it bring.
 pub struct Passed {
     pub pending: bool,
+    pub brought: u32,
+    pub still: u32,
+    pub highest: u64,
 }
 
 // Whether lent memory is sound, and its header. To memory that is not, every call answers 10.
@@ -102,7 +119,8 @@ fn all_sound(memory: &[u8], header: Header) -> bool
     if !round_possible(settings, round) {
         return false;
     }
-    if !queue_sound(memory, settings, header.queued as usize) {
+    let state = header.state;
+    if !queue_sound(memory, settings, state.stock, header.queued as usize) {
         return false;
     }
     let at = HEADER_SIZE + QUEUE_SIZE * (settings.q as usize);
@@ -131,13 +149,18 @@ fn header_sound(memory: &[u8], header: Header) -> bool
 }
 
 // One pass: each place in its one form, and its entry valid and rightly placed behind the one before it. The first entry has
-// none before it and is compared with itself.
-fn queue_sound(memory: &[u8], settings: Settings, count: usize) -> bool
-    requires { ⌜ (headerSize + queueSize ≤ length (now memory)) × (queueAt count ≤ length (now memory)) ⌝ }
-    ensures { λ r. ⌜ r ≡ queueSound settings (now (memory .entry)) count ⌝ }
+// none before it and is compared with itself. What every stock comes to with the Restocks still to be done from it is known at the end.
+fn queue_sound(memory: &[u8], settings: Settings, stock: u32, count: usize) -> bool
+    requires { ⌜ (headerSize + queueSize ≤ length (now memory)) × (queueAt count ≤ length (now memory)) × (count ≤ 512) ⌝ }
+    ensures { λ r. ⌜ r ≡ queueSound settings stock (now (memory .entry)) count ⌝ }
 {
     let mut before = entry_of(&memory[256..320]);
-    let mut passed = none_passed();
+    let mut passed = Passed {
+        pending: false,
+        brought: 0,
+        still: 0,
+        highest: 0,
+    };
     let mut at = HEADER_SIZE;
     let mut left = count;
     while left > 0 {
@@ -155,24 +178,63 @@ fn queue_sound(memory: &[u8], settings: Settings, count: usize) -> bool
         at += QUEUE_SIZE;
         left -= 1;
     }
-    true
-}
-
-// What is carried to the first place.
-fn none_passed() -> Passed
-    ensures { λ r. ⌜ r ≡ nonePassed ⌝ }
-{
-    Passed { pending: false }
+    stocks_fit(passed, stock)
 }
 
 // What is carried on behind an entry.
 fn pass(passed: Passed, entry: Entry) -> Passed
+    requires { ⌜ (passed .brought + brings entry ≤ mostBrought) × (passed .still ≤ passed .brought) ⌝ }
     ensures { λ r. ⌜ r ≡ passedOn passed entry ⌝ }
 {
     let mark = entry.mark;
+    let message = entry.message;
+    let kind = message.kind;
+    let quantity = quantity_of(kind) as u32;
     Passed {
         pending: pending_seen(passed.pending, mark),
+        brought: passed.brought + quantity,
+        still: added_if(is_pending(mark), passed.still, quantity),
+        highest: higher(passed, entry),
     }
+}
+
+// A sum with a quantity more, or as it was.
+fn added_if(more: bool, sum: u32, quantity: u32) -> u32
+    requires { ⌜ sum + quantity ≤ mostBrought ⌝ }
+    ensures { λ r. ⌜ r ≡ sum + cond more quantity 0 ⌝ }
+{
+    if more {
+        return sum + quantity;
+    }
+    sum
+}
+
+// The highest of the stocks saved, this entry's included.
+fn higher(passed: Passed, entry: Entry) -> u64
+    requires { ⌜ passed .brought ≤ mostBrought ⌝ }
+    ensures { λ r. ⌜ r ≡ higherWith passed entry ⌝ }
+{
+    let mark = entry.mark;
+    let before = entry.before;
+    let saved = (before.stock as u64) + ((MOST_BROUGHT - passed.brought) as u64);
+    if !is_processed(mark) {
+        return passed.highest;
+    }
+    if passed.highest < saved {
+        return saved;
+    }
+    passed.highest
+}
+
+// Whether every stock, saved and held, leaves room for the Restocks still to be done from it.
+fn stocks_fit(passed: Passed, stock: u32) -> bool
+    requires { ⌜ (passed .brought ≤ mostBrought) × (passed .still ≤ passed .brought) ⌝ }
+    ensures { λ r. ⌜ r ≡ stocksFit passed stock ⌝ }
+{
+    if passed.highest > MOST_TOGETHER - (passed.brought as u64) {
+        return false;
+    }
+    stock <= MOST_STOCK - passed.still
 }
 
 // One pass: each place in its one form, and what it holds valid.

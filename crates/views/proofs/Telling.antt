@@ -2,7 +2,7 @@
 use mathlib.Core.Path.{_≡_, refl, sym, _∙_, ap, ap₂}
 use mathlib.Core.Bool.{Bool, true, false}
 use mathlib.Core.List.{List, [], _∷_, _++_, append-assoc}
-use Prim.Native.Nat.{ℕ, _+_, _<_, _^_}
+use Prim.Native.Nat.{ℕ, _<_, _^_}
 use native.Mathlib.Omega.{arith}
 use lib.ListN.{length, take, drop, getD}
 use lib.Seq.{take-at, drop-at}
@@ -11,6 +11,7 @@ use Rattle.buffer.specs.Number.{bytesOf}
 use Rattle.buffer.proofs.Numbers.{number-of-bytes, length-bytesOf}
 use Rattle.model.specs.Messages.{kindNumber, originOf, quantityOf}
 use Rattle.frame.specs.Kinds.{hasOrigin, hasLamp, hasQuantity}
+use Rattle.memory.specs.Layout.{stockWidth}
 use Rattle.memory.specs.Ranges.{RangedState}
 use Rattle.records.specs.Events.{Event}
 use Rattle.views.specs.Fields.{Field, hour, kind, quantity, stock, failed, fitted, short, lamp, origin, Place, holds, lacks, heldIf, seen}
@@ -100,7 +101,7 @@ module _ {d e : Event} (c : RangedEvent d) (r : RangedEvent e) where
 
   stocks : Alike (stock (d .state .stock)) (stock (e .state .stock))
   unfolding fieldBytes
-  stocks = record { long = equally-long 2 _ _; same = λ p. ap stock (number-told 2 (c .state .stock) (r .state .stock) p) }
+  stocks = record { long = equally-long stockWidth _ _; same = λ p. ap stock (number-told stockWidth (c .state .stock) (r .state .stock) p) }
 
   failures : Alike (failed (d .state .failed)) (failed (e .state .failed))
   unfolding fieldBytes

@@ -6,12 +6,12 @@ use Rattle.frame.specs.Kinds.{hasOrigin, hasQuantity}
 use Rattle.frame.specs.Writing.{allBetween}
 use Rattle.frame.specs.Reasons.{reading}
 use Rattle.frame.specs.Limits.{refusalWhere}
-use Rattle.memory.specs.Codec.{stateOf}
+use Rattle.memory.specs.Codec.{stateWith}
 use Rattle.views.specs.Viewing.{viewed}
 use Rattle.views.specs.Examples.{ViewExamples}
 
 pub view-examples : ViewExamples
-unfolding sameBytes part write bytesOf numberOf hasOrigin hasQuantity allBetween reading refusalWhere stateOf viewed
+unfolding sameBytes part write bytesOf numberOf hasOrigin hasQuantity allBetween reading refusalWhere stateWith viewed
 view-examples =
     record {
       empty = (refl, refl);
@@ -34,4 +34,11 @@ view-examples =
       noReader = (refl, refl, refl);
       purchasingAlike = (refl, refl);
       maintenanceAlike = (refl, refl);
+      largeStock = (refl, refl);
+      oldLargest = refl;
+      oldAlike = (refl, refl);
+      cutStates = (refl, refl, refl, refl);
+      oldFrameFirst = refl;
+      noSuchStock = (refl, refl, refl, refl);
+      misread = (refl, refl, refl);
     }

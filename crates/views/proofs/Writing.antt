@@ -14,89 +14,90 @@ use Rattle.records.specs.Events.{eventLength, cutEvents, eventRefusal, recordRe
 use Rattle.records.specs.inside.Finding.{eventAt, lengthOfKind}
 use Rattle.records.proofs.EventBranches.{event-some}
 use Rattle.records.proofs.EventEnds.{Ends, event-ends}
+use Rattle.records.specs.declared.StockField.{StockField}
 use Rattle.views.specs.Bytes.{eventView, view}
 use Rattle.views.specs.declared.Reader.{Reader}
 
 -- what the reader gets of an event's bytes
-abbrev viewOf : Reader → List ℕ → List ℕ
-viewOf reader s = eventView reader (eventOf s)
+abbrev viewOf : Reader → StockField → List ℕ → List ℕ
+viewOf reader field s = eventView reader (eventOf field s)
 
-pub record Written (reader : Reader) (bytes out now : List ℕ) (at position : ℕ) : Type 0 where
+pub record Written (reader : Reader) (field : StockField) (bytes out now : List ℕ) (at position : ℕ) : Type 0 where
   pub inside : at ≤ length bytes
-  pub none : firstNumber eventRefusal (piecesFrom eventLength bytes at) ≡ 0
+  pub none : firstNumber (eventRefusal field) (piecesFrom (eventLength field) bytes at) ≡ 0
   pub done : List ℕ
   pub size : position ≡ length done
   pub output : now ≡ write 0 done out
-  pub rest : view reader bytes ≡ done ++ joined (viewOf reader) (piecesFrom eventLength bytes at)
+  pub rest : view reader field bytes ≡ done ++ joined (viewOf reader field) (piecesFrom (eventLength field) bytes at)
 
-pub write-start : (reader : Reader) (bytes out : List ℕ) → recordRefusal bytes ≡ 0 → Written reader bytes out out 0 0
+pub write-start : (reader : Reader) (field : StockField) (bytes out : List ℕ) → recordRefusal field bytes ≡ 0 → Written reader field bytes out out 0 0
 unfolding recordRefusal view eventsOf piecesFrom
-write-start reader bytes out z = record {
+write-start reader field bytes out z = record {
   inside = omega arith;
   none = z;
   done = [];
   size = refl;
   output = sym (write-nil 0 out);
-  rest = joined-map (eventView reader) eventOf (cutEvents bytes);
+  rest = joined-map (eventView reader) (eventOf field) (cutEvents field bytes);
 }
 
-module _ (reader : Reader) (bytes : List ℕ) (b : Bytes bytes) (out now : List ℕ) (at position : ℕ) (p : Written reader bytes out now at position) where
-  pub write-end : length bytes ≤ at → now ≡ write 0 (view reader bytes) out
+module _ (reader : Reader) (field : StockField) (bytes : List ℕ) (b : Bytes bytes) (out now : List ℕ) (at position : ℕ) (p : Written reader field bytes out now at position) where
+  pub write-end : length bytes ≤ at → now ≡ write 0 (view reader field bytes) out
   unfolding joined
-  write-end h = p .output ∙ ap (λ (l : List ℕ). write 0 l out) (sym (p .rest ∙ rw (pieces-none eventLength event-some bytes at h, append-nil)))
+  write-end h = p .output ∙ ap (λ (l : List ℕ). write 0 l out) (sym (p .rest ∙ rw (pieces-none (eventLength field) (event-some field) bytes at h, append-nil)))
 
   module _ (h : at < length bytes) where
-    next : piecesFrom eventLength bytes at ≡ eventAt bytes at ∷ piecesFrom eventLength bytes (pieceEnd eventLength bytes at)
-    next = pieces-next eventLength event-some bytes at h
+    next : piecesFrom (eventLength field) bytes at ≡ eventAt field bytes at ∷ piecesFrom (eventLength field) bytes (pieceEnd (eventLength field) bytes at)
+    next = pieces-next (eventLength field) (event-some field) bytes at h
 
-    both : (eventRefusal (eventAt bytes at) ≡ 0) × (firstNumber eventRefusal (piecesFrom eventLength bytes (pieceEnd eventLength bytes at)) ≡ 0)
-    both = first-cons eventRefusal (eventAt bytes at) (piecesFrom eventLength bytes (pieceEnd eventLength bytes at)) (rw next at (p .none))
+    both : (eventRefusal field (eventAt field bytes at) ≡ 0) × (firstNumber (eventRefusal field) (piecesFrom (eventLength field) bytes (pieceEnd (eventLength field) bytes at)) ≡ 0)
+    both = first-cons (eventRefusal field) (eventAt field bytes at) (piecesFrom (eventLength field) bytes (pieceEnd (eventLength field) bytes at)) (rw next at (p .none))
 
-    pub ends : Ends bytes at
-    ends = event-ends bytes b at h (both .0)
+    pub ends : Ends field bytes at
+    ends = event-ends field bytes b at h (both .0)
 
-    rest-next : view reader bytes ≡ (p .done ++ viewOf reader (eventAt bytes at)) ++ joined (viewOf reader) (piecesFrom eventLength bytes
-        (pieceEnd eventLength bytes at))
+    rest-next : view reader field bytes ≡ (p .done ++ viewOf reader field (eventAt field bytes at)) ++ joined (viewOf reader field) (piecesFrom (eventLength field) bytes
+        (pieceEnd (eventLength field) bytes at))
     unfolding joined
-    rest-next = p .rest ∙ rw next (sym (append-assoc (p .done) (viewOf reader (eventAt bytes at)) (joined (viewOf reader) (piecesFrom eventLength bytes
-        (pieceEnd eventLength bytes at)))))
+    rest-next = p .rest ∙ rw next (sym (append-assoc (p .done) (viewOf reader field (eventAt field bytes at)) (joined (viewOf reader field) (piecesFrom (eventLength field) bytes
+        (pieceEnd (eventLength field) bytes at)))))
 
-    module _ {kind size end : ℕ} (k : kind ≡ getD bytes (at + 1) 0) (l : size ≡ lengthOfKind kind) (e : end ≡ at + size) where
-      end-is : end ≡ pieceEnd eventLength bytes at
+    module _ {kind size end : ℕ} (k : kind ≡ getD bytes (at + 1) 0) (l : size ≡ lengthOfKind field kind) (e : end ≡ at + size) where
+      end-is : end ≡ pieceEnd (eventLength field) bytes at
       end-is = e ∙ rw (l, k) (ends .end)
 
-      event-is : take (end - at) (drop at bytes) ≡ eventAt bytes at
+      event-is : take (end - at) (drop at bytes) ≡ eventAt field bytes at
       event-is = rw end-is
 
       pub end-bounds : Between at end (length bytes)
-      end-bounds = end-between eventLength event-some bytes at h end-is
+      end-bounds = end-between (eventLength field) (event-some field) bytes at h end-is
 
-      pub next-taken : eventRefusal (take (end - at) (drop at bytes)) ≡ 0
+      pub next-taken : eventRefusal field (take (end - at) (drop at bytes)) ≡ 0
       next-taken = rw event-is (both .0)
 
-      module _ (room : length (view reader bytes) ≤ length out) where
-        fits : position + length (viewOf reader (take (end - at) (drop at bytes))) ≤ length out
+      module _ (room : length (view reader field bytes) ≤ length out) where
+        fits : position + length (viewOf reader field (take (end - at) (drop at bytes))) ≤ length out
         fits = rw event-is (omega (
           arith,
           ap length rest-next,
-          length-append (p .done ++ viewOf reader (eventAt bytes at)) (joined (viewOf reader) (piecesFrom eventLength bytes (pieceEnd
-              eventLength bytes at))),
-          length-append (p .done) (viewOf reader (eventAt bytes at)),
+          length-append (p .done ++ viewOf reader field (eventAt field bytes at)) (joined (viewOf reader field) (piecesFrom (eventLength field) bytes (pieceEnd
+              (eventLength field) bytes at))),
+          length-append (p .done) (viewOf reader field (eventAt field bytes at)),
           p .size,
         ))
 
         done-fits : 0 + length (p .done) ≤ length out
         done-fits = omega (arith, fits, p .size)
 
-        pub next-room : position + length (viewOf reader (take (end - at) (drop at bytes))) ≤ length now
+        pub next-room : position + length (viewOf reader field (take (end - at) (drop at bytes))) ≤ length now
         next-room = rw (p .output, length-write 0 (p .done) out done-fits) fits
 
-        pub write-turn : {later : List ℕ} {behind : ℕ} → Puts position (viewOf reader (take (end - at) (drop at bytes))) now later behind
-            → Written reader bytes out later end behind
+        pub write-turn : {later : List ℕ} {behind : ℕ} → Puts position (viewOf reader field (take (end - at) (drop at bytes))) now later behind
+            → Written reader field bytes out later end behind
         write-turn {later} {behind} q =
-            let v = viewOf reader (eventAt bytes at) in
+            let v = viewOf reader field (eventAt field bytes at) in
             let bounds = end-bounds in
-            let same = ap (viewOf reader) event-is in
+            let same = ap (viewOf reader field) event-is in
             let from : position ≡ 0 + length (p .done) = omega (arith, p .size) in
             record {
               inside = bounds .inside;

@@ -4,16 +4,18 @@ use mathlib.Core.List.{List, [], _∷_}
 use Rattle.lists.specs.Lists.{joined}
 use Rattle.buffer.specs.Number.{bytesOf}
 use Rattle.frame.specs.Layout.{gatewayWidth}
+use Rattle.memory.specs.Layout.{stockWidth}
 use Rattle.records.specs.Events.{Event, eventsOf}
+use Rattle.records.specs.declared.StockField.{StockField}
 use Rattle.views.specs.Fields.{Field, hour, kind, quantity, stock, failed, fitted, short, lamp, origin, Place, holds, lacks, seen}
 use Rattle.views.specs.declared.Reader.{Reader}
 
--- a field's bytes, as wide as in the record, numbers high byte first
+-- a field's bytes, as wide as in the record, numbers high byte first; an old stock is written as wide as the new one
 unfoldable pub fieldBytes : Field → List ℕ
 fieldBytes (hour n) = bytesOf 4 n
 fieldBytes (kind n) = bytesOf 1 n
 fieldBytes (quantity n) = bytesOf 2 n
-fieldBytes (stock n) = bytesOf 2 n
+fieldBytes (stock n) = bytesOf stockWidth n
 fieldBytes (failed n) = bytesOf 4 n
 fieldBytes (fitted n) = bytesOf 4 n
 fieldBytes (short n) = bytesOf 4 n
@@ -42,6 +44,6 @@ abbrev pub eventView : Reader → Event → List ℕ
 eventView reader e = placesBytes (seen reader e)
 
 -- and of a record: of each event in turn
-unfoldable pub view : Reader → List ℕ → List ℕ
+unfoldable pub view : Reader → StockField → List ℕ → List ℕ
 unfolding seen placesBytes eventsOf joined
-view reader bytes = joined (eventView reader) (eventsOf bytes)
+view reader field bytes = joined (eventView reader) (eventsOf field bytes)

@@ -6,23 +6,24 @@ use mathlib.Core.List.{List, map}
 use Rattle.buffer.specs.Slice.{Bytes}
 use Rattle.model.specs.Messages.{kindNumber, originOf, quantityOf}
 use Rattle.records.specs.Events.{Event, recordRefusal, eventsOf}
+use Rattle.records.specs.declared.StockField.{StockField}
 use Rattle.views.specs.Fields.{Place, seen}
 use Rattle.views.specs.Bytes.{view}
-use Rattle.views.specs.Viewing.{readerOf, viewed}
+use Rattle.views.specs.Viewing.{readerOf, stockFieldOf, viewed}
 use Rattle.views.specs.declared.Reader.{Reader}
 use Rattle.views.specs.declared.Reader.the-variants.{Purchasing, Maintenance}
 
 -- a record is taken: no event of it is refused
-abbrev pub Taken : List ℕ → Type 0
-Taken bytes = recordRefusal bytes ≡ 0
+abbrev pub Taken : StockField → List ℕ → Type 0
+Taken field bytes = recordRefusal field bytes ≡ 0
 
 -- the fields of a reader's view, event by event
-abbrev pub fieldsSeen : Reader → List ℕ → List (List Place)
-fieldsSeen reader bytes = map (seen reader) (eventsOf bytes)
+abbrev pub fieldsSeen : Reader → StockField → List ℕ → List (List Place)
+fieldsSeen reader field bytes = map (seen reader) (eventsOf field bytes)
 
--- two records agree in the fields of a reader's view, event by event
-abbrev pub Agree : Reader → List ℕ → List ℕ → Type 0
-Agree reader r s = fieldsSeen reader r ≡ fieldsSeen reader s
+-- two records with one kind of stock agree in the fields of a reader's view, event by event
+abbrev pub Agree : Reader → StockField → List ℕ → List ℕ → Type 0
+Agree reader field r s = fieldsSeen reader field r ≡ fieldsSeen reader field s
 
 pub record Secrecy : Type 0 where
   -- purchasing sees no lamp, no origin and no other gateway: events alike in hour, kind, quantity and state give it the same fields
@@ -31,9 +32,12 @@ pub record Secrecy : Type 0 where
   -- maintenance sees no quantity and nothing of a state: events alike in hour, kind, lamp and origin give it the same fields
   pub maintenance : (d e : Event) → d .message .hour ≡ e .message .hour → kindNumber (d .message .kind) ≡ kindNumber (e .message .kind)
       → d .message .lamp ≡ e .message .lamp → originOf (d .message .kind) ≡ originOf (e .message .kind) → seen Maintenance d ≡ seen Maintenance e
-  -- two records that are taken and agree in the fields of a view give that reader equal bytes
-  pub equal : (reader : Reader) (r s : List ℕ) → Taken r → Taken s → Agree reader r s → view reader r ≡ view reader s
+  -- two records with one kind of stock that are taken and agree in the fields of a view give that reader equal bytes
+  pub equal : (reader : Reader) (field : StockField) (r s : List ℕ) → Taken field r → Taken field s → Agree reader field r s
+      → view reader field r ≡ view reader field s
   -- so that the two calls leave the same, number, count and output, whatever the output was
-  pub calls : (reader : ℕ) (r s out : List ℕ) → Bytes r → Bytes s → Taken r → Taken s → Agree (readerOf reader) r s → viewed reader r out ≡ viewed reader s out
+  pub calls : (reader oldStock : ℕ) (r s out : List ℕ) → Bytes r → Bytes s → Taken (stockFieldOf oldStock) r → Taken (stockFieldOf oldStock) s
+      → Agree (readerOf reader) (stockFieldOf oldStock) r s → viewed reader oldStock r out ≡ viewed reader oldStock s out
   -- and nothing that a reader is to see is lost: equal bytes tell equal fields
-  pub told : (reader : Reader) (r s : List ℕ) → Bytes r → Bytes s → Taken r → Taken s → view reader r ≡ view reader s → Agree reader r s
+  pub told : (reader : Reader) (field : StockField) (r s : List ℕ) → Bytes r → Bytes s → Taken field r → Taken field s
+      → view reader field r ≡ view reader field s → Agree reader field r s

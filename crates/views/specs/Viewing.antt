@@ -6,6 +6,8 @@ use lib.Dec.{leb, ltb, eqb}
 use lib.ListN.{length}
 use Rattle.buffer.specs.Slice.{write}
 use Rattle.records.specs.Events.{recordRefusal}
+use Rattle.records.specs.declared.StockField.{StockField}
+use Rattle.records.specs.declared.StockField.the-variants.{Present, Old}
 use Rattle.views.specs.Bytes.{view}
 use Rattle.views.specs.declared.Reader.{Reader}
 use Rattle.views.specs.declared.Reader.the-variants.{Purchasing, Maintenance}
@@ -15,9 +17,13 @@ use Rattle.views.specs.declared.ViewAnswer.{ViewAnswer}
 abbrev pub readerOf : ℕ → Reader
 readerOf number = cond (eqb number 0) Purchasing Maintenance
 
--- one of them, and a record of fewer than 2^48 bytes; else 8
-abbrev pub askable : ℕ → List ℕ → Bool
-askable reader bytes = ltb reader 2 && ltb (length bytes) (2 ^ 48)
+-- whether a record has the old stock: 0 no, 1 yes
+abbrev pub stockFieldOf : ℕ → StockField
+stockFieldOf number = cond (eqb number 0) Present Old
+
+-- one of these numbers each, and a record of fewer than 2^48 bytes; else 8
+abbrev pub askable : (reader oldStock : ℕ) → List ℕ → Bool
+askable reader oldStock bytes = ltb reader 2 && (ltb oldStock 2 && ltb (length bytes) (2 ^ 48))
 
 -- what the call leaves: its answer and the output
 pub record ViewResult : Type 0 where
@@ -36,13 +42,14 @@ putView bytes out =
     (refusedView 5 out)
 
 -- the refusals of the record, event by event, and 5 last
-unfoldable pub viewFor : Reader → List ℕ → List ℕ → ViewResult
+unfoldable pub viewFor : Reader → StockField → List ℕ → List ℕ → ViewResult
 unfolding recordRefusal view putView
-viewFor reader bytes out =
-    let number = recordRefusal bytes in
-    cond (eqb number 0) (putView (view reader bytes) out) (refusedView number out)
+viewFor reader field bytes out =
+    let number = recordRefusal field bytes in
+    cond (eqb number 0) (putView (view reader field bytes) out) (refusedView number out)
 
 -- 8 first of all
-unfoldable pub viewed : ℕ → List ℕ → List ℕ → ViewResult
+unfoldable pub viewed : (reader oldStock : ℕ) → List ℕ → List ℕ → ViewResult
 unfolding viewFor
-viewed reader bytes out = cond (askable reader bytes) (viewFor (readerOf reader) bytes out) (refusedView 8 out)
+viewed reader oldStock bytes out =
+    cond (askable reader oldStock bytes) (viewFor (readerOf reader) (stockFieldOf oldStock) bytes out) (refusedView 8 out)

@@ -2,6 +2,7 @@
 // One pass checks the record and measures the view, one writes it.
 use buffer::copy_four;
 use buffer::copy_two;
+use buffer::write16;
 use frame::lamps::LAMP_END;
 use frame::lamps::LAMP_PLACE;
 use frame::tables::HOUR_PLACE;
@@ -9,19 +10,22 @@ use frame::tables::ORIGIN_PLACE;
 use frame::tables::QUANTITY_END;
 use frame::tables::QUANTITY_PLACE;
 use memory::STATE_SIZE;
+use records::StockField;
 use records::event_at;
 use records::event_length;
 ghost use mathlib.Core.Path.{_≡_};
 ghost use Prim.Native.Nat.{_+_, _≤_};
+ghost use mathlib.Core.List.{_∷_};
 ghost use lib.ListN.{length};
 ghost use Rattle.buffer.specs.Slice.{part, write, Puts};
-ghost use Rattle.records.specs.Events.{recordRefusal, eventRefusal, eventOf};
+ghost use Rattle.memory.specs.Layout.{stateSize};
+ghost use Rattle.records.specs.Events.{stateSizeOf, recordRefusal, eventRefusal, eventOf};
 ghost use Rattle.views.specs.Bytes as Bytes;
 ghost use Rattle.views.specs.Bytes.{eventView};
 ghost use Rattle.views.specs.Viewing as Viewing;
 ghost use Rattle.views.specs.Viewing.{viewFor, viewed};
 ghost use Rattle.views.specs.declared.Reader.the-variants.{Purchasing, Maintenance};
-ghost use Rattle.views.specs.inside.Parts.{lengthFor, measuredAs, headOf, frontOf, stateFrom};
+ghost use Rattle.views.specs.inside.Parts.{lengthFor, measuredAs, headOf, frontOf, stateFrom, widened};
 
 // Who reads a record.
 pub enum Reader {
@@ -59,22 +63,30 @@ const MAINTENANCE_MAP: u8 = 15;
 
 const MAINTENANCE_RESTOCK_MAP: u8 = 3;
 
+// The bytes of purchasing's view: map, hour and kind, of a Restock the quantity, and the state.
+const PURCHASING_LENGTH: usize = 6 + STATE_SIZE;
+
+const PURCHASING_RESTOCK_LENGTH: usize = 8 + STATE_SIZE;
+
 // Where the state stands in an event of the record, behind the frame: of a Failure, Request or Delivery, and of a Restock.
 const LAMP_STATE: usize = LAMP_END;
 
 const RESTOCK_STATE: usize = QUANTITY_END;
 
-// The view of a record for a reader, by its number.
-pub fn view(bytes: &[u8], output: &mut [u8], reader: u32) -> ViewAnswer
-    ensures { λ r. ⌜ record { answer = r; output = now (output .exit) } ≡ viewed reader (now (bytes .entry)) (now (output .entry)) ⌝ }
+// The view of a record for a reader, by its number; old_stock is 1 for a record with the old stock, else 0.
+pub fn view(bytes: &[u8], output: &mut [u8], reader: u32, old_stock: u32) -> ViewAnswer
+    ensures { λ r. ⌜ record { answer = r; output = now (output .exit) } ≡ viewed reader «old_stock» (now (bytes .entry)) (now (output .entry)) ⌝ }
 {
     if reader >= 2 {
+        return refused(8);
+    }
+    if old_stock >= 2 {
         return refused(8);
     }
     if bytes.len() >= RECORD_LIMIT {
         return refused(8);
     }
-    view_for(bytes, output, reader_of(reader))
+    view_for(bytes, output, reader_of(reader), stock_of(old_stock))
 }
 
 fn reader_of(number: u32) -> Reader
@@ -86,6 +98,15 @@ fn reader_of(number: u32) -> Reader
     Reader::Maintenance
 }
 
+fn stock_of(number: u32) -> StockField
+    ensures { λ r. ⌜ r ≡ Viewing.stockFieldOf number ⌝ }
+{
+    if number == 0 {
+        return StockField::Present;
+    }
+    StockField::Old
+}
+
 fn refused(number: u8) -> ViewAnswer
     ensures { λ r. ⌜ r ≡ record { number = number; written = 0 } ⌝ }
 {
@@ -93,17 +114,17 @@ fn refused(number: u8) -> ViewAnswer
 }
 
 // The refusals of the record come first, event by event, and 5 last.
-fn view_for(bytes: &[u8], output: &mut [u8], reader: Reader) -> ViewAnswer
-    ensures { λ r. ⌜ record { answer = r; output = now (output .exit) } ≡ viewFor reader (now (bytes .entry)) (now (output .entry)) ⌝ }
+fn view_for(bytes: &[u8], output: &mut [u8], reader: Reader, stock: StockField) -> ViewAnswer
+    ensures { λ r. ⌜ record { answer = r; output = now (output .exit) } ≡ viewFor reader stock (now (bytes .entry)) (now (output .entry)) ⌝ }
 {
-    let measured = measure(bytes, reader);
+    let measured = measure(bytes, reader, stock);
     if measured.number != 0 {
         return refused(measured.number);
     }
     if output.len() < measured.length {
         return refused(5);
     }
-    write_view(bytes, output, reader);
+    write_view(bytes, output, reader, stock);
     ViewAnswer {
         number: 0,
         written: measured.length,
@@ -111,13 +132,13 @@ fn view_for(bytes: &[u8], output: &mut [u8], reader: Reader) -> ViewAnswer
 }
 
 // One pass over the record: its first refusal, and the length of the view.
-fn measure(bytes: &[u8], reader: Reader) -> Measured
-    ensures { λ r. ⌜ r ≡ measuredAs reader (now (bytes .entry)) ⌝ }
+fn measure(bytes: &[u8], reader: Reader, stock: StockField) -> Measured
+    ensures { λ r. ⌜ r ≡ measuredAs reader stock (now (bytes .entry)) ⌝ }
 {
     let mut length = 0;
     let mut at = 0;
     while at < bytes.len() {
-        let found = event_at(bytes, at);
+        let found = event_at(bytes, at, stock);
         if found.number != 0 {
             return Measured {
                 number: found.number,
@@ -135,49 +156,55 @@ fn length_for(reader: Reader, kind: u8) -> usize
     ensures { λ r. ⌜ r ≡ lengthFor reader kind ⌝ }
 {
     match reader {
-        Reader::Purchasing => { if kind == 3 { 22 } else { 20 } }
+        Reader::Purchasing => {
+            if kind == 3 {
+                PURCHASING_RESTOCK_LENGTH
+            } else {
+                PURCHASING_LENGTH
+            }
+        }
         Reader::Maintenance => { if kind == 3 { 6 } else { 25 } }
     }
 }
 
 // Writes the view of a record that is taken.
-fn write_view(bytes: &[u8], output: &mut [u8], reader: Reader)
-    requires { ⌜ (recordRefusal (now bytes) ≡ 0) × (length (Bytes.view reader (now bytes)) ≤ length (now output)) ⌝ }
-    ensures { λ _. ⌜ now (output .exit) ≡ write 0 (Bytes.view reader (now (bytes .entry))) (now (output .entry)) ⌝ }
+fn write_view(bytes: &[u8], output: &mut [u8], reader: Reader, stock: StockField)
+    requires { ⌜ (recordRefusal stock (now bytes) ≡ 0) × (length (Bytes.view reader stock (now bytes)) ≤ length (now output)) ⌝ }
+    ensures { λ _. ⌜ now (output .exit) ≡ write 0 (Bytes.view reader stock (now (bytes .entry))) (now (output .entry)) ⌝ }
 {
     let mut at = 0;
     let mut position = 0;
     while at < bytes.len() {
-        let end = at + event_length(bytes[at + 1]);
-        position = put_event(output, position, &bytes[at..end], reader);
+        let end = at + event_length(bytes[at + 1], stock);
+        position = put_event(output, position, &bytes[at..end], reader, stock);
         at = end;
     }
 }
 
 // Puts what the reader gets of an event from a position on, and gives the position behind it.
-fn put_event(output: &mut [u8], at: usize, event: &[u8], reader: Reader) -> usize
-    requires { ⌜ (eventRefusal (now event) ≡ 0) × (at + length (eventView reader (eventOf (now event))) ≤ length (now output)) ⌝ }
-    ensures { λ r. ⌜ Puts at (eventView reader (eventOf (now (event .entry)))) (now (output .entry)) (now (output .exit)) r ⌝ }
+fn put_event(output: &mut [u8], at: usize, event: &[u8], reader: Reader, stock: StockField) -> usize
+    requires { ⌜ (eventRefusal stock (now event) ≡ 0) × (at + length (eventView reader (eventOf stock (now event))) ≤ length (now output)) ⌝ }
+    ensures { λ r. ⌜ Puts at (eventView reader (eventOf stock (now (event .entry)))) (now (output .entry)) (now (output .exit)) r ⌝ }
 {
     match reader {
-        Reader::Purchasing => put_for_purchasing(output, at, event),
-        Reader::Maintenance => put_for_maintenance(output, at, event),
+        Reader::Purchasing => put_for_purchasing(output, at, event, stock),
+        Reader::Maintenance => put_for_maintenance(output, at, event, stock),
     }
 }
 
 // Hour, kind, quantity and the state.
-fn put_for_purchasing(output: &mut [u8], at: usize, event: &[u8]) -> usize
-    requires { ⌜ (eventRefusal (now event) ≡ 0) × (at + length (eventView Purchasing (eventOf (now event))) ≤ length (now output)) ⌝ }
-    ensures { λ r. ⌜ Puts at (eventView Purchasing (eventOf (now (event .entry)))) (now (output .entry)) (now (output .exit)) r ⌝ }
+fn put_for_purchasing(output: &mut [u8], at: usize, event: &[u8], stock: StockField) -> usize
+    requires { ⌜ (eventRefusal stock (now event) ≡ 0) × (at + length (eventView Purchasing (eventOf stock (now event))) ≤ length (now output)) ⌝ }
+    ensures { λ r. ⌜ Puts at (eventView Purchasing (eventOf stock (now (event .entry)))) (now (output .entry)) (now (output .exit)) r ⌝ }
 {
-    let front = put_front(output, at, event);
-    copy_state(output, front.position, event, front.state);
+    let front = put_front(output, at, event, stock);
+    put_state(output, front.position, event, front.state, stock);
     front.position + STATE_SIZE
 }
 
 // What stands before the state: map, hour, kind and the quantity of a Restock.
-fn put_front(output: &mut [u8], at: usize, event: &[u8]) -> Front
-    requires { ⌜ (eventRefusal (now event) ≡ 0) × (at + length (frontOf (now event)) ≤ length (now output)) ⌝ }
+fn put_front(output: &mut [u8], at: usize, event: &[u8], stock: StockField) -> Front
+    requires { ⌜ (eventRefusal stock (now event) ≡ 0) × (at + length (frontOf (now event)) ≤ length (now output)) ⌝ }
     ensures { λ r. ⌜ Puts at (frontOf (now (event .entry))) (now (output .entry)) (now (output .exit)) (r .position) × (r .state ≡ stateFrom (now (event .entry))) ⌝ }
 {
     if event[1] == 3 {
@@ -196,9 +223,9 @@ fn put_front(output: &mut [u8], at: usize, event: &[u8]) -> Front
 }
 
 // Hour, kind, lamp and origin.
-fn put_for_maintenance(output: &mut [u8], at: usize, event: &[u8]) -> usize
-    requires { ⌜ (eventRefusal (now event) ≡ 0) × (at + length (eventView Maintenance (eventOf (now event))) ≤ length (now output)) ⌝ }
-    ensures { λ r. ⌜ Puts at (eventView Maintenance (eventOf (now (event .entry)))) (now (output .entry)) (now (output .exit)) r ⌝ }
+fn put_for_maintenance(output: &mut [u8], at: usize, event: &[u8], stock: StockField) -> usize
+    requires { ⌜ (eventRefusal stock (now event) ≡ 0) × (at + length (eventView Maintenance (eventOf stock (now event))) ≤ length (now output)) ⌝ }
+    ensures { λ r. ⌜ Puts at (eventView Maintenance (eventOf stock (now (event .entry)))) (now (output .entry)) (now (output .exit)) r ⌝ }
 {
     if event[1] == 3 {
         put_head(output, at, MAINTENANCE_RESTOCK_MAP, event);
@@ -220,15 +247,44 @@ fn put_head(output: &mut [u8], at: usize, map: u8, event: &[u8])
     output[at + 5] = event[1];
 }
 
-// Copies the fourteen bytes of a state.
-fn copy_state(output: &mut [u8], at: usize, event: &[u8], from: usize)
-    requires { ⌜ (at + 14 ≤ length (now output)) × (from + 14 ≤ length (now event)) ⌝ }
-    ensures { λ _. ⌜ now (output .exit) ≡ write at (part (now (event .entry)) from 14) (now (output .entry)) ⌝ }
+// Puts a state with its stock in four bytes.
+fn put_state(output: &mut [u8], at: usize, event: &[u8], from: usize, stock: StockField)
+    requires { ⌜ (at + stateSize ≤ length (now output)) × (from + stateSizeOf stock ≤ length (now event)) ⌝ }
+    ensures { λ _. ⌜ now (output .exit) ≡ write at (widened stock (part (now (event .entry)) from (stateSizeOf stock))) (now (output .entry)) ⌝ }
 {
-    copy_two(output, at, event, from);
-    copy_four(output, at + 2, event, from + 2);
-    copy_four(output, at + 6, event, from + 6);
-    copy_four(output, at + 10, event, from + 10);
+    match stock {
+        StockField::Present => copy_state(output, at, event, from),
+        StockField::Old => copy_old_state(output, at, event, from),
+    }
+}
+
+// Copies the sixteen bytes of a state.
+fn copy_state(output: &mut [u8], at: usize, event: &[u8], from: usize)
+    requires { ⌜ (at + 16 ≤ length (now output)) × (from + 16 ≤ length (now event)) ⌝ }
+    ensures { λ _. ⌜ now (output .exit) ≡ write at (part (now (event .entry)) from 16) (now (output .entry)) ⌝ }
+{
+    copy_four(output, at, event, from);
+    copy_counters(output, at + 4, event, from + 4);
+}
+
+// Copies the fourteen bytes of a state with the old stock behind two zero bytes.
+fn copy_old_state(output: &mut [u8], at: usize, event: &[u8], from: usize)
+    requires { ⌜ (at + 16 ≤ length (now output)) × (from + 14 ≤ length (now event)) ⌝ }
+    ensures { λ _. ⌜ now (output .exit) ≡ write at (0 ∷ 0 ∷ part (now (event .entry)) from 14) (now (output .entry)) ⌝ }
+{
+    write16(output, at, 0);
+    copy_two(output, at + 2, event, from);
+    copy_counters(output, at + 4, event, from + 2);
+}
+
+// Copies the twelve bytes of failed, fitted and short.
+fn copy_counters(output: &mut [u8], at: usize, event: &[u8], from: usize)
+    requires { ⌜ (at + 12 ≤ length (now output)) × (from + 12 ≤ length (now event)) ⌝ }
+    ensures { λ _. ⌜ now (output .exit) ≡ write at (part (now (event .entry)) from 12) (now (output .entry)) ⌝ }
+{
+    copy_four(output, at, event, from);
+    copy_four(output, at + 4, event, from + 4);
+    copy_four(output, at + 8, event, from + 8);
 }
 
 // Copies the eighteen bytes of the lamp.

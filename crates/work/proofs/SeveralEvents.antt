@@ -6,12 +6,14 @@ use Prim.Native.Nat.{ℕ, _+_, _-_, _*_, _≤_, _<_}
 use native.Mathlib.Nat.{zero-add}
 use native.Mathlib.Omega.{arith}
 use lib.ListN.{length, length-append}
+use Rattle.lists.proofs.ListLaws.{tally-behind}
 use Rattle.buffer.specs.Slice.{Bytes, Puts}
 use Rattle.memory.specs.Records.{Gateway}
 use Rattle.memory.specs.Layout.{outstandingAt, outstandingSize}
 use Rattle.memory.specs.Codec.{decode}
 use Rattle.memory.specs.inside.Pieces.{headerWritten}
 use Rattle.memory.specs.inside.Checking.{checkedAs}
+use Rattle.memory.specs.Validity.{stillBrings}
 use Rattle.memory.specs.declared.Header.{Header}
 use Rattle.memory.specs.declared.Checked.{Checked}
 use Rattle.memory.proofs.Validated.{valid-facts}
@@ -24,7 +26,7 @@ use Rattle.gateway.proofs.Calling.{unsound}
 use Rattle.gateway.specs.declared.Worked.{Worked}
 use Rattle.effects.specs.inside.Placed.{Placed}
 use Rattle.effects.specs.inside.Sending.{frameOf, storedFrames}
-use Rattle.effects.proofs.PlacedLaws.{placed-first, placed-inside, placed-last}
+use Rattle.effects.proofs.PlacedLaws.{placed-first, placed-inside, placed-last, placed-rest}
 use Rattle.effects.proofs.StoredSent.{Stored, sent-stored}
 use Rattle.replies.specs.inside.Turns.{Ready, Reached, Turned, Turns}
 use Rattle.replies.specs.declared.Turn.{Turn}
@@ -91,6 +93,10 @@ module _ {w : Progress} {before : List ℕ} {room : ℕ} {memory : List ℕ} {t 
         outstanding = i .outstanding;
         place = rw queued (came .reached .behind);
         written = rw (came .written) (came .inside);
+        stock =
+            let behind : t .place ≤ t .header .queued = rw queued (came .reached .behind) in
+            let state : t .header .state .stock ≡ w .gateway .state .stock = ap (λ (h : Header). h .state .stock) (p .header) in
+            rw (placed-rest p (t .place) behind, state) (omega (arith, tally-behind stillBrings (t .place) (w .gateway .queue), v .stocks .held));
       }
 
   -- one event more

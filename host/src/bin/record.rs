@@ -1,11 +1,23 @@
 //! The program record: prints record files as a table or as CSV, a line for each event that is picked.
 
 use host::command::{Arguments, Ending, Program};
-use host::event_table::{print_files, program, Columns, Line};
-use host::record::{lamp_text, Event, Kind, Lamp, Record, Records, State};
+use host::event_table::{print_files, stock, Columns, Line};
+use host::events::Unreadable;
+use host::record::{lamp_text, Event, Kind, Lamp, Record, Records, State, Stock};
+use std::ffi::{OsStr, OsString};
+use std::fs::File;
+use std::io::BufReader;
 use std::process::ExitCode;
 
-const PROGRAM: Program = program("record", HELP);
+const PROGRAM: Program = Program {
+    name: "record",
+    usage: &[
+        "[--old-stock] [--csv] [--lamp LAMP]... [--hours FIRST-LAST]... [--kind KIND]... FILE...",
+    ],
+    help: HELP,
+    flags: &["--old-stock", "--csv"],
+    valued: &["--lamp", "--hours", "--kind"],
+};
 
 const HELP: &str = "\
 Prints what a gateway has committed: a line for each event in each FILE, a record file of the
@@ -20,10 +32,15 @@ program forecast. The FILE - is standard input.
   stock, failed, fitted, short
             the state of the gateway after the event
 
+In records of earlier versions the stock has two bytes and not four, and no byte of a record tells it:
+read them with --old-stock, and no others.
+
 A Restock has no origin and no lamp, and no other kind has a quantity: these fields are empty.
 With more than one FILE, a line with its name stands above each table, a FILE of which nothing is
 picked has no table, and CSV has the name in a first column, file.
 
+  --old-stock
+            every FILE is a record of an earlier version
   --csv     comma-separated values, the names of the columns in the first line
   --lamp LAMP
             only events of this lamp
@@ -38,9 +55,10 @@ the lamps, one of the hours and one of the kinds. Every FILE is checked to its e
 Where a FILE is no record from some place on, the events before it are printed, and standard error
 has the place, a number, what it means and why:
 
-  gateway-003.record: no record at byte 41: 11 (length), cut: 5 of a frame's 27 bytes
+  gateway-003.record: no record at byte 43: 11 (length), cut: 5 of a frame's 27 bytes
 
-The place is the first byte of the event, counted from 0. Then comes the next FILE. The numbers, of
+The place is the first byte of the event, counted from 0. Where the FILE is a record with the other
+stock, and not standard input, that is said behind the reason. Then comes the next FILE. The numbers, of
 which an event with several faults has that of the first in this order:
 
   11        a frame of fewer than two bytes
@@ -72,7 +90,7 @@ const COLUMNS: Columns = Columns {
         ("origin", 6),
         ("lamp", 18),
         ("quantity", 8),
-        ("stock", 5),
+        ("stock", 8),
         ("failed", 10),
         ("fitted", 10),
         ("short", 10),
@@ -84,8 +102,21 @@ fn main() -> ExitCode {
 }
 
 fn print(arguments: &Arguments) -> Result<(), Ending> {
-    let events = |input| Records::new(input).map(|record| record.map(Recorded));
+    let stock = stock(arguments);
+    let events = |file: &OsStr, input| {
+        let file = file.to_os_string();
+        Records::with_stock(input, stock)
+            .map(move |record| record.map(Recorded).map_err(|why| advised(why, &file, stock)))
+    };
     print_files(arguments, events, |_| Some(COLUMNS))
+}
+
+/// Why a file cannot be read, with what to do if it is a record with the other stock. Standard input is not read again.
+fn advised(why: Unreadable, file: &OsString, stock: Stock) -> Unreadable {
+    match File::open(file) {
+        Ok(again) if file != "-" => stock.advised(why, BufReader::new(again)),
+        _ => why,
+    }
 }
 
 /// An event of a record.

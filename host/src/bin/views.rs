@@ -1,14 +1,26 @@
-//! The program views: prints what purchasing or maintenance sees of records as a table or as CSV, a line for each event that is picked.
+//! The program views: prints what purchasing or maintenance sees of records as a table or as CSV, a line for each event that is picked; and
+//! makes such a view of a record.
 
-use host::command::{Arguments, Ending, Program};
-use host::event_table::{print_files, program, Columns, Line};
-use host::record::{lamp_text, Kind, Lamp, State};
-use host::view::{Fields, Viewed, Views};
+use host::command::{input_bytes, printed, shown, Arguments, Ending, Program};
+use host::event_table::{print_files, stock, Columns, Line, NOT_ALL_PRINTED};
+use host::record::{lamp_text, Kind, Lamp, Records, State};
+use host::view::{Fields, Reader, Viewed, Views, READERS};
+use library::Library;
 use std::ffi::OsStr;
+use std::io::{self, Write};
 use std::path::Path;
 use std::process::ExitCode;
 
-const PROGRAM: Program = program("views", HELP);
+const PROGRAM: Program = Program {
+    name: "views",
+    usage: &[
+        "[--csv] [--lamp LAMP]... [--hours FIRST-LAST]... [--kind KIND]... FILE...",
+        "--make READER [--old-stock] RECORD",
+    ],
+    help: HELP,
+    flags: &["--csv", "--old-stock"],
+    valued: &["--lamp", "--hours", "--kind", "--make"],
+};
 
 const HELP: &str = "\
 Prints what purchasing or maintenance sees of what a gateway has committed: a line for each event in
@@ -61,12 +73,24 @@ several faults the first in this order is named: a map that no view has, or that
 reader than the events before it; an event that is cut; a kind that no event has; the map of another
 kind; the hour 4294967295; a byte of the lamp that is not 33 to 126; the origin 255.
 
-Status: 0 if every FILE is a view, 1 if one is not or is for the other reader in CSV, 2 for a bad
-usage, 3 if a FILE cannot be read or standard output cannot be written; where there are several, the
-highest.
+The program forecast makes the views of its records. In purchasing's views of earlier versions the
+stock has two bytes and not four: they are no views any more. Make them again of their records:
+
+  --make READER
+            write to standard output what the READER, purchasing or maintenance, sees of a RECORD, a
+            record file of the program forecast; the RECORD - is standard input
+  --old-stock
+            the RECORD is one of an earlier version, in which the stock has two bytes
+
+A RECORD that is none is named with its place and why, as the program record names it.
+
+Status: 0 if every FILE is a view and the RECORD a record, 1 if one is not or is for the other reader
+in CSV, 2 for a bad usage, 3 if a file cannot be read or standard output cannot be written; where there
+are several, the highest.
 
   views --hours 8761-17520 --kind restock result/gateway-021.purchasing
   views --csv --lamp D07-POLE-000000042 result/*.maintenance >lamp.csv
+  views --make purchasing --old-stock old/gateway-021.record >gateway-021.purchasing
 ";
 
 const FOR_PURCHASING: Columns = Columns {
@@ -75,7 +99,7 @@ const FOR_PURCHASING: Columns = Columns {
         ("hour", 10),
         ("kind", 8),
         ("quantity", 8),
-        ("stock", 5),
+        ("stock", 8),
         ("failed", 10),
         ("fitted", 10),
         ("short", 10),
@@ -87,12 +111,47 @@ const FOR_MAINTENANCE: Columns = Columns {
 };
 
 fn main() -> ExitCode {
-    PROGRAM.run(print)
+    PROGRAM.run(print_or_make)
+}
+
+fn print_or_make(arguments: &Arguments) -> Result<(), Ending> {
+    let bad_usage = |what: String| Err(Ending::BadUsage(what));
+    let Some(reader) = arguments.parsed("--make", reader)? else {
+        return match arguments.has("--old-stock") {
+            true => bad_usage("--old-stock is said of a RECORD, with --make".into()),
+            false => print(arguments),
+        };
+    };
+    let printing = ["--csv", "--lamp", "--hours", "--kind"];
+    match printing.into_iter().find(|option| arguments.has(option)) {
+        Some(option) => bad_usage(format!("--make and {option} contradict each other")),
+        None => make(reader, arguments),
+    }
 }
 
 fn print(arguments: &Arguments) -> Result<(), Ending> {
-    let events = |input| Views::new(input).map(|event| event.map(Seen));
+    let events = |_: &OsStr, input| Views::new(input).map(|event| event.map(Seen));
     print_files(arguments, events, named_columns)
+}
+
+/// The reader of this name.
+fn reader(text: &str) -> Result<Reader, String> {
+    let named = |reader: &Reader| reader.to_string() == text;
+    let is_none = || format!("is purchasing or maintenance, not \"{text}\"");
+    READERS.into_iter().find(named).ok_or_else(is_none)
+}
+
+/// Writes what a reader sees of a record.
+fn make(reader: Reader, arguments: &Arguments) -> Result<(), Ending> {
+    let [file] = arguments.exactly(["RECORD"])?;
+    let stock = stock(arguments);
+    let record = input_bytes(file)?;
+    let view = reader.view(&Library, &record, stock).map_err(|what| {
+        let fault = Records::with_stock(&record[..], stock).find_map(Result::err);
+        let what = fault.map_or(what, |why| stock.advised(why, &record[..]).to_string());
+        Ending::Failed(NOT_ALL_PRINTED, format!("{}: {what}", shown(file)))
+    })?;
+    printed(io::stdout().lock().write_all(&view))
 }
 
 /// The columns for the reader that the ending of a file's name tells.

@@ -45,9 +45,11 @@ put-record-requires c κs =
     let at-whole-length = at-if1 .before in
     let at-map-of = at-whole-length .before in
     let at-frame-if = at-map-of .before in
-    let start = at-frame-if .before .before .before .before in
-    record-room (start .args .entry) (start .pre .2) (start .args .memory .now) (start .args .output .now) (start .args .k)
-    (at-frame-if .frame-if .ensures) (at-map-of .map-of .ensures) (at-whole-length .whole-length .ensures) (at-if1 .if1 .left)
+    let start = at-frame-if .before .before .before .before in (
+      record-room (start .args .entry) (start .pre .2) (start .args .memory .now) (start .args .output .now) (start .args .k)
+          (at-frame-if .frame-if .ensures) (at-map-of .map-of .ensures) (at-whole-length .whole-length .ensures) (at-if1 .if1 .left),
+      start .pre .3,
+    )
 
 remove-entry-requires : tie.Need-remove-entry-requires
 remove-entry-requires c κs = search needs

@@ -13,14 +13,14 @@ frame-if-requires c κs = search needs
 put-frame-requires : tie.Need-put-frame-requires
 put-frame-requires c κs =
     let start = c .before .before .before .before .before in
-    frame-room (start .args .entry) (start .args .output .now) (start .pre) (c .frame-if .ensures)
+    frame-room (start .args .entry) (start .args .output .now) (start .pre .0) (c .frame-if .ensures)
 
 write-state-requires : tie.Need-write-state-requires
 write-state-requires c κs =
     let at-put-frame = c .before .before .before in
     let at-frame-if = at-put-frame .before in
     let start = at-frame-if .before .before .before .before .before in
-    state-room (start .args .entry) (start .args .output .now) (start .pre) (at-frame-if .frame-if .ensures)
+    state-room (start .args .entry) (start .args .output .now) (start .pre .0) (at-frame-if .frame-if .ensures)
     (at-put-frame .put-frame .ensures)
 
 same-length : tie.Need-same-length
@@ -33,7 +33,7 @@ returns c =
     let at-frame-if = at-put-frame .before in
     let at-state-after = at-frame-if .before .before in
     let start = at-state-after .before .before .before in
-    record-put (start .args .entry) (start .args .output .now) (start .pre) (at-frame-if .frame-if .ensures)
+    record-put (start .args .entry) (start .args .output .now) (start .pre .0) (at-frame-if .frame-if .ensures)
     (at-put-frame .put-frame .ensures) (at-state-after .state-after .ensures) (at-write-state .write-state .ensures)
 
 pub put-record-spec : {M : Type 1} → statement M

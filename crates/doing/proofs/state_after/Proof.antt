@@ -28,8 +28,11 @@ count-requires-3 c κs = search needs
 enum-known-kind : tie.Need-enum-known-kind
 enum-known-kind c = search needs
 
-shelve-requires : tie.Need-shelve-requires
-shelve-requires c κs = search needs
+cast-next : tie.Need-cast-next
+cast-next c = search needs
+
+add-next : tie.Need-add-next
+add-next c = search needs
 
 enum-told-4 : tie.Need-enum-told-4
 enum-told-4 c = search needs
@@ -76,7 +79,8 @@ state-after-spec =
     enum-told-3
     count-requires-3
     enum-known-kind
-    shelve-requires
+    cast-next
+    add-next
     enum-told-4
     enum-told-5
     enum-told-6

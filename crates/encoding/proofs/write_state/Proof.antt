@@ -4,8 +4,8 @@ use Rattle.memory.proofs.Stored.{state-stored}
 use Rattle.encoding.proofs.write_state.Statement.{statement}
 use Rattle.encoding.proofs.write_state.Tie as tie
 
-write16-requires : tie.Need-write16-requires
-write16-requires c κs = search needs
+write32-requires : tie.Need-write32-requires
+write32-requires c κs = search needs
 
 add-write-three : tie.Need-add-write-three
 add-write-three c = search needs
@@ -22,4 +22,4 @@ returns c = search state-stored
 pub write-state-spec : {M : Type 1} → statement M
 write-state-spec =
     tie.close
-    (tie.spec write16-requires add-write-three write-three-requires same-length returns)
+    (tie.spec write32-requires add-write-three write-three-requires same-length returns)

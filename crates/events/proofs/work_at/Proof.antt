@@ -58,7 +58,9 @@ write-entry-requires c κs =
     let ready = start .pre .0 in let below = start .pre .1 in omega (arith, ready .long, ready .queued)
 
 state-after-requires : tie.Need-state-after-requires
-state-after-requires c κs = search needs
+state-after-requires c κs =
+    let at-read-entry = c .before .before .before .before .before .before .before .before .before .before .before in
+    let start = at-read-entry .before .before .before .before .before .before in rw (at-read-entry .read-entry .ensures) (start .pre .2)
 
 send-reply-requires : tie.Need-send-reply-requires
 send-reply-requires c κs =

@@ -1,5 +1,5 @@
 -- `events::work_one` meets its contract.
-use Rattle.events.proofs.EventDone.{found-next, none-left, place-below}
+use Rattle.events.proofs.EventDone.{found-next, none-left, place-below, stock-there}
 use borrow.Author.Needs.{needs}
 use Rattle.events.proofs.work_one.Statement.{statement}
 use Rattle.events.proofs.work_one.Tie as tie
@@ -27,8 +27,11 @@ work-at-requires : tie.Need-work-at-requires
 work-at-requires c κs =
     let at-if1 = c .before in
     let at-next-marked = at-if1 .before in
-    let start = at-next-marked .before .before .before .before .before in
-    (start .pre, place-below (start .args .memory .now) (start .pre .place) (at-next-marked .next-marked .ensures) (at-if1 .if1 .left))
+    let start = at-next-marked .before .before .before .before .before in (
+      start .pre,
+      place-below (start .args .memory .now) (start .pre .place) (at-next-marked .next-marked .ensures) (at-if1 .if1 .left),
+      stock-there (start .args .memory .now) _ (start .pre .place) (at-next-marked .next-marked .ensures) (at-if1 .if1 .left) (start .pre .stock),
+    )
 
 same-length-2 : tie.Need-same-length-2
 same-length-2 c = search needs

@@ -13,14 +13,17 @@ frame-end-requires c κs = search needs
 sub-left : tie.Need-sub-left
 sub-left c = let b = end-between wholeLength whole-some _ _ (c .before .before .pre) (c .frame-end .ensures) in search needs
 
+state-size-requires : tie.Need-state-size-requires
+state-size-requires c κs = search needs
+
 sub-read : tie.Need-sub-read
-sub-read c = let b = end-between wholeLength whole-some _ _ (c .before .before .pre) (c .frame-end .ensures) in search needs
+sub-read c = let b = end-between wholeLength whole-some _ _ (c .before .before .before .pre) (c .before .frame-end .ensures) in search needs
 
 part-read-start : tie.Need-part-read-start
-part-read-start c = let b = end-between wholeLength whole-some _ _ (c .before .before .pre) (c .frame-end .ensures) in search needs
+part-read-start c = let b = end-between wholeLength whole-some _ _ (c .before .before .before .pre) (c .before .frame-end .ensures) in search needs
 
 part-read-end : tie.Need-part-read-end
-part-read-end c = let b = end-between wholeLength whole-some _ _ (c .before .before .pre) (c .frame-end .ensures) in search needs
+part-read-end c = let b = end-between wholeLength whole-some _ _ (c .before .before .before .pre) (c .before .frame-end .ensures) in search needs
 
 read-requires : tie.Need-read-requires
 read-requires c κs = search needs
@@ -55,6 +58,7 @@ event-read-spec =
     (tie.spec
     frame-end-requires
     sub-left
+    state-size-requires
     sub-read
     part-read-start
     part-read-end

@@ -5,21 +5,23 @@ use mathlib.Core.Bool.{Bool, true, false, _&&_}
 use mathlib.Core.List.{List}
 use lib.Dec.{leb}
 use lib.ListN.{length, drop}
+use Rattle.lists.specs.Lists.{tally}
 use Rattle.lists.specs.inside.Positions.{firstWhere}
-use Rattle.model.specs.Doing.{sentBy}
+use Rattle.model.specs.Doing.{mostStock, sentBy}
 use Rattle.model.specs.declared.event.Reply.{Reply}
 use Rattle.memory.specs.Records.{Gateway}
-use Rattle.memory.specs.Layout.{sizeFor}
+use Rattle.memory.specs.Layout.{queueSize, queueAt, sizeFor}
+use Rattle.memory.specs.Codec.{entryOf, placesAt}
 use Rattle.memory.specs.inside.Fits.{GatewayFits}
 use Rattle.memory.specs.Ranges.{Ranged}
-use Rattle.memory.specs.Validity.{isPending, valid}
+use Rattle.memory.specs.Validity.{isPending, stillBrings, valid}
 use Rattle.memory.specs.declared.Header.{Header}
 use Rattle.gateway.specs.Effects.{bytesOfFrames, framesFor, sentAll}
 use Rattle.gateway.specs.Working.{Progress, worked}
 use Rattle.effects.specs.inside.Placed.{Placed}
 use Rattle.replies.specs.declared.Turn.{Turn}
 
--- sizes and counts between two events, for an output of so many bytes
+-- sizes and counts between two events, for an output of so many bytes, and a stock that leaves room for the Restocks still to be done
 pub record Ready (memory : List ℕ) (room : ℕ) (t : Turn) : Type 0 where
   pub long : sizeFor (t .header .settings .q) (t .header .settings .u) ≤ length memory
   pub queue-places : t .header .settings .q ≤ 512
@@ -28,6 +30,7 @@ pub record Ready (memory : List ℕ) (room : ℕ) (t : Turn) : Type 0 where
   pub outstanding : t .header .outstanding ≤ t .header .settings .u
   pub place : t .place ≤ t .header .queued
   pub written : t .written ≤ room
+  pub stock : t .header .state .stock + tally stillBrings (placesAt entryOf queueSize memory (queueAt (t .place)) (t .header .queued - t .place)) ≤ mostStock
 
 -- between two events the memory has the places of the valid gateway g, written over `before`, and the next unprocessed plain message stands
 -- from the turn's place on

@@ -9,10 +9,10 @@ use Rattle.single_queue.proofs.run.Tie as tie
 abbrev Inv-loop : tie.InvT-loop
 Inv-loop list queue₀ output₀ record0₀ record1₀ machine₀ k₀ queue output record0 record1 machine k =
     (256 + 64 * machine .count ≤ length queue) × (machine .end0 ≤ length record0) × (machine .end1 ≤ length record1) × (length queue ≡
-    length queue₀) × (length output ≡ length output₀) × (length record0 ≡ length record0₀) × (length record1 ≡ length record1₀)
+    length queue₀) × (length output ≡ length output₀) × (length record0 ≡ length record0₀) × (length record1 ≡ length record1₀) × (machine .state0 .stock ≤ 65535 * (k + 1)) × (machine .state1 .stock ≤ 65535 * (k + 1))
 
 abbrev μ-loop : tie.MeasureT-loop
-μ-loop list queue₀ output₀ record0₀ record1₀ machine₀ k₀ queue output record0 record1 machine k = 1000 - k
+μ-loop list queue₀ output₀ record0₀ record1₀ machine₀ k₀ queue output record0 record1 machine k = 512 - k
 
 enter-list-requires : tie.Need-enter-list-requires Inv-loop μ-loop
 enter-list-requires c κs = search needs

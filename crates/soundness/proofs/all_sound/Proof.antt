@@ -25,10 +25,11 @@ cast-queue-sound c = search needs
 
 queue-sound-requires : tie.Need-queue-sound-requires
 queue-sound-requires c κs =
-    let at-if1 = c .before .before .before in
+    let at-if1 = c .before .before .before .before in
     let at-header-sound = at-if1 .before in
     let start = at-header-sound .before .before .before .before in
-    let facts = header-facts _ (start .pre .1) (at-header-sound .header-sound .ensures) (at-if1 .if1 .left) in omega (arith, facts)
+    let facts = header-facts _ (start .pre .1) (at-header-sound .header-sound .ensures) (at-if1 .if1 .left) in
+    let places = facts .settings .q in (omega (arith, facts), omega (arith, facts), omega (arith, facts))
 
 returns-3 : tie.Need-returns-3
 returns-3 c = search sound-queue
@@ -47,13 +48,13 @@ cast-outstanding-sound c = search needs
 
 outstanding-sound-requires : tie.Need-outstanding-sound-requires
 outstanding-sound-requires c κs =
-    let at-if1 = c .before .before .before .before .before .before .before in
+    let at-if1 = c .before .before .before .before .before .before .before .before in
     let at-header-sound = at-if1 .before in
     let start = at-header-sound .before .before .before .before in
     let facts = header-facts _ (start .pre .1) (at-header-sound .header-sound .ensures) (at-if1 .if1 .left) in omega (arith, facts)
 
 returns-4 : tie.Need-returns-4
-returns-4 c = let pre = c .before .before .before .before .before .before .before .before .before .before .before .before .before .pre in search sound-decided
+returns-4 c = let pre = c .before .before .before .before .before .before .before .before .before .before .before .before .before .before .pre in search sound-decided
 
 pub all-sound-spec : {M : Type 1} → statement M
 all-sound-spec =

@@ -1,25 +1,40 @@
 -- What the internal functions of the test of soundness are proved to compute; no reader has to believe them.
-use Prim.Native.Nat.{ℕ}
-use mathlib.Core.Bool.{Bool, false, not, _&&_, _||_}
+use Prim.Native.Nat.{ℕ, _+_, _-_, max}
+use mathlib.Core.Bool.{Bool, false, cond, not, _&&_, _||_}
 use mathlib.Core.List.{List}
 use lib.Dec.{leb}
 use lib.ListN.{length, getD}
-use Rattle.lists.specs.Lists.{every}
+use Rattle.lists.specs.Lists.{every, tally}
+use Rattle.model.specs.Doing.{mostStock}
 use Rattle.memory.specs.Layout.{headerSize, queueSize, outstandingSize, sizeFor}
 use Rattle.memory.specs.Codec.{headerAt, entryOf, sentOf, placesAt}
-use Rattle.memory.specs.Validity.{settingsValid, isPending, isProcessed, ordered, processedFirst, noneMeet, entryValid, sentValid}
+use Rattle.memory.specs.Validity.{settingsValid, isPending, isProcessed, ordered, processedFirst, noneMeet, entryValid, sentValid, brings, stillBrings, savedStocksBounded}
 use Rattle.memory.specs.Soundness.{entryExact, sentExact}
 use Rattle.memory.specs.declared.Settings.{Settings}
 use Rattle.memory.specs.declared.Entry.{Entry}
 use Rattle.following.specs.inside.Follows.{entryFollows}
 use Rattle.soundness.specs.declared.Passed.{Passed}
 
--- what the pass over the queue carries to the first place, and from a place to the next
-abbrev pub nonePassed : Passed
-nonePassed = record { pending = false }
+-- what 512 Restocks bring at most
+abbrev pub mostBrought : ℕ
+mostBrought = 33553920
 
+-- of the stocks saved the highest, each with what the Restocks before it bring taken off, and put on the most that all bring, so that none is below 0
+abbrev pub higherWith : Passed → Entry → ℕ
+higherWith p e = cond (isProcessed e) (max (p .highest) (e .before .stock + (mostBrought - p .brought))) (p .highest)
+
+-- what the pass over the queue carries from a place to the next
 abbrev pub passedOn : Passed → Entry → Passed
-passedOn p e = record { pending = p .pending || isPending e }
+passedOn p e = record {
+  pending = p .pending || isPending e;
+  brought = p .brought + brings e;
+  still = p .still + stillBrings e;
+  highest = higherWith p e;
+}
+
+-- what is tested at its end: the highest stock saved with the Restocks from there on, and the stock held with those that are pending
+abbrev pub stocksFit : Passed → ℕ → Bool
+stocksFit p stock = leb (p .highest + p .brought) (mostStock + mostBrought) && leb (stock + p .still) mostStock
 
 -- an entry behind another, with what is carried to it
 unfoldable pub entryAccepted : Settings → Entry → Passed → Entry → Bool
@@ -37,12 +52,14 @@ headerSound m =
     && leb (h .queued) (h .settings .q)
     && leb (h .outstanding) (h .settings .u)
 
--- the used queue places
-unfoldable pub queueSound : Settings → List ℕ → ℕ → Bool
-queueSound s m count =
+-- the used queue places, and the stock held
+unfoldable pub queueSound : Settings → ℕ → List ℕ → ℕ → Bool
+queueSound s stock m count =
     let queue = placesAt entryOf queueSize m headerSize count in
     every entryExact (placesAt (λ b. b) queueSize m headerSize count)
-    && (every (entryValid s) queue && (ordered queue && (processedFirst false queue && noneMeet queue)))
+    && (every (entryValid s) queue
+    && (processedFirst false queue
+    && (ordered queue && (noneMeet queue && (savedStocksBounded queue && leb (stock + tally stillBrings queue) mostStock)))))
 
 -- the used outstanding places, from a position on
 unfoldable pub outstandingSound : Settings → List ℕ → ℕ → ℕ → Bool

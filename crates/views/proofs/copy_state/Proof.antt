@@ -5,62 +5,36 @@ use borrow.Author.Needs.{needs}
 use Rattle.views.proofs.copy_state.Statement.{statement}
 use Rattle.views.proofs.copy_state.Tie as tie
 
-copy-two-requires : tie.Need-copy-two-requires
-copy-two-requires c κs = search needs
-
-add-copy-four : tie.Need-add-copy-four
-add-copy-four c = search needs
-
-add-copy-four-2 : tie.Need-add-copy-four-2
-add-copy-four-2 c = search needs
-
 copy-four-requires : tie.Need-copy-four-requires
 copy-four-requires c κs = search needs
 
-add-copy-four-3 : tie.Need-add-copy-four-3
-add-copy-four-3 c = search needs
+add-copy-counters : tie.Need-add-copy-counters
+add-copy-counters c = search needs
 
-add-copy-four-4 : tie.Need-add-copy-four-4
-add-copy-four-4 c = search needs
+add-copy-counters-2 : tie.Need-add-copy-counters-2
+add-copy-counters-2 c = search needs
 
-copy-four-requires-2 : tie.Need-copy-four-requires-2
-copy-four-requires-2 c κs = search needs
-
-add-copy-four-5 : tie.Need-add-copy-four-5
-add-copy-four-5 c = search needs
-
-add-copy-four-6 : tie.Need-add-copy-four-6
-add-copy-four-6 c = search needs
-
-copy-four-requires-3 : tie.Need-copy-four-requires-3
-copy-four-requires-3 c κs = search needs
+copy-counters-requires : tie.Need-copy-counters-requires
+copy-counters-requires c κs = search needs
 
 same-length : tie.Need-same-length
 same-length c = search needs
 
 returns : tie.Need-returns
 returns c =
-    let start = c .before .before .before .before .before .before .before .before .before .before .before .before .before .before .before .before .before .before in
+    let start = c .before .before .before .before .before .before .before .before .before .before in
     let s = start .args .event .now in
     let m = start .args .output .now in
     let at = start .args .at in
-    let p0 = copy-more s m at (start .args .from) 2 (omega arith) (omega arith) (c .before .before .before .before .before .before .before .before .before .before .before .before .before .before .copy-two .ensures) 4 (c .before .before .before .before .before .before .before .before .before .before .copy-four .ensures) in
-    let p1 = copy-more s m at (start .args .from) 6 (omega arith) (omega arith) p0 4 (c .before .before .before .before .before .before .copy-four2 .ensures) in
-    copy-more s m at (start .args .from) 10 (omega arith) (omega arith) p1 4 (c .before .before .copy-four3 .ensures)
+    copy-more s m at (start .args .from) 4 (omega arith) (omega arith) (c .before .before .before .before .before .before .copy-four .ensures) 12 (c .before .before .copy-counters .ensures)
 
 pub copy-state-spec : {M : Type 1} → statement M
 copy-state-spec =
     tie.close
     (tie.spec
-    copy-two-requires
-    add-copy-four
-    add-copy-four-2
     copy-four-requires
-    add-copy-four-3
-    add-copy-four-4
-    copy-four-requires-2
-    add-copy-four-5
-    add-copy-four-6
-    copy-four-requires-3
+    add-copy-counters
+    add-copy-counters-2
+    copy-counters-requires
     same-length
     returns)

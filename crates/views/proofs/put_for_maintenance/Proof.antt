@@ -15,7 +15,7 @@ shared-slice-read-if1 c =
     let start = known .before .before in
     let s = start .args .event .now in
     let b = bytes-known s (known .shared-slice-known .given) in
-    let inside = kind-inside s b (start .pre .0) in
+    let inside = kind-inside (start .args .stock) s b (start .pre .0) in
     search needs
 
 put-head-requires : tie.Need-put-head-requires
@@ -25,8 +25,8 @@ put-head-requires c κs =
     let s = start .args .event .now in
     let b = bytes-known s (known .shared-slice-known .given) in
     let k = c .before .if1 .taken in
-    let long = restock-long s b (start .pre .0) k in
-    let room = front-room (start .args .at) 3 (start .args .output .now) s (eventView Maintenance (eventOf s)) (maintenance-restock s b (start .pre .0) k) (omega arith) (start .pre .1) in
+    let long = restock-long (start .args .stock) s b (start .pre .0) k in
+    let room = front-room (start .args .at) 3 (start .args .output .now) s (eventView Maintenance (eventOf (start .args .stock) s)) (maintenance-restock (start .args .stock) s b (start .pre .0) k) (omega arith) (start .pre .1) in
     (omega arith, omega arith)
 
 add-result : tie.Need-add-result
@@ -42,8 +42,8 @@ returns c =
     let s = start .args .event .now in
     let b = bytes-known s (known .shared-slice-known .given) in
     let k = c .before .before .before .before .if1 .taken in
-    let long = restock-long s b (start .pre .0) k in
-    front-put (start .args .at) 3 (start .args .output .now) s (eventView Maintenance (eventOf s)) (maintenance-restock s b (start .pre .0) k) (omega arith) (c .before .before .put-head .ensures)
+    let long = restock-long (start .args .stock) s b (start .pre .0) k in
+    front-put (start .args .at) 3 (start .args .output .now) s (eventView Maintenance (eventOf (start .args .stock) s)) (maintenance-restock (start .args .stock) s b (start .pre .0) k) (omega arith) (c .before .before .put-head .ensures)
 
 put-head-requires-2 : tie.Need-put-head-requires-2
 put-head-requires-2 c κs =
@@ -52,8 +52,8 @@ put-head-requires-2 c κs =
     let s = start .args .event .now in
     let b = bytes-known s (known .shared-slice-known .given) in
     let k = c .before .if1 .left in
-    let long = lamp-long s b (start .pre .0) k in
-    let room = lamp-room (start .args .at) (start .args .output .now) s (eventView Maintenance (eventOf s)) (maintenance-lamp s b (start .pre .0) k) long (start .pre .1) in
+    let long = lamp-long (start .args .stock) s b (start .pre .0) k in
+    let room = lamp-room (start .args .at) (start .args .output .now) s (eventView Maintenance (eventOf (start .args .stock) s)) (maintenance-lamp (start .args .stock) s b (start .pre .0) k) long (start .pre .1) in
     (omega arith, omega arith)
 
 add-copy-lamp : tie.Need-add-copy-lamp
@@ -66,8 +66,8 @@ copy-lamp-requires c κs =
     let s = start .args .event .now in
     let b = bytes-known s (known .shared-slice-known .given) in
     let k = c .before .before .before .before .before .if1 .left in
-    let long = lamp-long s b (start .pre .0) k in
-    (lamp-fits (start .args .at) (start .args .output .now) s (eventView Maintenance (eventOf s)) (maintenance-lamp s b (start .pre .0) k) long (start .pre .1) (c .before .before .before .put-head2 .ensures), omega arith)
+    let long = lamp-long (start .args .stock) s b (start .pre .0) k in
+    (lamp-fits (start .args .at) (start .args .output .now) s (eventView Maintenance (eventOf (start .args .stock) s)) (maintenance-lamp (start .args .stock) s b (start .pre .0) k) long (start .pre .1) (c .before .before .before .put-head2 .ensures), omega arith)
 
 shared-slice-read-output : tie.Need-shared-slice-read-output
 shared-slice-read-output c =
@@ -76,7 +76,7 @@ shared-slice-read-output c =
     let s = start .args .event .now in
     let b = bytes-known s (known .shared-slice-known .given) in
     let k = c .before .before .before .before .before .before .before .before .before .if1 .left in
-    let long = lamp-long s b (start .pre .0) k in
+    let long = lamp-long (start .args .stock) s b (start .pre .0) k in
     search needs
 
 add-output : tie.Need-add-output
@@ -89,9 +89,9 @@ slice-write-output c =
     let s = start .args .event .now in
     let b = bytes-known s (known .shared-slice-known .given) in
     let k = c .before .before .before .before .before .before .before .before .before .if1 .left in
-    let long = lamp-long s b (start .pre .0) k in
-    let room = lamp-room (start .args .at) (start .args .output .now) s (eventView Maintenance (eventOf s)) (maintenance-lamp s b (start .pre .0) k) long (start .pre .1) in
-    let same = lamp-length (start .args .at) (start .args .output .now) s (eventView Maintenance (eventOf s)) (maintenance-lamp s b (start .pre .0) k) long (start .pre .1) (c .before .before .before .before .before .before .before .put-head2 .ensures) (c .before .before .before .copy-lamp .ensures) in
+    let long = lamp-long (start .args .stock) s b (start .pre .0) k in
+    let room = lamp-room (start .args .at) (start .args .output .now) s (eventView Maintenance (eventOf (start .args .stock) s)) (maintenance-lamp (start .args .stock) s b (start .pre .0) k) long (start .pre .1) in
+    let same = lamp-length (start .args .at) (start .args .output .now) s (eventView Maintenance (eventOf (start .args .stock) s)) (maintenance-lamp (start .args .stock) s b (start .pre .0) k) long (start .pre .1) (c .before .before .before .before .before .before .before .put-head2 .ensures) (c .before .before .before .copy-lamp .ensures) in
     search needs
 
 add-result-2 : tie.Need-add-result-2
@@ -104,8 +104,8 @@ same-length-2 c =
     let s = start .args .event .now in
     let b = bytes-known s (known .shared-slice-known .given) in
     let k = c .before .before .before .before .before .before .before .before .before .if1 .left in
-    let long = lamp-long s b (start .pre .0) k in
-    let same = lamp-length (start .args .at) (start .args .output .now) s (eventView Maintenance (eventOf s)) (maintenance-lamp s b (start .pre .0) k) long (start .pre .1) (c .before .before .before .before .before .before .before .put-head2 .ensures) (c .before .before .before .copy-lamp .ensures) in
+    let long = lamp-long (start .args .stock) s b (start .pre .0) k in
+    let same = lamp-length (start .args .at) (start .args .output .now) s (eventView Maintenance (eventOf (start .args .stock) s)) (maintenance-lamp (start .args .stock) s b (start .pre .0) k) long (start .pre .1) (c .before .before .before .before .before .before .before .put-head2 .ensures) (c .before .before .before .copy-lamp .ensures) in
     search (same, needs)
 
 returns-2 : tie.Need-returns-2
@@ -115,8 +115,8 @@ returns-2 c =
     let s = start .args .event .now in
     let b = bytes-known s (known .shared-slice-known .given) in
     let k = c .before .before .before .before .before .before .before .before .before .if1 .left in
-    let long = lamp-long s b (start .pre .0) k in
-    lamp-put (start .args .at) (start .args .output .now) s (eventView Maintenance (eventOf s)) (maintenance-lamp s b (start .pre .0) k) long (start .pre .1) (c .before .before .before .before .before .before .before .put-head2 .ensures) (c .before .before .before .copy-lamp .ensures)
+    let long = lamp-long (start .args .stock) s b (start .pre .0) k in
+    lamp-put (start .args .at) (start .args .output .now) s (eventView Maintenance (eventOf (start .args .stock) s)) (maintenance-lamp (start .args .stock) s b (start .pre .0) k) long (start .pre .1) (c .before .before .before .before .before .before .before .put-head2 .ensures) (c .before .before .before .copy-lamp .ensures)
 
 pub put-for-maintenance-spec : {M : Type 1} → statement M
 put-for-maintenance-spec =

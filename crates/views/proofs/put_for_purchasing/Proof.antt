@@ -14,15 +14,15 @@ put-front-requires c κs =
     let start = known .before .before in
     let s = start .args .event .now in
     let b = bytes-known s (known .shared-slice-known .given) in
-    (start .pre .0, front-fits (start .args .at) (start .args .output .now) s (eventView Purchasing (eventOf s)) (front-and-state s b (start .pre .0)) (state-inside s b (start .pre .0)) (start .pre .1))
+    (start .pre .0, front-fits (start .args .stock) (start .args .at) (start .args .output .now) s (eventView Purchasing (eventOf (start .args .stock) s)) (front-and-state (start .args .stock) s b (start .pre .0)) (state-inside (start .args .stock) s b (start .pre .0)) (start .pre .1))
 
-copy-state-requires : tie.Need-copy-state-requires
-copy-state-requires c κs =
+put-state-requires : tie.Need-put-state-requires
+put-state-requires c κs =
     let known = c .before .before .before .before .before in
     let start = known .before .before in
     let s = start .args .event .now in
     let b = bytes-known s (known .shared-slice-known .given) in
-    state-fits (start .args .at) (start .args .output .now) s (eventView Purchasing (eventOf s)) (front-and-state s b (start .pre .0)) (state-inside s b (start .pre .0)) (start .pre .1) (c .before .before .before .put-front .ensures)
+    state-fits (start .args .stock) (start .args .at) (start .args .output .now) s (eventView Purchasing (eventOf (start .args .stock) s)) (front-and-state (start .args .stock) s b (start .pre .0)) (state-inside (start .args .stock) s b (start .pre .0)) (start .pre .1) (c .before .before .before .put-front .ensures)
 
 add-result : tie.Need-add-result
 add-result c =
@@ -30,7 +30,7 @@ add-result c =
     let start = known .before .before in
     let s = start .args .event .now in
     let b = bytes-known s (known .shared-slice-known .given) in
-    let fits = state-fits (start .args .at) (start .args .output .now) s (eventView Purchasing (eventOf s)) (front-and-state s b (start .pre .0)) (state-inside s b (start .pre .0)) (start .pre .1) (c .before .before .before .before .before .before .before .put-front .ensures) in
+    let fits = state-fits (start .args .stock) (start .args .at) (start .args .output .now) s (eventView Purchasing (eventOf (start .args .stock) s)) (front-and-state (start .args .stock) s b (start .pre .0)) (state-inside (start .args .stock) s b (start .pre .0)) (start .pre .1) (c .before .before .before .before .before .before .before .put-front .ensures) in
     search needs
 
 same-length : tie.Need-same-length
@@ -42,8 +42,8 @@ returns c =
     let start = known .before .before in
     let s = start .args .event .now in
     let b = bytes-known s (known .shared-slice-known .given) in
-    purchasing-put (start .args .at) (start .args .output .now) s (eventView Purchasing (eventOf s)) (front-and-state s b (start .pre .0)) (state-inside s b (start .pre .0)) (start .pre .1) (c .before .before .before .before .before .before .before .put-front .ensures) (c .before .before .before .copy-state .ensures)
+    purchasing-put (start .args .stock) (start .args .at) (start .args .output .now) s (eventView Purchasing (eventOf (start .args .stock) s)) (front-and-state (start .args .stock) s b (start .pre .0)) (state-inside (start .args .stock) s b (start .pre .0)) (start .pre .1) (c .before .before .before .before .before .before .before .put-front .ensures) (c .before .before .before .put-state .ensures)
 
 pub put-for-purchasing-spec : {M : Type 1} → statement M
 put-for-purchasing-spec =
-    tie.close (tie.spec put-front-requires copy-state-requires add-result same-length returns)
+    tie.close (tie.spec put-front-requires put-state-requires add-result same-length returns)

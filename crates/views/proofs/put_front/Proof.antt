@@ -12,7 +12,7 @@ shared-slice-read-if1 c =
     let start = known .before .before in
     let s = start .args .event .now in
     let b = bytes-known s (known .shared-slice-known .given) in
-    let inside = kind-inside s b (start .pre .0) in
+    let inside = kind-inside (start .args .stock) s b (start .pre .0) in
     search needs
 
 put-head-requires : tie.Need-put-head-requires
@@ -22,7 +22,7 @@ put-head-requires c κs =
     let s = start .args .event .now in
     let b = bytes-known s (known .shared-slice-known .given) in
     let k = c .before .if1 .taken in
-    let long = restock-long s b (start .pre .0) k in
+    let long = restock-long (start .args .stock) s b (start .pre .0) k in
     let room = restock-room (start .args .at) (start .args .output .now) s (start .pre .1) k long in
     (omega arith, omega arith)
 
@@ -36,11 +36,11 @@ copy-two-requires c κs =
     let s = start .args .event .now in
     let b = bytes-known s (known .shared-slice-known .given) in
     let k = c .before .before .before .before .before .if1 .taken in
-    let long = restock-long s b (start .pre .0) k in
+    let long = restock-long (start .args .stock) s b (start .pre .0) k in
     (quantity-fits (start .args .at) (start .args .output .now) s (start .pre .1) k long (c .before .before .before .put-head .ensures), omega arith)
 
-add-t12 : tie.Need-add-t12
-add-t12 c = search needs
+add-t13 : tie.Need-add-t13
+add-t13 c = search needs
 
 same-length : tie.Need-same-length
 same-length c = search needs
@@ -52,7 +52,7 @@ returns c =
     let s = start .args .event .now in
     let b = bytes-known s (known .shared-slice-known .given) in
     let k = c .before .before .before .before .before .before .before .before .if1 .taken in
-    let long = restock-long s b (start .pre .0) k in
+    let long = restock-long (start .args .stock) s b (start .pre .0) k in
     restock-front (start .args .at) (start .args .output .now) s (start .pre .1) k long (c .before .before .before .before .before .before .put-head .ensures) (c .before .before .copy-two .ensures)
 
 put-head-requires-2 : tie.Need-put-head-requires-2
@@ -62,12 +62,12 @@ put-head-requires-2 c κs =
     let s = start .args .event .now in
     let b = bytes-known s (known .shared-slice-known .given) in
     let k = c .before .if1 .left in
-    let long = lamp-long s b (start .pre .0) k in
+    let long = lamp-long (start .args .stock) s b (start .pre .0) k in
     let room = head-room (start .args .at) (start .args .output .now) s (start .pre .1) k long in
     (omega arith, omega arith)
 
-add-t16 : tie.Need-add-t16
-add-t16 c = search needs
+add-t17 : tie.Need-add-t17
+add-t17 c = search needs
 
 same-length-2 : tie.Need-same-length-2
 same-length-2 c = search needs
@@ -79,7 +79,7 @@ returns-2 c =
     let s = start .args .event .now in
     let b = bytes-known s (known .shared-slice-known .given) in
     let k = c .before .before .before .before .if1 .left in
-    let long = lamp-long s b (start .pre .0) k in
+    let long = lamp-long (start .args .stock) s b (start .pre .0) k in
     lamp-front (start .args .at) (start .args .output .now) s (start .pre .1) k long (c .before .before .put-head2 .ensures)
 
 pub put-front-spec : {M : Type 1} → statement M
@@ -90,10 +90,10 @@ put-front-spec =
     put-head-requires
     add-copy-two
     copy-two-requires
-    add-t12
+    add-t13
     same-length
     returns
     put-head-requires-2
-    add-t16
+    add-t17
     same-length-2
     returns-2)

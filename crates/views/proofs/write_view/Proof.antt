@@ -9,20 +9,20 @@ use Rattle.views.proofs.write_view.Statement.{statement}
 use Rattle.views.proofs.write_view.Tie as tie
 
 abbrev Inv-loop : tie.InvT-loop
-Inv-loop bytes output₀ reader at₀ position₀ output at position = Written reader bytes output₀ output at position × (length output ≡ length output₀)
+Inv-loop bytes output₀ reader stock at₀ position₀ output at position = Written reader stock bytes output₀ output at position × (length output ≡ length output₀)
 
 abbrev μ-loop : tie.MeasureT-loop
-μ-loop bytes output₀ reader at₀ position₀ output at position = length bytes - at
+μ-loop bytes output₀ reader stock at₀ position₀ output at position = length bytes - at
 
 loop-holds : tie.Need-loop-holds Inv-loop μ-loop
-loop-holds c = (write-start _ _ _ (c .before .before .pre .0), refl)
+loop-holds c = (write-start _ _ _ _ (c .before .before .pre .0), refl)
 
 add-event-length : tie.Need-add-event-length Inv-loop μ-loop
 add-event-length c =
     let start = c .before .before .before .before in
     let bytes = start .args .bytes .now in
     let b = bytes-known bytes (c .before .before .before .shared-slice-known .given) in
-    let e = ends (start .args .reader) bytes b (start .args .output .now) _ _ _ (c .before .loop .inv .0) (c .loop-test .taken) in
+    let e = ends (start .args .reader) (start .args .stock) bytes b (start .args .output .now) _ _ _ (c .before .loop .inv .0) (c .loop-test .taken) in
     let i = e .inside in
     search needs
 
@@ -31,7 +31,7 @@ shared-slice-read-event-length c =
     let start = c .before .before .before .before .before in
     let bytes = start .args .bytes .now in
     let b = bytes-known bytes (c .before .before .before .before .shared-slice-known .given) in
-    let e = ends (start .args .reader) bytes b (start .args .output .now) _ _ _ (c .before .before .loop .inv .0) (c .before .loop-test .taken) in
+    let e = ends (start .args .reader) (start .args .stock) bytes b (start .args .output .now) _ _ _ (c .before .before .loop .inv .0) (c .before .loop-test .taken) in
     let i = e .kind in
     search needs
 
@@ -43,7 +43,7 @@ add-end c =
     let start = c .before .before .before .before .before .before in
     let bytes = start .args .bytes .now in
     let b = bytes-known bytes (c .before .before .before .before .before .shared-slice-known .given) in
-    let bounds = end-bounds (start .args .reader) bytes b (start .args .output .now) _ _ _ (c .before .before .before .loop .inv .0) (c .before .before .loop-test .taken) refl (c .event-length .ensures) refl in
+    let bounds = end-bounds (start .args .reader) (start .args .stock) bytes b (start .args .output .now) _ _ _ (c .before .before .before .loop .inv .0) (c .before .before .loop-test .taken) refl (c .event-length .ensures) refl in
     search needs
 
 sub-put-event : tie.Need-sub-put-event Inv-loop μ-loop
@@ -51,7 +51,7 @@ sub-put-event c =
     let start = c .before .before .before .before .before .before .before in
     let bytes = start .args .bytes .now in
     let b = bytes-known bytes (c .before .before .before .before .before .before .shared-slice-known .given) in
-    let bounds = end-bounds (start .args .reader) bytes b (start .args .output .now) _ _ _ (c .before .before .before .before .loop .inv .0) (c .before .before .before .loop-test .taken) refl (c .before .event-length .ensures) refl in
+    let bounds = end-bounds (start .args .reader) (start .args .stock) bytes b (start .args .output .now) _ _ _ (c .before .before .before .before .loop .inv .0) (c .before .before .before .loop-test .taken) refl (c .before .event-length .ensures) refl in
     search needs
 
 part-put-event-start : tie.Need-part-put-event-start Inv-loop μ-loop
@@ -59,7 +59,7 @@ part-put-event-start c =
     let start = c .before .before .before .before .before .before .before in
     let bytes = start .args .bytes .now in
     let b = bytes-known bytes (c .before .before .before .before .before .before .shared-slice-known .given) in
-    let bounds = end-bounds (start .args .reader) bytes b (start .args .output .now) _ _ _ (c .before .before .before .before .loop .inv .0) (c .before .before .before .loop-test .taken) refl (c .before .event-length .ensures) refl in
+    let bounds = end-bounds (start .args .reader) (start .args .stock) bytes b (start .args .output .now) _ _ _ (c .before .before .before .before .loop .inv .0) (c .before .before .before .loop-test .taken) refl (c .before .event-length .ensures) refl in
     search needs
 
 part-put-event-end : tie.Need-part-put-event-end Inv-loop μ-loop
@@ -67,7 +67,7 @@ part-put-event-end c =
     let start = c .before .before .before .before .before .before .before in
     let bytes = start .args .bytes .now in
     let b = bytes-known bytes (c .before .before .before .before .before .before .shared-slice-known .given) in
-    let bounds = end-bounds (start .args .reader) bytes b (start .args .output .now) _ _ _ (c .before .before .before .before .loop .inv .0) (c .before .before .before .loop-test .taken) refl (c .before .event-length .ensures) refl in
+    let bounds = end-bounds (start .args .reader) (start .args .stock) bytes b (start .args .output .now) _ _ _ (c .before .before .before .before .loop .inv .0) (c .before .before .before .loop-test .taken) refl (c .before .event-length .ensures) refl in
     search needs
 
 put-event-requires : tie.Need-put-event-requires Inv-loop μ-loop
@@ -75,14 +75,14 @@ put-event-requires c κs =
     let start = c .before .before .before .before .before .before .before .before in
     let bytes = start .args .bytes .now in
     let b = bytes-known bytes (c .before .before .before .before .before .before .before .shared-slice-known .given) in
-    (next-taken (start .args .reader) bytes b (start .args .output .now) _ _ _ (c .before .before .before .before .before .loop .inv .0) (c .before .before .before .before .loop-test .taken) refl (c .before .before .event-length .ensures) refl, next-room (start .args .reader) bytes b (start .args .output .now) _ _ _ (c .before .before .before .before .before .loop .inv .0) (c .before .before .before .before .loop-test .taken) refl (c .before .before .event-length .ensures) refl (start .pre .1))
+    (next-taken (start .args .reader) (start .args .stock) bytes b (start .args .output .now) _ _ _ (c .before .before .before .before .before .loop .inv .0) (c .before .before .before .before .loop-test .taken) refl (c .before .before .event-length .ensures) refl, next-room (start .args .reader) (start .args .stock) bytes b (start .args .output .now) _ _ _ (c .before .before .before .before .before .loop .inv .0) (c .before .before .before .before .loop-test .taken) refl (c .before .before .event-length .ensures) refl (start .pre .1))
 
 loop-less : tie.Need-loop-less Inv-loop μ-loop
 loop-less c =
     let start = c .before .before .before .before .before .before .before .before .before .before .before in
     let bytes = start .args .bytes .now in
     let b = bytes-known bytes (c .before .before .before .before .before .before .before .before .before .before .shared-slice-known .given) in
-    let bounds = end-bounds (start .args .reader) bytes b (start .args .output .now) _ _ _ (c .before .before .before .before .before .before .before .before .loop .inv .0) (c .before .before .before .before .before .before .before .loop-test .taken) refl (c .before .before .before .before .before .event-length .ensures) refl in
+    let bounds = end-bounds (start .args .reader) (start .args .stock) bytes b (start .args .output .now) _ _ _ (c .before .before .before .before .before .before .before .before .loop .inv .0) (c .before .before .before .before .before .before .before .loop-test .taken) refl (c .before .before .before .before .before .event-length .ensures) refl in
     search needs
 
 loop-again : tie.Need-loop-again Inv-loop μ-loop
@@ -90,7 +90,7 @@ loop-again c =
     let start = c .before .before .before .before .before .before .before .before .before .before .before in
     let bytes = start .args .bytes .now in
     let b = bytes-known bytes (c .before .before .before .before .before .before .before .before .before .before .shared-slice-known .given) in
-    (write-turn (start .args .reader) bytes b (start .args .output .now) _ _ _ (c .before .before .before .before .before .before .before .before .loop .inv .0) (c .before .before .before .before .before .before .before .loop-test .taken) refl (c .before .before .before .before .before .event-length .ensures) refl (start .pre .1) (c .before .before .put-event .ensures), search needs)
+    (write-turn (start .args .reader) (start .args .stock) bytes b (start .args .output .now) _ _ _ (c .before .before .before .before .before .before .before .before .loop .inv .0) (c .before .before .before .before .before .before .before .loop-test .taken) refl (c .before .before .before .before .before .event-length .ensures) refl (start .pre .1) (c .before .before .put-event .ensures), search needs)
 
 same-length : tie.Need-same-length Inv-loop μ-loop
 same-length c = search needs
@@ -100,7 +100,7 @@ returns c =
     let start = c .before .before .before .before in
     let bytes = start .args .bytes .now in
     let b = bytes-known bytes (c .before .before .before .shared-slice-known .given) in
-    write-end (start .args .reader) bytes b (start .args .output .now) _ _ _ (c .before .loop .inv .0) (c .loop-test .left)
+    write-end (start .args .reader) (start .args .stock) bytes b (start .args .output .now) _ _ _ (c .before .loop .inv .0) (c .loop-test .left)
 
 pub write-view-spec : {M : Type 1} → statement M
 write-view-spec =

@@ -58,7 +58,6 @@ opened-header-requires c κs =
     (at-check-list .check-list .ensures) (at-if2 .if2 .left) (at-if3 .if3 .left) in (
       at-settings-of .settings-of .ensures,
       omega arith,
-      omega arith,
     )
 
 write-header-requires : tie.Need-write-header-requires

@@ -3,14 +3,11 @@ use borrow.Author.Needs.{needs}
 use Rattle.opening.proofs.settings.opened_header.Statement.{statement}
 use Rattle.opening.proofs.settings.opened_header.Tie as tie
 
-cast-t4 : tie.Need-cast-t4
-cast-t4 c = search needs
-
-cast-t8 : tie.Need-cast-t8
-cast-t8 c = search needs
+cast-t7 : tie.Need-cast-t7
+cast-t7 c = search needs
 
 returns : tie.Need-returns
 returns c = cc
 
 pub opened-header-spec : {M : Type 1} → statement M
-opened-header-spec = tie.close (tie.spec cast-t4 cast-t8 returns)
+opened-header-spec = tie.close (tie.spec cast-t7 returns)

@@ -1,0 +1,2 @@
+-- Laws of the single queue's shelves.
+pub mod Growing
