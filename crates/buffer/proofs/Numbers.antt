@@ -9,6 +9,7 @@ use lib.Arith.{mod-mul, digits-lt, digits-div, digits-mod}
 use Rattle.buffer.specs.Slice.{Bytes, part, write}
 use Rattle.buffer.proofs.Writes.{part-cons, part-nil, set-write, write-snoc}
 use Rattle.buffer.specs.Number.{bytesOf, numberFrom, numberOf}
+use Rattle.buffer.specs.inside.Turning.{Turned}
 
 pow-positive : (width : ℕ) → 0 < 256 ^ width
 pow-positive zero = omega arith
@@ -95,7 +96,7 @@ stored-two m at n h small =
     let low : n / 256 ^ 0 % 256 ≡ n % 256 = omega arith in
     rw (set-write m at (n / 256) (omega arith), high, low) (write-snoc at (n / 256 ∷ []) m (n % 256) (at + 1) (omega arith) refl)
 
-pub stored-four : (m : List ℕ) (at n : ℕ) → at + 4 ≤ length m → n < 4294967296
+stored-four : (m : List ℕ) (at n : ℕ) → at + 4 ≤ length m → n < 4294967296
     → set (set (set (set m at (n / 16777216)) (at + 1) (n / 65536 % 256)) (at + 2) (n / 256 % 256)) (at + 3) (n % 256) ≡ write at (bytesOf 4 n) m
 unfolding bytesOf
 stored-four m at n h small =
@@ -113,6 +114,26 @@ stored-four m at n h small =
       high,
       low,
     )
+
+-- four bytes put together, and taken apart again
+apart : (a b c d : ℕ) → a < 256 → b < 256 → c < 256 → d < 256 → (((d * 256 + c) * 65536 + (b * 256 + a)) % 256 ≡ a)
+    × (((d * 256 + c) * 65536 + (b * 256 + a)) / 256 % 256 ≡ b)
+    × (((d * 256 + c) * 65536 + (b * 256 + a)) / 65536 % 256 ≡ c)
+    × (((d * 256 + c) * 65536 + (b * 256 + a)) / 16777216 ≡ d)
+apart a b c d ha hb hc hd =
+    let r : ℕ = (d * 256 + c) * 65536 + (b * 256 + a) in
+    let one : r / 256 ≡ (d * 256 + c) * 256 + b = omega arith in
+    let two : r / 65536 ≡ d * 256 + c = omega arith in
+    (omega arith, rw one (omega arith), rw two (omega arith), omega arith)
+
+pub turn : (n : ℕ) → n < 4294967296 → Turned n ((n % 256 * 256 + n / 256 % 256) * 65536 + (n / 65536 % 256 * 256 + n / 16777216))
+turn n h =
+    let e = apart (n / 16777216) (n / 65536 % 256) (n / 256 % 256) (n % 256) (omega arith) (omega arith) (omega arith) (omega arith) in
+    record { first = e .0; second = e .1; third = e .2; fourth = e .3 }
+
+pub stored-turned : (m : List ℕ) (at n r : ℕ) → at + 4 ≤ length m → n < 4294967296 → Turned n r
+    → set (set (set (set m at (r % 256)) (at + 1) (r / 256 % 256)) (at + 2) (r / 65536 % 256)) (at + 3) (r / 16777216) ≡ write at (bytesOf 4 n) m
+stored-turned m at n r h small t = rw (t .first, t .second, t .third, t .fourth) (stored-four m at n h small)
 
 -- a number of one byte
 pub one-byte : (n : ℕ) → n < 256 → bytesOf 1 n ≡ n ∷ []

@@ -5,6 +5,7 @@ ghost use Prim.Native.Nat.{_+_, _≤_};
 ghost use lib.ListN.{length};
 ghost use Rattle.buffer.specs.Slice.{part, write};
 ghost use Rattle.buffer.specs.Number.{bytesOf, numberOf};
+ghost use Rattle.buffer.specs.inside.Turning.{Turned};
 
 // The number in the two bytes from position at on.
 pub fn read16(bytes: &[u8], at: usize) -> u16
@@ -38,10 +39,20 @@ pub fn write32(bytes: &mut [u8], at: usize, number: u32)
     requires { ⌜ at + 4 ≤ length (now bytes) ⌝ }
     ensures { λ _. ⌜ now (bytes .exit) ≡ write at (bytesOf 4 number) (now (bytes .entry)) ⌝ }
 {
-    bytes[at] = (number / 16777216) as u8;
-    bytes[at + 1] = (number / 65536 % 256) as u8;
-    bytes[at + 2] = (number / 256 % 256) as u8;
-    bytes[at + 3] = (number % 256) as u8;
+    let other = turned(number);
+    bytes[at] = (other % 256) as u8;
+    bytes[at + 1] = (other / 256 % 256) as u8;
+    bytes[at + 2] = (other / 65536 % 256) as u8;
+    bytes[at + 3] = (other / 16777216) as u8;
+}
+
+// The number with its bytes in the other order: stored low byte first, the four are one store.
+fn turned(number: u32) -> u32
+    ensures { λ r. ⌜ Turned number r ⌝ }
+{
+    let low = number % 256 * 256 + number / 256 % 256;
+    let high = number / 65536 % 256 * 256 + number / 16777216;
+    low * 65536 + high
 }
 
 // Copies all of source into bytes, from position at on.

@@ -2,9 +2,12 @@
 use borrow.Author.Needs.{needs}
 use lib.ListN.{length-set}
 use native.Mathlib.Omega.{arith}
-use Rattle.buffer.proofs.Numbers.{stored-four}
+use Rattle.buffer.proofs.Numbers.{stored-turned}
 use Rattle.buffer.proofs.write32.Statement.{statement}
 use Rattle.buffer.proofs.write32.Tie as tie
+
+turned-requires : tie.Need-turned-requires
+turned-requires c κs = search needs
 
 cast-bytes : tie.Need-cast-bytes
 cast-bytes c = search needs
@@ -43,12 +46,13 @@ same-length : tie.Need-same-length
 same-length c = simp length-set
 
 returns : tie.Need-returns
-returns c = search (stored-four, arith)
+returns c = search (stored-turned, arith)
 
 pub write32-spec : {M : Type 1} → statement M
 write32-spec =
     tie.close
     (tie.spec
+    turned-requires
     cast-bytes
     slice-write-bytes
     cast-bytes-2
