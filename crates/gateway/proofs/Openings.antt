@@ -13,6 +13,7 @@ use Rattle.lists.specs.Lists.{_∈_, none}
 use Rattle.lists.proofs.SearchLaws.{cut-first}
 use Rattle.buffer.specs.Slice.{Bytes}
 use Rattle.model.specs.Messages.{kindNumber}
+use Rattle.model.specs.Doing.{openingState}
 use Rattle.model.specs.declared.Message.{Message}
 use Rattle.frame.proofs.Laws.{one-to-one}
 use Rattle.frame.specs.Kinds.{senseNumber}
@@ -177,7 +178,7 @@ opened-keeps o size list bytes h =
       round = refl;
       entries = q .good .entries;
       order = q .good .order;
-      stocks = stocks-open (record { stock = o .stock; failed = 0; fitted = 0; short = 0 }) (queued [] fs)
+      stocks = stocks-open (openingState (o .stock)) (queued [] fs)
           (leb-true (o .stock) 65535 (search (and-left, and-right)))
           (omega (arith, length-queued [] fs, passes .places, opening-settings o size list h .q))
           (λ e m. pending-not-processed (e .mark) (q .pending e m))

@@ -14,7 +14,7 @@ use Rattle.buffer.specs.Slice.{part, write, sameBytes}
 use Rattle.buffer.specs.Number.{bytesOf, numberFrom, numberOf}
 use Rattle.routing.specs.Figure2.{gvtcfg, widen, share, setFrom, setTo}
 use Rattle.routing.specs.Arcs.{from, to, mid0, mid1}
-use Rattle.model.specs.Doing.{leadTimesValid, after, sent}
+use Rattle.model.specs.Doing.{leadTimesValid, openingState, after, sent}
 use Rattle.model.specs.EventOrder.{key, compared}
 use Rattle.model.specs.declared.Message.{Message}
 use Rattle.model.specs.declared.State.{State}
@@ -41,7 +41,7 @@ use Rattle.gateway.specs.Rounds.{idle}
 use Rattle.gateway.specs.Committing.{recordFor, commit}
 use Rattle.gateway.specs.SettingUp.{settingsOf, openingValid, cutFrames, openingRefusal, queued, opened, setUpRefusal}
 use Rattle.gateway.specs.Calls.{agreedTime}
-use Rattle.gateway.specs.StockExamples.{restock, stocked, told, restocks, stockAfter, ShelvesWithoutAStop}
+use Rattle.gateway.specs.StockExamples.{restock, told, restocks, stockAfter, ShelvesWithoutAStop}
 
 -- the Restock of the lists, its frame, and its entry before it is done
 abbrev one : Message
@@ -177,8 +177,8 @@ most-reached n few =
     let none : 0 + n ≡ n = omega arith in
     let queue : queued [] (replicate n (written frame)) ≡ replicate n entry = all-queued 0 n ∙ ap (λ (x : ℕ). replicate x entry) none in
     ap (λ (fs : List (List ℕ)). worked n 0 (opened (told 65535) fs) .gateway .state .stock) (frames-cut n)
-    ∙ (ap (λ (es : List Entry). worked n 0 (shelf (stocked 65535) es) .gateway .state .stock) queue
-    ∙ all-done n [] (λ e m. absurd (List·Memᴰ·not-nil m)) (stocked 65535) (omega arith))
+    ∙ (ap (λ (es : List Entry). worked n 0 (shelf (openingState 65535) es) .gateway .state .stock) queue
+    ∙ all-done n [] (λ e m. absurd (List·Memᴰ·not-nil m)) (openingState 65535) (omega arith))
 
 pub shelves-without-a-stop : ShelvesWithoutAStop
 unfolding

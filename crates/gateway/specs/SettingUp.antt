@@ -5,6 +5,7 @@ use mathlib.Core.List.{List, [], _∷_, _++_}
 use lib.Dec.{leb, eqb}
 use lib.ListN.{length}
 use Rattle.model.specs.Messages.{kindNumber}
+use Rattle.model.specs.Doing.{openingState}
 use Rattle.frame.specs.Layout.{wholeLength}
 use Rattle.frame.specs.Kinds.{senseNumber}
 use Rattle.frame.specs.Reasons.{reading, formIn, formNumber}
@@ -61,7 +62,7 @@ unfoldable pub opened : Opening → List (List ℕ) → Gateway
 unfolding queued
 opened o fs = record {
   settings = settingsOf o;
-  state = record { stock = o .stock; failed = 0; fitted = 0; short = 0 };
+  state = openingState (o .stock);
   agreed = 0;
   round = idle;
   queue = queued [] fs;

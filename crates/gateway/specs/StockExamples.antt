@@ -5,7 +5,7 @@ use Prim.Native.Nat.{ℕ}
 use mathlib.Core.Bool.{false}
 use mathlib.Core.List.{List, [], _∷_, _++_}
 use lib.ListN.{length, replicate}
-use Rattle.model.specs.Doing.{after}
+use Rattle.model.specs.Doing.{openingState, after}
 use Rattle.model.specs.declared.Kind.the-variants.{Failure, Restock}
 use Rattle.model.specs.declared.Message.{Message}
 use Rattle.model.specs.declared.State.{State}
@@ -33,15 +33,11 @@ restock hour quantity = record { hour = hour; from = 0; to = 0; kind = Restock q
 abbrev failure : (hour : ℕ) → Message
 failure hour = record { hour = hour; from = 0; to = 0; kind = Failure 0; lamp = replicate 18 48 }
 
--- a state with that stock
-abbrev pub stocked : ℕ → State
-stocked stock = record { stock = stock; failed = 0; fitted = 0; short = 0 }
-
 -- a gateway alone, with that stock, agreed time 12, and these entries in its queue
 abbrev alone : ℕ → List Entry → Gateway
 alone stock queue = record {
   settings = record { n = 1; own = 0; supplier = 0; last = 100; q = 4; u = 4; hours = townHours };
-  state = stocked stock;
+  state = openingState stock;
   agreed = 12;
   round = idle;
   queue = queue;
@@ -50,7 +46,7 @@ alone stock queue = record {
 
 -- a processed message, and the stock before it
 abbrev done : ℕ → Message → Entry
-done stock m = record { message = m; mark = Processed; before = stocked stock }
+done stock m = record { message = m; mark = Processed; before = openingState stock }
 
 -- what a call answers to memory that holds such a gateway
 abbrev answerTo : ℕ → List Entry → ℕ
@@ -69,12 +65,12 @@ stockAfter stock count = worked count 0 (opened (told stock) (cutFrames (length 
 
 pub record ShelvesWithoutAStop : Type 0 where
   -- a stock of 65,535 and a Restock of 1 come to 65,536
-  pub noStop : after (stocked 65535) (Restock 1) ≡ stocked 65536
+  pub noStop : after (openingState 65535) (Restock 1) ≡ openingState 65536
   -- the record has it in four bytes, behind the frame
   pub recorded : commit 100 (alone 65536 (done 65535 (restock 5 1) ∷ [])) .output
       ≡ written (frameIf false (restock 5 1)) ++ (0 ∷ 1 ∷ 0 ∷ 0 ∷ replicate 12 0)
   -- and it comes back when what was done since is undone: a cancel of the Failure at 6
-  pub restored : takeCancel (failure 6) (alone 65536 (done 65535 (restock 5 1) ∷ done 65536 (failure 6) ∷ [])) .gateway .state ≡ stocked 65536
+  pub restored : takeCancel (failure 6) (alone 65536 (done 65535 (restock 5 1) ∷ done 65536 (failure 6) ∷ [])) .gateway .state ≡ openingState 65536
   -- an opening stock of 65,535 is accepted, 65,536 is 8
   pub openingStock : (setUpRefusal (told 65535) 33056 [] ≡ 0) × (setUpRefusal (told 65536) 33056 [] ≡ 8)
   -- with 512 Restocks of 65,535 it is accepted, and when all are done the stock is 33,619,455

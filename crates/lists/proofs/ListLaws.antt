@@ -3,10 +3,11 @@ use mathlib.Core.List.{List, [], _∷_, _++_, map, append-nil, append-assoc, Lis
 use mathlib.Core.List.{List·Memᴰ·not-nil, List·Memᴰ·cases-cons}
 use mathlib.Core.Path.{_≡_, refl, sym, subst, _∙_, ap}
 use mathlib.Core.Logic.{_≢_, ⊎-elim}
+use mathlib.Core.Bool.{Bool, true, false, cond}
 use Prim.Native.Nat.{ℕ, suc, _+_, _*_, _≤_}
 use native.Mathlib.Omega.{arith}
 use lib.ListN.{length, take, drop, length-append, take-append-drop}
-use Rattle.lists.specs.Lists.{_∈_, All, nil, cons, Insert, here, there, Inserts, unchanged, one-more, joined, least, tally, matches, count}
+use Rattle.lists.specs.Lists.{_∈_, All, nil, cons, Insert, here, there, Inserts, unchanged, one-more, joined, least, tally, matches, count, passing}
 
 module _ {A : Type 0} {p : A → Type 0} where
   pub all-head : {a : A} {l : List A} → All p (a ∷ l) → p a
@@ -261,3 +262,51 @@ pub joined-append : {A B : Type 0} (f : A → List B) (l m : List A) → joined 
 unfolding joined
 joined-append f [] m = refl
 joined-append f (a ∷ l) m = ap (λ x. f a ++ x) (joined-append f l m) ∙ sym (append-assoc (f a) (joined f l) (joined f m))
+
+-- the elements that pass a test
+module _ {A : Type 0} (f : A → Bool) where
+  -- they all do
+  pub passing-pass : (xs : List A) → All (λ x. f x ≡ true) (passing f xs)
+  unfolding passing
+  passing-pass [] = nil
+  passing-pass (x ∷ xs) = by-case (f x) refl (passing-pass xs)
+    where
+      by-case : (t : Bool) → f x ≡ t → All (λ x. f x ≡ true) (passing f xs) → All (λ x. f x ≡ true) (cond t (x ∷ passing f xs) (passing f xs))
+      by-case true e a = cons e a
+      by-case false e a = a
+
+  -- and have what all have
+  pub passing-all : {p : A → Type 0} {xs : List A} → All p xs → All p (passing f xs)
+  unfolding passing
+  passing-all nil = nil
+  passing-all {p} (cons {a = x} {l = xs} h a) = by-case (f x) (passing-all a)
+    where
+      by-case : (t : Bool) → All p (passing f xs) → All p (cond t (x ∷ passing f xs) (passing f xs))
+      by-case true b = cons h b
+      by-case false b = b
+
+  pub passing-length : (xs : List A) → length (passing f xs) ≤ length xs
+  unfolding passing
+  passing-length [] = omega arith
+  passing-length (x ∷ xs) = by-case (f x) (passing-length xs)
+    where
+      by-case : (t : Bool) → length (passing f xs) ≤ length xs → length (cond t (x ∷ passing f xs) (passing f xs)) ≤ length (x ∷ xs)
+      by-case true h = omega arith
+      by-case false h = omega arith
+
+  -- where all pass, nothing is left out
+  pub passing-same : {xs : List A} → All (λ x. f x ≡ true) xs → passing f xs ≡ xs
+  unfolding passing
+  passing-same nil = refl
+  passing-same (cons {a = x} {l = xs} h a) = rw (h, passing-same a)
+
+  -- of one list behind another
+  pub passing-append : (xs ys : List A) → passing f (xs ++ ys) ≡ passing f xs ++ passing f ys
+  unfolding passing
+  passing-append [] ys = refl
+  passing-append (x ∷ xs) ys = by-case (f x) (passing-append xs ys)
+    where
+      by-case : (t : Bool) → passing f (xs ++ ys) ≡ passing f xs ++ passing f ys
+          → cond t (x ∷ passing f (xs ++ ys)) (passing f (xs ++ ys)) ≡ cond t (x ∷ passing f xs) (passing f xs) ++ passing f ys
+      by-case true e = ap (_∷_ x) e
+      by-case false e = e

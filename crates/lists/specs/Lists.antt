@@ -40,6 +40,11 @@ unfoldable pub withoutFirst : {A : Type 0} → (A → Bool) → List A → List 
 withoutFirst f [] = []
 withoutFirst f (x ∷ xs) = let rest = x ∷ withoutFirst f xs in cond (f x) xs rest
 
+-- the elements that pass the test
+unfoldable pub passing : {A : Type 0} → (A → Bool) → List A → List A
+passing f [] = []
+passing f (x ∷ xs) = let rest = passing f xs in cond (f x) (x ∷ rest) rest
+
 -- what stands before the first element that passes the test; the whole list where none passes
 unfoldable pub beforeFirst : {A : Type 0} → (A → Bool) → List A → List A
 beforeFirst f [] = []

@@ -27,6 +27,10 @@ counted n = min (n + 1) 4294967295
 abbrev pub mostStock : ℕ
 mostStock = 33619455
 
+-- a gateway's state at first: the opening stock, and the counters 0
+abbrev pub openingState : ℕ → State
+openingState stock = record { stock = stock; failed = 0; fitted = 0; short = 0 }
+
 -- the state after doing a message of that kind
 abbrev pub after : State → Kind → State
 -- Failure: failed + 1

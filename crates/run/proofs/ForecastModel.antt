@@ -7,9 +7,9 @@ use mathlib.Core.List.{List, [], _∷_}
 use lib.Dec.{ltb, leb, eqb}
 use lib.ListN.{length}
 use borrow.Author.Tests.{ltb-true, leb-true, eqb-true, lt-ltb}
-use Rattle.lists.specs.Lists.{All, nil, cons}
-use Rattle.lists.proofs.ListLaws.{all-map}
-use Rattle.model.specs.Doing.{leadTimesValid, after, sent, sentFor, notPast, reply}
+use Rattle.lists.specs.Lists.{All, nil, cons, passing}
+use Rattle.lists.proofs.ListLaws.{all-map, passing-pass, passing-all, passing-length, passing-same}
+use Rattle.model.specs.Doing.{leadTimesValid, openingState, after, sent, sentFor, notPast, reply}
 use Rattle.model.specs.Messages.{originOf}
 use Rattle.model.specs.declared.Kind.{Kind}
 use Rattle.model.specs.declared.Kind.the-variants.{Failure, Request, Delivery, Restock, Start, Lvt, Update}
@@ -27,47 +27,6 @@ use Rattle.gateway.specs.SettingUp.{settingsOf, cutFrames, queued}
 use Rattle.gateway.specs.Working.{pendingOf}
 use Rattle.event_steps.specs.Models.{Model, ModelLaws, first}
 use Rattle.run.specs.Forecast.{SetUpInput}
-
--- the elements that pass the test
-unfoldable pub passing : {A : Type 0} → (A → Bool) → List A → List A
-passing f [] = []
-passing f (x ∷ xs) = let rest = passing f xs in cond (f x) (x ∷ rest) rest
-
-module _ {A : Type 0} (f : A → Bool) where
-  -- they all do
-  pub passing-pass : (xs : List A) → All (λ x. f x ≡ true) (passing f xs)
-  unfolding passing
-  passing-pass [] = nil
-  passing-pass (x ∷ xs) = by-case (f x) refl (passing-pass xs)
-    where
-      by-case : (t : Bool) → f x ≡ t → All (λ x. f x ≡ true) (passing f xs) → All (λ x. f x ≡ true) (cond t (x ∷ passing f xs) (passing f xs))
-      by-case true e a = cons e a
-      by-case false e a = a
-
-  -- and have what all have
-  pub passing-all : {p : A → Type 0} {xs : List A} → All p xs → All p (passing f xs)
-  unfolding passing
-  passing-all nil = nil
-  passing-all {p} (cons {a = x} {l = xs} h a) = by-case (f x) (passing-all a)
-    where
-      by-case : (t : Bool) → All p (passing f xs) → All p (cond t (x ∷ passing f xs) (passing f xs))
-      by-case true b = cons h b
-      by-case false b = b
-
-  pub passing-length : (xs : List A) → length (passing f xs) ≤ length xs
-  unfolding passing
-  passing-length [] = omega arith
-  passing-length (x ∷ xs) = by-case (f x) (passing-length xs)
-    where
-      by-case : (t : Bool) → length (passing f xs) ≤ length xs → length (cond t (x ∷ passing f xs) (passing f xs)) ≤ length (x ∷ xs)
-      by-case true h = omega arith
-      by-case false h = omega arith
-
-  -- where all pass, nothing is left out
-  pub passing-same : {xs : List A} → All (λ x. f x ≡ true) xs → passing f xs ≡ xs
-  unfolding passing
-  passing-same nil = refl
-  passing-same (cons {a = x} {l = xs} h a) = rw (h, passing-same a)
 
 -- a list of at most one element has what that element has
 pub all-of-one : {A : Type 0} {p : A → Type 0} (xs : List A) → length xs ≤ 1 → ((x : A) → xs ≡ x ∷ [] → p x) → All p xs
@@ -153,7 +112,7 @@ module _ (n last : ℕ) (setups : ℕ → SetUpInput) where
     to = λ m. m .to;
     last = n - 1;
     never = nothingDue;
-    start = λ i. record { stock = setups i .opening .stock; failed = 0; fitted = 0; short = 0 };
+    start = λ i. openingState (setups i .opening .stock);
     opening = λ i. passing (openingHere i) (openingAt i);
     step = λ i s m. after s (m .kind);
     sends = sendsAt;

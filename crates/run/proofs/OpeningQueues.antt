@@ -7,12 +7,12 @@ use mathlib.Core.List.{List, [], _∷_, _++_, map}
 use lib.Dec.{ltb, eqb}
 use lib.ListN.{length}
 use borrow.Author.Tests.{eq-eqb, lt-ltb}
-use Rattle.lists.specs.Lists.{_∈_, Ascending, none, any, All, nil, cons, count}
+use Rattle.lists.specs.Lists.{_∈_, Ascending, none, any, All, nil, cons, count, passing}
 use Rattle.lists.specs.Families.{together}
 use Rattle.lists.proofs.FamilyLaws.{together-all}
 use Rattle.lists.proofs.SearchLaws.{cut-first, before-fails}
 use Rattle.lists.proofs.ListLaws.{all-append, all-left, all-right, all-map, insert-between, count-nil, count-cons, count-append}
-use Rattle.lists.proofs.ListLaws.{count-insert, count-all, all-count, all-each}
+use Rattle.lists.proofs.ListLaws.{count-insert, count-all, all-count, all-each, passing-same}
 use Rattle.lists.proofs.Ascents.{insert-ascending}
 use Rattle.model.specs.Messages.{originOf}
 use Rattle.model.specs.declared.Message.{Message}
@@ -39,7 +39,7 @@ use Rattle.run.specs.SingleQueue.{openingMessages, openingQueue}
 use Rattle.run.specs.Ledger as Ledger
 use Rattle.run.specs.Ledger.{afterPlain}
 use Rattle.run.specs.World.{openingLedger}
-use Rattle.run.proofs.ForecastModel.{forecastModel, openingAt, openingHere, passing, passing-same}
+use Rattle.run.proofs.ForecastModel.{forecastModel, openingAt, openingHere}
 use Rattle.run.proofs.QueueViews.{waitingOf, viewOf, pending-append, Marked, marked, pending, processed, waiting}
 use Rattle.run.proofs.QueueChanges.{each-all, none-done, saved-none}
 use Rattle.run.proofs.SavedStates.{Saved, stateAt}

@@ -6,7 +6,7 @@ use mathlib.Core.Bool.{true}
 use mathlib.Core.List.{List, [], _∷_, _++_}
 use lib.ListN.{getD, replicate}
 use Rattle.buffer.specs.Slice.{part}
-use Rattle.model.specs.Doing.{sent}
+use Rattle.model.specs.Doing.{openingState, sent}
 use Rattle.model.specs.declared.Kind.{Kind}
 use Rattle.model.specs.declared.Kind.the-variants.{Failure, Request, Delivery}
 use Rattle.model.specs.declared.LeadTimes.{LeadTimes}
@@ -48,7 +48,7 @@ afterSetUp t = setUp (told t) [] (replicate 640 7) .memory
 abbrev gateway : ℕ → LeadTimes → ℕ → List Entry → List Sent → Gateway
 gateway last t stock queue outstanding = record {
   settings = record { n = 2; own = 1; supplier = 1; last = last; q = 4; u = 4; hours = t };
-  state = record { stock = stock; failed = 0; fitted = 0; short = 0 };
+  state = openingState stock;
   agreed = 0;
   round = idle;
   queue = queue;

@@ -5,7 +5,7 @@ use mathlib.Core.Bool.{cond}
 use mathlib.Core.List.{List, [], _∷_, _++_, map}
 use lib.ListN.{length}
 use Rattle.lists.specs.Families.{change, together}
-use Rattle.model.specs.Doing.{after, sent}
+use Rattle.model.specs.Doing.{openingState, after, sent}
 use Rattle.model.specs.declared.Message.{Message}
 use Rattle.model.specs.declared.State.{State}
 use Rattle.frame.specs.Reasons.{reading}
@@ -28,7 +28,7 @@ pub record Queue : Type 0 where
 -- at first: the opening stocks, the counters 0, all opening lists together, empty records
 unfoldable pub openingQueue : ℕ → (ℕ → SetUpInput) → Queue
 openingQueue n setups = record {
-  states = λ i. record { stock = setups i .opening .stock; failed = 0; fitted = 0; short = 0 };
+  states = λ i. openingState (setups i .opening .stock);
   list = together n (λ i. openingMessages (setups i .list));
   records = λ i. [];
 }

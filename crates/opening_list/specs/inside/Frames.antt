@@ -6,6 +6,7 @@ use lib.ListN.{length}
 use Rattle.lists.specs.Lists.{beforeFirst}
 use Rattle.lists.specs.inside.Positions.{firstWhere}
 use Rattle.lists.specs.inside.Pieces.{piecesFrom, isRefused}
+use Rattle.model.specs.Doing.{openingState}
 use Rattle.model.specs.declared.Message.{Message}
 use Rattle.frame.specs.Layout.{wholeLength}
 use Rattle.memory.specs.declared.Settings.{Settings}
@@ -36,7 +37,7 @@ memoryEntered count m memory =
 abbrev pub openedHeader : Opening → ℕ → Header
 openedHeader o count = record {
   settings = settingsOf o;
-  state = record { stock = o .stock; failed = 0; fitted = 0; short = 0 };
+  state = openingState (o .stock);
   agreed = 0;
   round = idle;
   queued = count;
