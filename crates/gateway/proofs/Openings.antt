@@ -153,21 +153,27 @@ opening-settings o size list h =
     let valid : openingValid o size ≡ true = opening-passes o size list h .valid in
     settings-facts (settingsOf o) (search (and-left, and-right))
 
+pub opening-stock : (o : Opening) (size : ℕ) (list : List ℕ) → setUpRefusal o size list ≡ 0 → o .stock ≤ 65535
+unfolding openingValid
+opening-stock o size list h =
+    let valid : openingValid o size ≡ true = opening-passes o size list h .valid in
+    leb-true (o .stock) 65535 (search (and-left, and-right))
+
 pub opened-keeps : (o : Opening) (size : ℕ) (list : List ℕ) → Bytes list → setUpRefusal o size list ≡ 0 → Kept (settingsOf o) (opened o
     (cutFrames (length list) list))
-unfolding opened roundPossible openingValid
+unfolding opened roundPossible
 opened-keeps o size list bytes h =
     let fs = cutFrames (length list) list in
     let passes = opening-passes o size list h in
     let q = queued-good {s = settingsOf o} [] (record { entries = λ e m. absurd (List·Memᴰ·not-nil m); order = none }) (λ e m. absurd (List·Memᴰ·not-nil m)) fs
     (λ f m. opening-taken (settingsOf o) f (cut-bytes wholeLength (length list) list bytes f m) (first-none (openingRefusal (settingsOf o)) fs (passes .frames) f m)) in
-    let valid : openingValid o size ≡ true = passes .valid in
+    let stock = opening-stock o size list h in
     enough
     (record {
       same = refl;
       settings = opening-settings o size list h;
       state = record {
-        stock = omega (arith, leb-true (o .stock) 65535 (search (and-left, and-right)));
+        stock = omega arith;
         failed = omega arith;
         fitted = omega
             arith;
@@ -179,7 +185,7 @@ opened-keeps o size list bytes h =
       entries = q .good .entries;
       order = q .good .order;
       stocks = stocks-open (openingState (o .stock)) (queued [] fs)
-          (leb-true (o .stock) 65535 (search (and-left, and-right)))
+          stock
           (omega (arith, length-queued [] fs, passes .places, opening-settings o size list h .q))
           (λ e m. pending-not-processed (e .mark) (q .pending e m))
           (λ e m. omega (arith, q .good .entries e m .ranged .message .quantity));

@@ -2,7 +2,7 @@
 use mathlib.Core.Path.{_≡_, sym, _∙_, ap}
 use mathlib.Core.Bool.{true, cond}
 use mathlib.Core.List.{List, [], _∷_, _++_}
-use Prim.Native.Nat.{ℕ, _+_, _≤_, _<_}
+use Prim.Native.Nat.{ℕ, _+_, _≤_, _<_, _^_}
 use native.Mathlib.Omega.{arith}
 use native.Mathlib.Decide.{decLt}
 use lib.Dec.{leb, eqb}
@@ -84,6 +84,7 @@ pub record RestockParts (field : StockField) (s : List ℕ) : Type 0 where
   pub long : 10 + stateSizeOf field ≤ length s
   pub hour : bytesOf 4 (eventOf field s .message .hour) ≡ part s 4 4
   pub quantity : bytesOf 2 (quantityOf (eventOf field s .message .kind)) ≡ part s 8 2
+  pub fits : quantityOf (eventOf field s .message .kind) < 256 ^ 2
   pub state : eventOf field s .state ≡ stateWith (stockWidthOf field) (part s 10 (stateSizeOf field))
 
 pub data Parts (field : StockField) (s : List ℕ) : Type 0 where
@@ -182,6 +183,7 @@ module _ (field : StockField) (s : List ℕ) (bytes : Bytes s) (t : TakenEvent f
         long = whole-event whole;
         hour = sym (ap (λ (l : List ℕ). part l 4 4) is) ∙ in-frame whole 4 4 (omega arith);
         quantity = sym (ap (λ (l : List ℕ). part l 8 2) is) ∙ in-frame whole 8 2 (omega arith);
+        fits = one-to-one .readRanged (frameIn s) (bytes-take (wholeLength (getD s 0 0)) s bytes) (t .form) .quantity;
         state = state-there whole;
       }
 
@@ -191,3 +193,29 @@ module _ (field : StockField) (s : List ℕ) (bytes : Bytes s) (t : TakenEvent f
       go : Dec (kindNumber (reading (frameIn s) .frame .message .kind) < 3) → Parts field s
       go (yes h) = withLamp (lamp-parts (omega arith))
       go (no h) = restock (restock-parts (let k = t .kind in omega arith))
+
+-- of an event that is taken: its parts, by the kind in its second byte
+module _ (field : StockField) (s : List ℕ) (bytes : Bytes s) (z : eventRefusal field s ≡ 0) where
+  taken-parts : Parts field s
+  taken-parts = parts field s bytes (event-taken field s z)
+
+  pub kind-inside : 1 < length s
+  kind-inside = by taken-parts
+    where
+      by : Parts field s → 1 < length s
+      by (withLamp p) = omega (arith, p .long)
+      by (restock p) = omega (arith, p .long)
+
+  pub taken-restock : getD s 1 0 ≡ 3 → RestockParts field s
+  taken-restock k = by taken-parts
+    where
+      by : Parts field s → RestockParts field s
+      by (withLamp p) = absurd (omega (arith, p .kind, k))
+      by (restock p) = p
+
+  pub taken-lamp : (getD s 1 0 ≡ 3 → ⊥) → LampParts field s
+  taken-lamp k = by taken-parts
+    where
+      by : Parts field s → LampParts field s
+      by (withLamp p) = p
+      by (restock p) = absurd (k (p .kind))

@@ -26,7 +26,7 @@ use Rattle.records.specs.Events.{Event, stockWidthOf, stateSizeOf, eventRefusal
 use Rattle.records.specs.inside.Finding.{frameOfKind}
 use Rattle.records.specs.declared.StockField.{StockField}
 use Rattle.records.specs.declared.StockField.the-variants.{Present, Old}
-use Rattle.records.proofs.EventParts.{LampParts, RestockParts, Parts, withLamp, restock, event-taken, parts}
+use Rattle.records.proofs.EventParts.{LampParts, RestockParts, Parts, withLamp, restock, event-taken, parts, taken-restock, taken-lamp}
 use Rattle.views.specs.Fields.{seen}
 use Rattle.views.specs.Bytes.{fieldBytes, placeBytes, viewMap, placesBytes, eventView}
 use Rattle.views.specs.inside.Parts.{lengthFor, viewLength, headOf, frontOf, stateFrom, widened}
@@ -113,21 +113,10 @@ module _ (field : StockField) (s : List ℕ) (b : Bytes s) (z : eventRefusal fie
         ap stateBytes e
         ∙ state-wide field (part s from (stateSizeOf field)) (length-part s from (stateSizeOf field) h) (bytes-part s from (stateSizeOf field) b)
 
-  pub kind-inside : 1 < length s
-  kind-inside = by its-parts
-    where
-      by : Parts field s → 1 < length s
-      by (withLamp p) = omega (arith, p .long)
-      by (restock p) = omega (arith, p .long)
-
   -- a Restock
   module _ (k : getD s 1 0 ≡ 3) where
     is-restock : RestockParts field s
-    is-restock = by its-parts
-      where
-        by : Parts field s → RestockParts field s
-        by (withLamp p) = absurd (omega (arith, p .kind, k))
-        by (restock p) = p
+    is-restock = taken-restock field s b z k
 
     pub restock-long : 10 ≤ length s
     restock-long = omega (arith, is-restock .long)
@@ -144,11 +133,7 @@ module _ (field : StockField) (s : List ℕ) (b : Bytes s) (z : eventRefusal fie
   -- a Failure, Request or Delivery
   module _ (k : getD s 1 0 ≡ 3 → ⊥) where
     has-lamp : LampParts field s
-    has-lamp = by its-parts
-      where
-        by : Parts field s → LampParts field s
-        by (withLamp p) = p
-        by (restock p) = absurd (k (p .kind))
+    has-lamp = taken-lamp field s b z k
 
     pub lamp-long : 27 ≤ length s
     lamp-long = omega (arith, has-lamp .long)

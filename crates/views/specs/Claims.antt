@@ -11,7 +11,7 @@ use Rattle.views.specs.Secrecy.{Taken}
 use Rattle.views.specs.declared.Reader.{Reader}
 
 pub record ViewClaims : Type 0 where
-  -- a view of a record that is taken is no longer than the record, with the stock of today and with the old one
+  -- a view of a record that is taken is no longer than the record, with the present stock and with the old one
   pub within : (reader : Reader) (field : StockField) (r : List ℕ) → Bytes r → Taken field r → length (view reader field r) ≤ length r
   -- so that with an output as long as the record the call answers 0
   pub answered : (reader oldStock : ℕ) (r out : List ℕ) → Bytes r → Taken (stockFieldOf oldStock) r → reader < 2 → oldStock < 2

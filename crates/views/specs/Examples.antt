@@ -7,6 +7,7 @@ use lib.ListN.{take, drop, getD, replicate}
 use Rattle.buffer.specs.Slice.{sameBytes}
 use Rattle.buffer.specs.Number.{bytesOf}
 use Rattle.records.specs.Events.{recordRefusal}
+use Rattle.records.specs.ExampleRecords.{lamp, blanks, frame, failureFrame, restockFrame, state}
 use Rattle.records.specs.declared.StockField.the-variants.{Present, Old}
 use Rattle.views.specs.Fields as Fields
 use Rattle.views.specs.Fields.{holds, lacks}
@@ -15,38 +16,18 @@ use Rattle.views.specs.Viewing.{ViewResult, refusedView, viewed}
 use Rattle.views.specs.Secrecy.{fieldsSeen}
 use Rattle.views.specs.declared.Reader.the-variants.{Purchasing, Maintenance}
 
--- the lamp ABCDEFGHIJKLMNOPQR, the lamp of eighteen zeros, and eighteen blanks, which are no lamp
-abbrev lamp : List ℕ
-lamp = 65 ∷ 66 ∷ 67 ∷ 68 ∷ 69 ∷ 70 ∷ 71 ∷ 72 ∷ 73 ∷ 74 ∷ 75 ∷ 76 ∷ 77 ∷ 78 ∷ 79 ∷ 80 ∷ 81 ∷ 82 ∷ []
-
+-- the lamp of eighteen zeros
 abbrev zeros : List ℕ
 zeros = replicate 18 48
 
-abbrev blanks : List ℕ
-blanks = replicate 18 32
-
--- a plain frame of kinds 0 to 2: map, kind, from, to, hour, origin, lamp
-abbrev frame : (kind from to hour origin : ℕ) → (lamp : List ℕ) → List ℕ
-frame kind from to hour origin lamp = 63 ∷ kind ∷ from ∷ to ∷ (bytesOf 4 hour ++ (origin ∷ lamp))
-
--- a Failure at gateway 3; a Request at hour 10 with origin 3; the same from 3 to 4 with a sense, behind the lamp
-abbrev failureFrame : (hour : ℕ) → (lamp : List ℕ) → List ℕ
-failureFrame hour lamp = frame 0 3 3 hour 3 lamp
-
+-- a Request at hour 10 with origin 3; the same from 3 to 4 with a sense, behind the lamp
 abbrev requestFrame : (from to : ℕ) → List ℕ
 requestFrame from to = frame 1 from to 10 3 lamp
 
 abbrev senseFrame : (sense : ℕ) → List ℕ
 senseFrame sense = 191 ∷ 1 ∷ 3 ∷ 4 ∷ (bytesOf 4 10 ++ (3 ∷ (lamp ++ (sense ∷ []))))
 
--- a Restock of 300 at gateway 3 at hour 258: map, kind, from, to, hour, quantity
-abbrev restockFrame : List ℕ
-restockFrame = 79 ∷ 3 ∷ 3 ∷ 3 ∷ (bytesOf 4 258 ++ bytesOf 2 300)
-
--- a state: stock, failed, fitted, short; the same with the old stock
-abbrev state : (stock failed fitted short : ℕ) → List ℕ
-state stock failed fitted short = bytesOf 4 stock ++ (bytesOf 4 failed ++ (bytesOf 4 fitted ++ bytesOf 4 short))
-
+-- a state with the old stock
 abbrev oldState : (stock failed fitted short : ℕ) → List ℕ
 oldState stock failed fitted short = bytesOf 2 stock ++ (bytesOf 4 failed ++ (bytesOf 4 fitted ++ bytesOf 4 short))
 
@@ -62,7 +43,7 @@ abbrev failure : List ℕ
 failure = event (failureFrame 10 lamp)
 
 abbrev restock : List ℕ
-restock = restockFrame ++ state 301 2 3 4
+restock = restockFrame 258 300 ++ state 301 2 3 4
 
 abbrev both : List ℕ
 both = failure ++ restock
@@ -72,7 +53,7 @@ abbrev oldFailure : List ℕ
 oldFailure = failureFrame 10 lamp ++ oldState 1 2 3 4
 
 abbrev oldRestock : List ℕ
-oldRestock = restockFrame ++ oldState 301 2 3 4
+oldRestock = restockFrame 258 300 ++ oldState 301 2 3 4
 
 abbrev oldBoth : List ℕ
 oldBoth = oldFailure ++ oldRestock
@@ -105,7 +86,7 @@ failureForMaintenance = 15 ∷ 0 ∷ 0 ∷ 0 ∷ 10 ∷ 0 ∷ (lamp ++ (3 ∷ []
 abbrev restockForMaintenance : List ℕ
 restockForMaintenance = 3 ∷ 0 ∷ 0 ∷ 1 ∷ 2 ∷ 3 ∷ []
 
--- what a record with the stock of today is refused with, or 0
+-- what a record with the present stock is refused with, or 0
 abbrev refusal : List ℕ → ℕ
 refusal bytes = recordRefusal Present bytes
 
@@ -182,10 +163,10 @@ pub record ViewExamples : Type 0 where
       × (stockIn (view Purchasing Present (stocked 33619455)) ≡ 2 ∷ 0 ∷ 253 ∷ 255 ∷ [])
   -- an old stock in four bytes too: 65,535, the largest
   pub oldLargest : stockIn (view Purchasing Old (failureFrame 10 lamp ++ oldState 65535 2 3 4)) ≡ 0 ∷ 0 ∷ 255 ∷ 255 ∷ []
-  -- a record with the old stock gives both readers the bytes of the record with the same values and the stock of today
+  -- a record with the old stock gives both readers the bytes of the record with the same values and the present stock
   pub oldAlike : (viewed 0 1 oldBoth (room 46) ≡ wrote 46 (failureForPurchasing ++ restockForPurchasing))
       × (viewed 1 1 oldBoth (room 31) ≡ wrote 31 (failureForMaintenance ++ restockForMaintenance))
-  -- an old state of thirteen bytes is cut, 11, one of fourteen is whole; a state of today has sixteen
+  -- an old state of thirteen bytes is cut, 11, one of fourteen is whole; a present one has sixteen
   pub cutStates : (recordRefusal Old (failureFrame 10 lamp ++ take 13 (oldState 1 2 3 4)) ≡ 11) × (recordRefusal Old oldFailure ≡ 0)
       × (refusal (failureFrame 10 lamp ++ take 15 (state 1 2 3 4)) ≡ 11) × (refusal failure ≡ 0)
   -- its frame's refusals come first there too: gateway 255 before a cut old state
@@ -194,5 +175,5 @@ pub record ViewExamples : Type 0 where
   pub noSuchStock : (viewed 0 2 failure (room 26) ≡ refusedView 8 (room 26)) × (viewed 2 2 failure (room 26) ≡ refusedView 8 (room 26))
       × (viewed 1 2 failure (room 3) ≡ refusedView 8 (room 3)) × (viewed 0 2 (63 ∷ []) [] ≡ refusedView 8 [])
   -- a record read with the stock that it does not have: alone the old Failure is cut, 11, with the Restock behind it the next event
-  -- begins with another map, 1; two bytes of the Failure with the stock of today are left, a map of 0, 11
+  -- begins with another map, 1; two bytes of the Failure with the present stock are left, a map of 0, 11
   pub misread : (refusal oldFailure ≡ 11) × (refusal oldBoth ≡ 1) × (recordRefusal Old failure ≡ 11)

@@ -1,10 +1,11 @@
 -- `views::put_for_maintenance` meets its contract.
 use native.Mathlib.Omega.{arith}
 use Rattle.buffer.proofs.Lent.{bytes-known}
+use Rattle.records.proofs.EventParts.{kind-inside}
 use Rattle.records.specs.Events.{eventOf}
 use Rattle.views.specs.Bytes.{eventView}
 use Rattle.views.specs.declared.Reader.the-variants.{Maintenance}
-use Rattle.views.proofs.ViewParts.{kind-inside, restock-long, maintenance-restock, lamp-long, maintenance-lamp, front-room, front-put, lamp-room, lamp-fits, lamp-length, lamp-put}
+use Rattle.views.proofs.ViewParts.{restock-long, maintenance-restock, lamp-long, maintenance-lamp, front-room, front-put, lamp-room, lamp-fits, lamp-length, lamp-put}
 use borrow.Author.Needs.{needs}
 use Rattle.views.proofs.put_for_maintenance.Statement.{statement}
 use Rattle.views.proofs.put_for_maintenance.Tie as tie

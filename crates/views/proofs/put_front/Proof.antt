@@ -1,7 +1,8 @@
 -- `views::put_front` meets its contract.
 use native.Mathlib.Omega.{arith}
 use Rattle.buffer.proofs.Lent.{bytes-known}
-use Rattle.views.proofs.ViewParts.{kind-inside, restock-long, lamp-long, restock-room, quantity-fits, restock-front, head-room, lamp-front}
+use Rattle.records.proofs.EventParts.{kind-inside}
+use Rattle.views.proofs.ViewParts.{restock-long, lamp-long, restock-room, quantity-fits, restock-front, head-room, lamp-front}
 use borrow.Author.Needs.{needs}
 use Rattle.views.proofs.put_front.Statement.{statement}
 use Rattle.views.proofs.put_front.Tie as tie
