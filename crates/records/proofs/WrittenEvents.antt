@@ -1,7 +1,7 @@
--- What commit writes is taken: events written one behind the other are cut into these events, and none of them is refused.
-use mathlib.Core.Path.{_≡_, refl, sym, _∙_, ap, ap₂}
+-- What commit writes is taken: events written one behind the other are cut into these events, none of them is refused, and they are read back.
+use mathlib.Core.Path.{_≡_, refl, _∙_, ap, ap₂}
 use mathlib.Core.Bool.{true, false}
-use mathlib.Core.List.{List, [], _∷_, _++_, append-nil}
+use mathlib.Core.List.{List, [], _∷_, _++_, map}
 use Prim.Native.Nat.{ℕ, _≤_, _<_}
 use native.Mathlib.Nat.{add-zero}
 use native.Mathlib.Omega.{arith}
@@ -9,7 +9,7 @@ use lib.ListN.{length, take, getD, length-append}
 use lib.Seq.{take-at}
 use borrow.Author.Tests.{le-leb, lt-ltb}
 use Rattle.lists.specs.Lists.{All, nil, cons, joined, firstNumber}
-use Rattle.lists.proofs.ListLaws.{all-append, all-image, all-map, joined-append}
+use Rattle.lists.proofs.ListLaws.{all-image, all-map}
 use Rattle.lists.proofs.PieceLaws.{none-first, pieces-joined}
 use Rattle.buffer.specs.Slice.{part}
 use Rattle.buffer.proofs.Standing.{part-back, part-whole}
@@ -26,12 +26,15 @@ use Rattle.frame.specs.declared.Reading.{Reading}
 use Rattle.frame.specs.declared.Form.the-variants.{Good}
 use Rattle.frame.proofs.Laws.{one-to-one}
 use Rattle.frame.proofs.Output.{whole-size}
-use Rattle.memory.specs.Codec.{stateBytes}
+use Rattle.memory.specs.Ranges.{RangedState}
+use Rattle.memory.specs.Codec.{stateBytes, stateWith}
 use Rattle.memory.specs.Validity.{frameIf}
 use Rattle.memory.proofs.Stored.{length-state}
+use Rattle.memory.proofs.RoundTrips as RoundTrips
 use Rattle.records.specs.declared.StockField.{StockField}
 use Rattle.records.specs.declared.StockField.the-variants.{Present}
-use Rattle.records.specs.Events.{mostGateways, latestHour, Event, stateSizeOf, eventLength, frameIn, stateIn, frameRefusal, eventRefusal, recordRefusal, eventOf}
+use Rattle.records.specs.Events.{mostGateways, latestHour, Event, stockWidthOf, stateSizeOf, eventLength, cutEvents, frameIn, stateIn, frameRefusal}
+use Rattle.records.specs.Events.{eventRefusal, recordRefusal, eventOf, eventsOf}
 use Rattle.records.proofs.EventBranches.{event-some}
 
 -- a message that may stand in a record
@@ -90,6 +93,10 @@ module _ (field : StockField) (m : Message) (k : Recordable m) (state : List ℕ
   unfolding eventOf
   message-read = ap (λ (r : Reading). r .frame .message) frame-read
 
+  state-read : eventOf field s .state ≡ stateWith (stockWidthOf field) state
+  unfolding eventOf
+  state-read = ap (stateWith (stockWidthOf field)) state-back
+
   pub event-taken : eventRefusal field s ≡ 0
   unfolding eventRefusal
   event-taken =
@@ -101,41 +108,43 @@ module _ (field : StockField) (m : Message) (k : Recordable m) (state : List ℕ
 unfoldable pub eventBytes : Event → List ℕ
 eventBytes e = written (frameIf false (e .message)) ++ stateBytes (e .state)
 
-written-whole : (e : Event) → Recordable (e .message) → eventLength Present (getD (eventBytes e) 0 0) ≡ length (eventBytes e)
-unfolding eventBytes
-written-whole e k = event-whole Present (e .message) k (stateBytes (e .state)) (length-state (e .state))
+-- an event that may stand in a record
+pub record RecordableEvent (e : Event) : Type 0 where
+  pub message : Recordable (e .message)
+  pub state : RangedState (e .state)
 
-written-taken : (e : Event) → Recordable (e .message) → eventRefusal Present (eventBytes e) ≡ 0
-unfolding eventBytes
-written-taken e k = event-taken Present (e .message) k (stateBytes (e .state)) (length-state (e .state))
+module _ (e : Event) (k : RecordableEvent e) where
+  written-whole : eventLength Present (getD (eventBytes e) 0 0) ≡ length (eventBytes e)
+  unfolding eventBytes
+  written-whole = event-whole Present (e .message) (k .message) (stateBytes (e .state)) (length-state (e .state))
+
+  written-taken : eventRefusal Present (eventBytes e) ≡ 0
+  unfolding eventBytes
+  written-taken = event-taken Present (e .message) (k .message) (stateBytes (e .state)) (length-state (e .state))
+
+  -- it is read back
+  written-read : eventOf Present (eventBytes e) ≡ e
+  unfolding eventBytes
+  written-read =
+      let size = length-state (e .state) in
+      let state = state-read Present (e .message) (k .message) (stateBytes (e .state)) size ∙ RoundTrips.state-back (e .state) (k .state) in
+      λ i. record { message = message-read Present (e .message) (k .message) (stateBytes (e .state)) size i; state = state i }
 
 -- a record of events that were written one behind the other
-pub record Recorded (bytes : List ℕ) : Type 0 where
-  pub events : List Event
-  pub recordable : All (λ (e : Event). Recordable (e .message)) events
-  pub are : bytes ≡ joined eventBytes events
+module _ {events : List Event} (all : All RecordableEvent events) where
+  written-cut : cutEvents Present (joined eventBytes events) ≡ map eventBytes events
+  written-cut = pieces-joined (eventLength Present) (event-some Present) eventBytes events (all-map written-whole all)
 
--- at first, and with one more event
-pub none-recorded : Recorded []
-unfolding joined
-none-recorded = record { events = []; recordable = nil; are = refl }
+  -- it is not refused
+  pub record-taken : recordRefusal Present (joined eventBytes events) ≡ 0
+  unfolding recordRefusal
+  record-taken = ap (firstNumber (eventRefusal Present)) written-cut ∙ none-first (eventRefusal Present) (all-image eventBytes (all-map written-taken all))
 
-pub one-recorded : {bytes : List ℕ} → Recorded bytes → (e : Event) → Recordable (e .message) → Recorded (bytes ++ eventBytes e)
-unfolding joined
-one-recorded {bytes} r e k =
-    record {
-      events = r .events ++ (e ∷ []);
-      recordable = all-append (r .recordable) (cons k nil);
-      are =
-          ap₂ _++_ (r .are) (sym (append-nil (eventBytes e)))
-          ∙ sym (joined-append eventBytes (r .events) (e ∷ []));
-    }
+all-read : {events : List Event} → All RecordableEvent events → map (eventOf Present) (map eventBytes events) ≡ events
+all-read nil = refl
+all-read (cons {a = e} k all) = ap₂ _∷_ (written-read e k) (all-read all)
 
--- it is not refused
-pub record-taken : {bytes : List ℕ} → Recorded bytes → recordRefusal Present bytes ≡ 0
-unfolding recordRefusal
-record-taken r =
-    ap (recordRefusal Present) (r .are)
-    ∙ ap (firstNumber (eventRefusal Present)) (pieces-joined (eventLength Present) (event-some Present) eventBytes (r .events) (all-map written-whole
-    (r .recordable)))
-    ∙ none-first (eventRefusal Present) (all-image eventBytes (all-map written-taken (r .recordable)))
+-- and its events are read back
+pub record-read : {events : List Event} → All RecordableEvent events → eventsOf Present (joined eventBytes events) ≡ events
+unfolding eventsOf
+record-read all = ap (map (eventOf Present)) (written-cut all) ∙ all-read all

@@ -21,6 +21,7 @@ use Rattle.run.proofs.RoundWorlds.{Alike}
 use Rattle.run.proofs.PassingFrames.{Passing}
 use Rattle.run.proofs.DueHours.{NoteDue}
 use Rattle.run.proofs.HeldGateways.{held-proper}
+use Rattle.run.proofs.CommittedEvents.{Committed}
 use Rattle.run.proofs.ClaimParts.{Beside}
 
 module _ (n : ℕ) (some : 1 ≤ n) (last : ℕ) (setups : ℕ → SetUpInput) where
@@ -53,6 +54,8 @@ module _ (n : ℕ) (some : 1 ≤ n) (last : ℕ) (setups : ℕ → SetUpInput) w
     -- no frame under way is turned down for its form, its numbers or its hour, and the notes are hours that may be sent
     pub passing : All (λ c. Passing n last (c .frame)) (w .underWay)
     pub notes : (i : ℕ) → i < n → NoteDue last (gatewaysIn w i .round)
+    -- the events that each gateway has committed may stand in a record
+    pub committed : (i : ℕ) → i < n → Committed n last setups i (beside .done i)
 
   -- What a call comes to that leads from the theory's world t to the run's world w′: steps to a world that belongs to it.
   pub record Keeps (t : Worlds.World forecastSetting) (w′ : World) : Type 0 where

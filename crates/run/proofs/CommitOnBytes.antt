@@ -24,6 +24,7 @@ use Rattle.run.proofs.EventCalls.{notedAll, commit-saved}
 use Rattle.run.proofs.Ledgers.{committed-follows}
 use Rattle.run.proofs.EventWorlds.{commit-goes}
 use Rattle.run.proofs.CommittedRecords.{accepted, CommitTaken, commit-taken, commit-record}
+use Rattle.run.proofs.CommittedEvents.{one-committed}
 use Rattle.run.proofs.FramesCut.{written-back}
 use Rattle.run.proofs.TakeChains.{still-stands}
 use Rattle.run.proofs.AcceptedCalls.{left, on-sound}
@@ -71,6 +72,7 @@ module _ (n : ℕ) (some : 1 ≤ n) (last : ℕ) (setups : ℕ → SetUpInput) {
           numbered = b .numbered;
           timely = nil;
           passing = b .passing;
+          committed = one-committed n last setups i (w .memories i) (b .bytes i h) (b .stands i h .saved) (k .event) (k .newer) (k .is) (b .committed i h);
         }
 
     commit-kept : Keeps n some last setups t (afterCommitting i (encode next (w .memories i)) (Committing.recordOf (k .event)) w)

@@ -38,6 +38,8 @@ use Rattle.run.proofs.EventFrames.{rounds-still, none-counted, numbered
 use Rattle.run.proofs.HeldGateways.{Holds, written-held}
 use Rattle.run.proofs.DueHours.{NoteDue, noted-due}
 use Rattle.run.proofs.PassingFrames.{Passing}
+use Rattle.run.proofs.CommittedEvents.{Committed}
+use Rattle.run.proofs.ClaimParts.{Beside}
 use Rattle.run.proofs.BesideCalls.{change-self, worldAfter, beside-after, done-after}
 use Rattle.run.proofs.BothWorlds.{model, forecastSetting, gatewaysIn, Both, Keeps}
 
@@ -70,6 +72,7 @@ module _ (n : ℕ) (some : 1 ≤ n) (last : ℕ) (setups : ℕ → SetUpInput) {
     pub numbered : All Numbered cs
     pub timely : All (λ m. m .hour ≤ last) sends
     pub passing : All (λ x. Passing n last (x .frame)) cs
+    pub committed : Committed n last setups i c
 
   module _ (memory : List ℕ) (next : Gateway) (holds : Holds (decode (w .memories i)) memory next) (c : List Message) (cs : List Carried) (l
       : Ledger.Ledger) (comes : Comes next c cs l) where
@@ -95,6 +98,10 @@ module _ (n : ℕ) (some : 1 ≤ n) (last : ℕ) (setups : ℕ → SetUpInput) {
         subst (NoteDue last) (sym (ap (λ (x : Gateway). x .round) (holds .holds) ∙ comes .round))
         (noted-due last (comes .timely) (decode (w .memories i) .round) (b .notes i h))
     notes-at j k false = b .notes j k
+
+    committed-at : (j : ℕ) → j < n → (x : Bool) → eqb i j ≡ x → Committed n last setups j (cond x c (b .beside .done j))
+    committed-at j k true e = subst (λ (m : ℕ). Committed n last setups m c) (eqb-true i j e) (comes .committed)
+    committed-at j k false e = b .committed j k
 
     -- the gateway as it was, with the note lowered
     abbrev noted : Gateway
@@ -131,6 +138,18 @@ module _ (n : ℕ) (some : 1 ≤ n) (last : ℕ) (setups : ℕ → SetUpInput) {
       abbrev follows : Follows n last setups (decode memory .queue) l
       follows = subst (λ (x : Gateway). Follows n last setups (x .queue) l) (sym (holds .holds)) (comes .follows)
 
+      beside-is : Beside n last setups (figureGraph n some) refl (worldAfter w i memory cs bytes l (w .rounds)) (goes-on .world)
+      beside-is =
+          beside-after n last setups (figureGraph n some) refl w t (b .beside) i h memory c cs bytes l (w .rounds) (holds .still .is-sound)
+          goes-on time written follows
+
+      -- only what gateway i has committed changes
+      done-is : beside-is .done ≡ change i c (b .beside .done)
+      unfolding beside-is
+      done-is =
+          done-after n last setups (figureGraph n some) refl w t (b .beside) i h memory c cs bytes l (w .rounds) (holds .still .is-sound)
+          goes-on time written follows
+
       pub keeps : Keeps n some last setups t (worldAfter w i memory cs bytes l (w .rounds))
       unfolding change
       keeps =
@@ -139,18 +158,14 @@ module _ (n : ℕ) (some : 1 ≤ n) (last : ℕ) (setups : ℕ → SetUpInput) {
             steps = goes-on .steps;
             both =
                 record {
-                  beside = beside-after n last setups (figureGraph n some) refl w t (b .beside) i h memory c cs bytes l (w .rounds)
-                      (holds .still .is-sound) goes-on time written follows;
-                  stands = λ j k.
-                      subst (λ (d : ℕ → List Message). Stands n last setups j (d j) (after j))
-                      (sym (done-after n last setups (figureGraph n some) refl w t (b .beside) i h memory c cs bytes l (w .rounds)
-                      (holds .still .is-sound) goes-on time written follows))
-                      (stands-at j k (eqb i j) refl);
+                  beside = beside-is;
+                  stands = λ j k. subst (λ (d : ℕ → List Message). Stands n last setups j (d j) (after j)) (sym done-is) (stands-at j k (eqb i j) refl);
                   bytes = λ j k. bytes-at j k (eqb i j);
                   rounds = alike-after;
                   numbered = comes .numbered;
                   passing = comes .passing;
                   notes = λ j k. notes-at j k (eqb i j);
+                  committed = λ j k. subst (λ (d : ℕ → List Message). Committed n last setups j (d j)) (sym done-is) (committed-at j k (eqb i j) refl);
                 };
           }
 
@@ -172,6 +187,7 @@ module _ (n : ℕ) (some : 1 ≤ n) (last : ℕ) (setups : ℕ → SetUpInput) {
           numbered = numbered-still tag (r .are-events) numbered;
           timely = r .timely;
           passing = passing-still tag (r .are-events) passing;
+          committed = b .committed i h;
         }
 
     cut : framesIn (length output) (write 0 output lent) ≡ map written (r .frames)

@@ -36,6 +36,7 @@ pub mod RoundCalls
 pub mod RoundWorlds
 pub mod AcceptedCalls
 pub mod HeldGateways
+pub mod CommittedEvents
 pub mod RoundForms
 pub mod RoundNotes
 pub mod RoundClaims
@@ -60,6 +61,6 @@ pub mod Further
 pub mod Example
 pub mod OrderTable
 pub mod HoursTable
+pub mod Theorem
 pub mod RecordsTaken
 pub mod RecordExample
-pub mod Theorem

@@ -21,6 +21,7 @@ use Rattle.run.proofs.DueHours.{NoteDue}
 use Rattle.run.proofs.RoundOpening.{noRounds, alike-opening}
 use Rattle.run.proofs.OpeningQueues.{openingEntries, opening-saved}
 use Rattle.run.proofs.OpeningWorlds.{first, kept, lawful, memory-holds, opening-beside, settled}
+use Rattle.run.proofs.CommittedEvents.{none-committed}
 use Rattle.run.proofs.BothWorlds.{Both, forecastSetting, model, gatewaysIn}
 
 module _ (n last : ℕ) (setups : ℕ → SetUpInput) (lent : ℕ → List ℕ) (forecast : Forecast n last setups lent) where
@@ -71,4 +72,5 @@ module _ (n last : ℕ) (setups : ℕ → SetUpInput) (lent : ℕ → List ℕ) 
         numbered = nil;
         passing = nil;
         notes = λ i h. subst (λ (g : Gateway). NoteDue last (g .round)) (sym (held i h)) (opening-note i h);
+        committed = λ i h. none-committed n last setups i;
       }

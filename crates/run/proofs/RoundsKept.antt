@@ -163,6 +163,7 @@ module _ (n : ℕ) (some : 1 ≤ n) (last : ℕ) (setups : ℕ → SetUpInput) {
                 numbered = goes .numbered (b .numbered);
                 passing = passing-after;
                 notes = λ j k. notes-at j k (eqb i j);
+                committed = b .committed;
               };
         }
 

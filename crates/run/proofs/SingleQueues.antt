@@ -89,7 +89,7 @@ module _ (n last : ℕ) (setups : ℕ → SetUpInput) where
       by-case true = refl
       by-case false = refl
 
-  earliest-is : (m : Message) (l : List Message) → earliest m l ≡ Theory.earliest model m l
+  pub earliest-is : (m : Message) (l : List Message) → earliest m l ≡ Theory.earliest model m l
   unfolding earliest Theory.earliest
   earliest-is m [] = refl
   earliest-is m (x ∷ l) = ap (λ (e : Message). cond (later m e) e m) (earliest-is x l) ∙ chooses m (Theory.earliest model x l)
@@ -185,7 +185,7 @@ module _ (n last : ℕ) (setups : ℕ → SetUpInput) where
           }
 
     -- a step of each
-    step-agrees : (q : Queue) (t : Theory.Queue Message) → Agree q t → Agree (stepOn setups q (q .list)) (Theory.next model (t .list) (t .done))
+    pub step-agrees : (q : Queue) (t : Theory.Queue Message) → Agree q t → Agree (stepOn setups q (q .list)) (Theory.next model (t .list) (t .done))
     unfolding stepOn Theory.next
     step-agrees q t a = by-case (q .list) (t .list) refl refl (a .lists) (a .inside)
       where
@@ -295,14 +295,22 @@ module _ (n last : ℕ) (setups : ℕ → SetUpInput) where
         by-case [] b = refl
         by-case (y ∷ l) b = absurd (not-alike model y l b)
 
-    -- the whole record of the single queue on bytes is that of the theory's single queue
-    pub whole-record : Agree (openingQueue n setups) (Theory.openingQueue model) → (i : ℕ) → wholeRecord n last setups i ≡ historyRecord i
-        (Theory.singleHistory model i)
-    unfolding wholeRecord Theory.singleHistory
-    whole-record a i =
-        let q = openingQueue n setups in
-        let t = Theory.openingQueue model in
-        let turns = turnsFor last (q .list) in
-        let b = steps-agree turns q t a in
-        let e = list-ended (steps setups turns q) (Theory.steps model turns t) b (steps-end turns q t a (omega arith)) in
-        b .records i ∙ ap (historyRecord i) (ended-same turns (Theory.measure model (t .list)) i t e (queue-ends model laws))
+    -- the machines that begin with the opening lists
+    module _ (a : Agree (openingQueue n setups) (Theory.openingQueue model)) (i : ℕ) where
+      abbrev turns : ℕ
+      turns = turnsFor last (openingQueue n setups .list)
+
+      -- as many steps do all of the theory's single queue
+      pub whole-history : Theory.steps model turns (Theory.openingQueue model) .done i ≡ Theory.singleHistory model i
+      unfolding Theory.singleHistory
+      whole-history =
+          let q = openingQueue n setups in
+          let t = Theory.openingQueue model in
+          let b = steps-agree turns q t a in
+          let e = list-ended (steps setups turns q) (Theory.steps model turns t) b (steps-end turns q t a (omega arith)) in
+          ended-same turns (Theory.measure model (t .list)) i t e (queue-ends model laws)
+
+      -- the whole record of the single queue on bytes is that of the theory's single queue
+      pub whole-record : wholeRecord n last setups i ≡ historyRecord i (Theory.singleHistory model i)
+      unfolding wholeRecord
+      whole-record = steps-agree turns (openingQueue n setups) (Theory.openingQueue model) a .records i ∙ ap (historyRecord i) whole-history
