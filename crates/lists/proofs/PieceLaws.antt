@@ -2,7 +2,7 @@
 -- that is refused.
 use mathlib.Core.Path.{_≡_, refl, sym, _∙_, ap, ap₂}
 use mathlib.Core.Logic.{⊎-elim}
-use mathlib.Core.Bool.{Bool, true, false, cond, not}
+use mathlib.Core.Bool.{Bool, true, false, cond, not, true≢false}
 use mathlib.Core.List.{List, [], _∷_, _++_, map, List·Memᴰ·not-nil, List·Memᴰ·cases-cons}
 use Prim.Native.Nat.{ℕ, zero, suc, _+_, _-_, _≤_, _<_, min}
 use native.Mathlib.Omega.{arith}
@@ -52,6 +52,13 @@ module _ {A : Type 0} (f : A → ℕ) where
   unfolding firstNumber
   none-first nil = refl
   none-first (cons {a = x} e a) = rw (eq-eqb (f x) 0 e) (none-first a)
+
+  pub not-refused : (x : A) → isRefused f x ≡ false → f x ≡ 0
+  not-refused x = go (ℕ-discrete (f x) 0)
+    where
+      go : Dec (f x ≡ 0) → isRefused f x ≡ false → f x ≡ 0
+      go (yes e) z = e
+      go (no d) z = absurd (true≢false (rw (ne-eqb (f x) 0 d) at z))
 
   pub none-refused : (xs : List A) → firstNumber f xs ≡ 0 → beforeFirst (isRefused f) xs ≡ xs
   unfolding beforeFirst

@@ -3,6 +3,7 @@ use mathlib.Core.Path.{_≡_, refl, _∙_, ap}
 use mathlib.Core.Logic.{⊎-elim}
 use mathlib.Core.Bool.{Bool, true, false, cond, _||_, true≢false, false≢true}
 use mathlib.Core.List.{List, [], _∷_, _++_, List·Memᴰ·not-nil, List·Memᴰ·cases-cons, Sublistᴰ, Sublistᴰ·slnil as neither}
+use mathlib.Core.List.{List·Memᴰ·head as member-first, List·Memᴰ·tail as member-later}
 use mathlib.Core.List.{Sublistᴰ·cons as leave, Sublistᴰ·cons-cons as keep, Sublistᴰ·refl}
 use Rattle.lists.specs.Lists.{_∈_, any, withoutFirst, beforeFirst, fromFirst, beforeLast, fromLast, tailOf}
 
@@ -60,6 +61,15 @@ module _ {A : Type 0} (f : A → Bool) where
       by-case : (t : Bool) → f x ≡ t → (y ∈ beforeFirst f xs → f y ≡ false) → y ∈ cond t [] (x ∷ beforeFirst f xs) → f y ≡ false
       by-case true h rest n = absurd (List·Memᴰ·not-nil n)
       by-case false h rest n = ⊎-elim (λ (p : y ≡ x). ap f p ∙ h) rest (List·Memᴰ·cases-cons n)
+
+  pub before-member : (xs : List A) (y : A) → y ∈ beforeFirst f xs → y ∈ xs
+  unfolding beforeFirst
+  before-member [] y n = n
+  before-member (x ∷ xs) y n = by-case (f x) (before-member xs y) n
+    where
+      by-case : (t : Bool) → (y ∈ beforeFirst f xs → y ∈ xs) → y ∈ cond t [] (x ∷ beforeFirst f xs) → y ∈ x ∷ xs
+      by-case true rest n = absurd (List·Memᴰ·not-nil n)
+      by-case false rest n = ⊎-elim (λ (p : y ≡ x). member-first p) (λ (m : y ∈ beforeFirst f xs). member-later (rest m)) (List·Memᴰ·cases-cons n)
 
   module _ (x : A) (xs : List A) where
     pub before-stop : f x ≡ true → beforeFirst f (x ∷ xs) ≡ []

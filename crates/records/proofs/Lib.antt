@@ -3,5 +3,7 @@ pub mod EventBranches
 pub mod EventParts
 pub mod EventEnds
 pub mod EventNumbers
+pub mod PassedEvents
+pub mod TakenRest
 pub mod WrittenEvents
 pub mod GoodEvents

@@ -21,12 +21,12 @@ use reader::read;
 use rules::all_between;
 use rules::gateways_agree;
 ghost use mathlib.Core.Path.{_≡_};
-ghost use Prim.Native.Nat.{_<_, _≤_};
+ghost use Prim.Native.Nat.{_+_, _<_, _≤_};
 ghost use lib.ListN.{length};
 ghost use Rattle.frame.specs.Reasons.{formIn, formNumber};
 ghost use Rattle.memory.specs.Layout.{stateSize};
 ghost use Rattle.records.specs.Events.{stateSizeOf, isEvent, frameRefusal};
-ghost use Rattle.records.specs.inside.Finding.{foundAt, lengthOfKind, goodWithLamp, goodRestock, goodGateways};
+ghost use Rattle.records.specs.inside.Finding.{foundAt, lengthOfKind, weightOf, passedAs, goodWithLamp, goodRestock, goodGateways};
 
 // The N and the H that a record is read with.
 const MOST_GATEWAYS: u16 = 255;
@@ -55,6 +55,48 @@ pub struct Found {
     pub number: u8,
     pub kind: u8,
     pub end: usize,
+}
+
+// What a pass over a record finds: the first refusal, or 0, and what the events before it, or all of them, weigh.
+pub struct Passed {
+    pub number: u8,
+    pub weight: usize,
+}
+
+// One pass over a record, up to its first refusal; each Restock has one weight, and each other event another.
+pub fn pass_over(
+    bytes: &[u8],
+    stock: StockField,
+    lamp_weight: usize,
+    restock_weight: usize,
+) -> Passed
+    requires { ⌜ («lamp_weight» ≤ 27 + stateSizeOf stock) × («restock_weight» ≤ 10 + stateSizeOf stock) ⌝ }
+    ensures { λ r. ⌜ r ≡ passedAs stock «lamp_weight» «restock_weight» (now (bytes .entry)) ⌝ }
+{
+    let mut weight = 0;
+    let mut at = 0;
+    while at < bytes.len() {
+        let found = event_at(bytes, at, stock);
+        if found.number != 0 {
+            return Passed {
+                number: found.number,
+                weight,
+            };
+        }
+        weight += weight_of(found.kind, lamp_weight, restock_weight);
+        at = found.end;
+    }
+    Passed { number: 0, weight }
+}
+
+// What an event of that kind weighs.
+fn weight_of(kind: u8, lamp_weight: usize, restock_weight: usize) -> usize
+    ensures { λ r. ⌜ r ≡ weightOf «lamp_weight» «restock_weight» kind ⌝ }
+{
+    if kind == 3 {
+        return restock_weight;
+    }
+    lamp_weight
 }
 
 // The event that begins at a position. Nearly every one is good, and is told from its bytes at their places; any other is read.

@@ -1,78 +1,65 @@
--- The pass that checks a record and measures a view: a law for each branch of the code.
-use mathlib.Core.Path.{_≡_, refl, sym, _∙_, ap}
+-- The pass that checks a record measures a view, and the view is no longer than the record.
+use mathlib.Core.Path.{_≡_, refl, sym, _∙_, ap, ap₂}
+use mathlib.Core.Bool.{Bool, true, false, cond}
 use mathlib.Core.List.{List, map}
-use Prim.Native.Nat.{ℕ, _+_, _≤_, _<_}
+use Prim.Native.Nat.{ℕ, _+_, _≤_}
 use native.Mathlib.Omega.{arith}
-use lib.ListN.{length, take, drop}
-use Rattle.lists.specs.inside.Pieces.{piecesFrom}
-use Rattle.lists.proofs.PieceLaws.{Passing, Passed, passing-end, passing-refused, weight-few, passing-turn, end-between, pieces-join, first-none, none-refused}
-use Rattle.lists.proofs.ListLaws.{length-joined, joined-map, tally-less}
+use lib.Dec.{eqb}
+use lib.ListN.{length}
+use Rattle.lists.specs.Lists.{_∈_, beforeFirst, joined, tally}
+use Rattle.lists.specs.inside.Pieces.{isRefused}
+use Rattle.lists.proofs.PieceLaws.{pieces-join, first-none, none-refused, not-refused}
+use Rattle.lists.proofs.ListLaws.{length-joined, joined-map, tally-less, tally-same}
+use Rattle.lists.proofs.SearchLaws.{before-fails, before-member}
 use Rattle.frame.proofs.PieceBytes.{cut-bytes}
-use Rattle.lists.specs.Lists.{joined, tally}
-use Rattle.buffer.specs.Slice.{Bytes, part}
-use Rattle.buffer.proofs.Lent.{bytes-part}
-use Rattle.records.specs.Events.{eventLength, cutEvents, eventRefusal, recordRefusal, eventOf, eventsOf}
-use Rattle.records.specs.inside.Finding.{eventAt, foundAt}
-use Rattle.records.specs.declared.Found.{Found}
+use Rattle.buffer.specs.Slice.{Bytes}
+use Rattle.model.specs.Messages.{kindNumber}
+use Rattle.records.specs.Events.{stateSizeOf, eventLength, cutEvents, eventRefusal, recordRefusal, eventOf, eventsOf}
+use Rattle.records.specs.inside.Finding.{weightOf, eventWeight, passedAs}
+use Rattle.records.specs.declared.Passed.{Passed}
 use Rattle.records.specs.declared.StockField.{StockField}
+use Rattle.records.specs.declared.StockField.the-variants.{Present, Old}
 use Rattle.records.proofs.EventBranches.{event-some}
-use Rattle.records.proofs.EventEnds.{found-number, found-taken, found-kind, found-end, event-bytes}
 use Rattle.views.specs.Bytes.{eventView, view}
 use Rattle.views.specs.inside.Parts.{lengthFor, viewLength, measuredAs}
 use Rattle.views.specs.declared.Reader.{Reader}
+use Rattle.views.specs.declared.Reader.the-variants.{Purchasing, Maintenance}
 use Rattle.views.specs.declared.Measured.{Measured}
 use Rattle.views.proofs.ViewParts.{view-length, view-shorter}
 
--- the pass has come to a position, and none before it is refused
-abbrev pub Measuring : Reader → StockField → List ℕ → ℕ → ℕ → Type 0
-Measuring reader field bytes sum at = Passing (eventLength field) (eventRefusal field) (viewLength reader field) bytes sum at
+-- the length of a view's event by its kind is one of two, none of which is more than the event has bytes
+two-lengths : (reader : Reader) (kind : ℕ) → weightOf (lengthFor reader 0) (lengthFor reader 3) kind ≡ lengthFor reader kind
+two-lengths Purchasing kind = by (eqb kind 3)
+  where
+    by : (x : Bool) → cond x 24 22 ≡ cond x 8 6 + 16
+    by true = refl
+    by false = refl
+two-lengths Maintenance kind = refl
 
-pub measure-start : (reader : Reader) (field : StockField) (bytes : List ℕ) → Measuring reader field bytes 0 0
-measure-start reader field bytes = record { inside = omega arith; few = omega arith; rest = refl; counted = omega arith }
-
-measured : (reader : Reader) (field : StockField) (bytes : List ℕ) (number sum : ℕ) → Passed (eventLength field) (eventRefusal field) (viewLength reader field) bytes number sum
-    → record { number = number; length = sum } ≡ measuredAs reader field bytes
-unfolding recordRefusal piecesFrom
-measured reader field bytes number sum p = λ i. record { number = p .first i; length = p .added i }
+pub lengths-fit : (reader : Reader) (field : StockField) → {lamps restocks : ℕ} → lamps ≡ lengthFor reader 0 → restocks ≡ lengthFor reader 3
+    → (lamps ≤ 27 + stateSizeOf field) × (restocks ≤ 10 + stateSizeOf field)
+lengths-fit Purchasing Present e f = (omega (arith, e), omega (arith, f))
+lengths-fit Purchasing Old e f = (omega (arith, e), omega (arith, f))
+lengths-fit Maintenance Present e f = (omega (arith, e), omega (arith, f))
+lengths-fit Maintenance Old e f = (omega (arith, e), omega (arith, f))
 
 module _ (reader : Reader) (field : StockField) (bytes : List ℕ) (b : Bytes bytes) where
-  light : (at n : ℕ) → let s = take n (drop at bytes) in 1 ≤ length s → eventRefusal field s ≡ 0 → viewLength reader field s ≤ length s
-  unfolding part
-  light at n h z = view-shorter field (part bytes at n) (bytes-part bytes at n b) z reader
+  -- of an event before the first refusal
+  weighs : (s : List ℕ) → s ∈ beforeFirst (isRefused (eventRefusal field)) (cutEvents field bytes)
+      → eventWeight field (lengthFor reader 0) (lengthFor reader 3) s ≡ viewLength reader field s
+  weighs s m =
+      let there = before-member (isRefused (eventRefusal field)) (cutEvents field bytes) s m in
+      let taken = not-refused (eventRefusal field) s (before-fails (isRefused (eventRefusal field)) (cutEvents field bytes) s m) in
+      two-lengths reader (kindNumber (eventOf field s .message .kind)) ∙ view-length field s (cut-bytes (eventLength field) (length bytes) bytes b s there) taken reader
 
-  module _ (sum at : ℕ) (p : Measuring reader field bytes sum at) where
-    pub measure-end : length bytes ≤ at → record { number = 0; length = sum } ≡ measuredAs reader field bytes
-    measure-end h = measured reader field bytes 0 sum (passing-end (eventLength field) (event-some field) (eventRefusal field) (viewLength reader field) bytes light sum at p h)
-
-    module _ (h : at < length bytes) {f : Found} (q : f ≡ foundAt field bytes at) where
-      pub measure-refused : (f .number ≡ 0 → ⊥) → record { number = f .number; length = sum } ≡ measuredAs reader field bytes
-      measure-refused d =
-          measured reader field bytes (f .number) sum
-          (passing-refused (eventLength field) (event-some field) (eventRefusal field) (viewLength reader field) bytes light sum at p h refl (found-number field bytes at q) d)
-
-      module _ (z : f .number ≡ 0) {n : ℕ} (w : n ≡ lengthFor reader (f .kind)) where
-        weight : n ≡ viewLength reader field (eventAt field bytes at)
-        weight =
-            w
-            ∙ ap (lengthFor reader) (found-kind field bytes at q z)
-            ∙ view-length field (eventAt field bytes at) (event-bytes field bytes b at h (found-taken field bytes at q z)) (found-taken field bytes at q z) reader
-
-        pub measure-room : sum + n ≤ length bytes
-        measure-room =
-            let few = weight-few (eventLength field) (event-some field) (eventRefusal field) (viewLength reader field) bytes light sum at p h refl (found-number field bytes at q) z in
-            let ends = end-between (eventLength field) (event-some field) bytes at h refl in
-            omega (arith, few, weight, ends .inside)
-
-        pub measure-later : at < f .end
-        measure-later = rw (found-end field bytes at q z) (end-between (eventLength field) (event-some field) bytes at h refl .later)
-
-        pub measure-inside : f .end ≤ length bytes
-        measure-inside = rw (found-end field bytes at q z) (end-between (eventLength field) (event-some field) bytes at h refl .inside)
-
-        pub measure-turn : Measuring reader field bytes (sum + n) (f .end)
-        measure-turn =
-            rw (found-end field bytes at q z)
-            (passing-turn (eventLength field) (event-some field) (eventRefusal field) (viewLength reader field) bytes light sum at p h refl (found-number field bytes at q) z weight)
+  -- the pass over the record measures the view
+  pub pass-measures : {lamps restocks : ℕ} {p : Passed} → lamps ≡ lengthFor reader 0 → restocks ≡ lengthFor reader 3 → p ≡ passedAs field lamps restocks bytes
+      → record { number = p .number; length = p .weight } ≡ measuredAs reader field bytes
+  pass-measures e f q =
+      let is = q ∙ ap₂ (λ (l r : ℕ). passedAs field l r bytes) e f in
+      let events = beforeFirst (isRefused (eventRefusal field)) (cutEvents field bytes) in
+      let sum = tally-same (eventWeight field (lengthFor reader 0) (lengthFor reader 3)) (viewLength reader field) events weighs in
+      λ i. record { number = ap (λ (x : Passed). x .number) is i; length = (ap (λ (x : Passed). x .weight) is ∙ sum) i }
 
 -- of a record that is taken all of the view is measured
 pub all-measured : (reader : Reader) (field : StockField) (bytes : List ℕ) {r : Measured} → r ≡ measuredAs reader field bytes → r .number ≡ 0 → r .length ≡ length (view reader field bytes)

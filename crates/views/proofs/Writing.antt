@@ -6,14 +6,14 @@ use native.Mathlib.Omega.{arith}
 use lib.ListN.{length, take, drop, getD, length-append}
 use Rattle.lists.specs.Lists.{firstNumber, joined}
 use Rattle.lists.specs.inside.Pieces.{piecesFrom, pieceEnd}
-use Rattle.lists.proofs.PieceLaws.{first-cons, pieces-none, pieces-next, end-between, Between}
+use Rattle.lists.proofs.PieceLaws.{pieces-none}
 use Rattle.lists.proofs.ListLaws.{joined-map}
 use Rattle.buffer.specs.Slice.{Bytes, write, Puts}
 use Rattle.buffer.proofs.Writes.{length-write, write-nil, write-join}
 use Rattle.records.specs.Events.{eventLength, cutEvents, eventRefusal, recordRefusal, eventOf, eventsOf}
 use Rattle.records.specs.inside.Finding.{eventAt, lengthOfKind}
 use Rattle.records.proofs.EventBranches.{event-some}
-use Rattle.records.proofs.EventEnds.{Ends, event-ends}
+use Rattle.records.proofs.TakenRest.{rest-next, end-is, event-is, end-bounds, rest-taken}
 use Rattle.records.specs.declared.StockField.{StockField}
 use Rattle.views.specs.Bytes.{eventView, view}
 use Rattle.views.specs.declared.Reader.{Reader}
@@ -47,39 +47,21 @@ module _ (reader : Reader) (field : StockField) (bytes : List ℕ) (b : Bytes by
   write-end h = p .output ∙ ap (λ (l : List ℕ). write 0 l out) (sym (p .rest ∙ rw (pieces-none (eventLength field) (event-some field) bytes at h, append-nil)))
 
   module _ (h : at < length bytes) where
-    next : piecesFrom (eventLength field) bytes at ≡ eventAt field bytes at ∷ piecesFrom (eventLength field) bytes (pieceEnd (eventLength field) bytes at)
-    next = pieces-next (eventLength field) (event-some field) bytes at h
-
-    both : (eventRefusal field (eventAt field bytes at) ≡ 0) × (firstNumber (eventRefusal field) (piecesFrom (eventLength field) bytes (pieceEnd (eventLength field) bytes at)) ≡ 0)
-    both = first-cons (eventRefusal field) (eventAt field bytes at) (piecesFrom (eventLength field) bytes (pieceEnd (eventLength field) bytes at)) (rw next at (p .none))
-
-    pub ends : Ends field bytes at
-    ends = event-ends field bytes b at h (both .0)
-
-    rest-next : view reader field bytes ≡ (p .done ++ viewOf reader field (eventAt field bytes at)) ++ joined (viewOf reader field) (piecesFrom (eventLength field) bytes
+    view-next : view reader field bytes ≡ (p .done ++ viewOf reader field (eventAt field bytes at)) ++ joined (viewOf reader field) (piecesFrom (eventLength field) bytes
         (pieceEnd (eventLength field) bytes at))
     unfolding joined
-    rest-next = p .rest ∙ rw next (sym (append-assoc (p .done) (viewOf reader field (eventAt field bytes at)) (joined (viewOf reader field) (piecesFrom (eventLength field) bytes
-        (pieceEnd (eventLength field) bytes at)))))
+    view-next = p .rest ∙ rw (rest-next field bytes b at (p .none) h) (sym (append-assoc (p .done) (viewOf reader field (eventAt field bytes at)) (joined (viewOf reader
+        field) (piecesFrom (eventLength field) bytes (pieceEnd (eventLength field) bytes at)))))
 
     module _ {kind size end : ℕ} (k : kind ≡ getD bytes (at + 1) 0) (l : size ≡ lengthOfKind field kind) (e : end ≡ at + size) where
-      end-is : end ≡ pieceEnd (eventLength field) bytes at
-      end-is = e ∙ rw (l, k) (ends .end)
-
-      event-is : take (end - at) (drop at bytes) ≡ eventAt field bytes at
-      event-is = rw end-is
-
-      pub end-bounds : Between at end (length bytes)
-      end-bounds = end-between (eventLength field) (event-some field) bytes at h end-is
-
-      pub next-taken : eventRefusal field (take (end - at) (drop at bytes)) ≡ 0
-      next-taken = rw event-is (both .0)
+      same-event : take (end - at) (drop at bytes) ≡ eventAt field bytes at
+      same-event = event-is field bytes b at (p .none) h k l e
 
       module _ (room : length (view reader field bytes) ≤ length out) where
         fits : position + length (viewOf reader field (take (end - at) (drop at bytes))) ≤ length out
-        fits = rw event-is (omega (
+        fits = rw same-event (omega (
           arith,
-          ap length rest-next,
+          ap length view-next,
           length-append (p .done ++ viewOf reader field (eventAt field bytes at)) (joined (viewOf reader field) (piecesFrom (eventLength field) bytes (pieceEnd
               (eventLength field) bytes at))),
           length-append (p .done) (viewOf reader field (eventAt field bytes at)),
@@ -96,16 +78,15 @@ module _ (reader : Reader) (field : StockField) (bytes : List ℕ) (b : Bytes by
             → Written reader field bytes out later end behind
         write-turn {later} {behind} q =
             let v = viewOf reader field (eventAt field bytes at) in
-            let bounds = end-bounds in
-            let same = ap (viewOf reader field) event-is in
+            let same = ap (viewOf reader field) same-event in
             let from : position ≡ 0 + length (p .done) = omega (arith, p .size) in
             record {
-              inside = bounds .inside;
-              none = rw end-is (both .1);
+              inside = end-bounds field bytes b at (p .none) h k l e .inside;
+              none = rest-taken field bytes b at (p .none) h k l e;
               done = p .done ++ v;
               size = omega (arith, q .position, p .size, length-append (p .done) v, ap length same);
               output =
                   q .output
                   ∙ rw (same, p .output, from) (write-join 0 (p .done) v out done-fits);
-              rest = rest-next ∙ rw (← end-is);
+              rest = view-next ∙ rw (← end-is field bytes b at (p .none) h k l e);
             }

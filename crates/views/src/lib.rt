@@ -11,8 +11,8 @@ use frame::tables::QUANTITY_END;
 use frame::tables::QUANTITY_PLACE;
 use memory::STATE_SIZE;
 use records::StockField;
-use records::event_at;
 use records::event_length;
+use records::pass_over;
 ghost use mathlib.Core.Path.{_≡_};
 ghost use Prim.Native.Nat.{_+_, _≤_};
 ghost use mathlib.Core.List.{_∷_};
@@ -135,20 +135,11 @@ fn view_for(bytes: &[u8], output: &mut [u8], reader: Reader, stock: StockField) 
 fn measure(bytes: &[u8], reader: Reader, stock: StockField) -> Measured
     ensures { λ r. ⌜ r ≡ measuredAs reader stock (now (bytes .entry)) ⌝ }
 {
-    let mut length = 0;
-    let mut at = 0;
-    while at < bytes.len() {
-        let found = event_at(bytes, at, stock);
-        if found.number != 0 {
-            return Measured {
-                number: found.number,
-                length,
-            };
-        }
-        length += length_for(reader, found.kind);
-        at = found.end;
+    let passed = pass_over(bytes, stock, length_for(reader, 0), length_for(reader, 3));
+    Measured {
+        number: passed.number,
+        length: passed.weight,
     }
-    Measured { number: 0, length }
 }
 
 // The bytes that a view has of an event of that kind.

@@ -4,15 +4,17 @@ use mathlib.Core.Bool.{Bool, cond, not, _&&_}
 use mathlib.Core.List.{List}
 use lib.Dec.{leb, eqb}
 use lib.ListN.{take, drop, getD}
-use Rattle.lists.specs.inside.Pieces.{pieceEnd}
+use Rattle.lists.specs.Lists.{beforeFirst, tally}
+use Rattle.lists.specs.inside.Pieces.{pieceEnd, isRefused}
 use Rattle.buffer.specs.Slice.{part}
 use Rattle.buffer.specs.Number.{numberOf}
 use Rattle.model.specs.Messages.{kindNumber, originOf, kindOf}
 use Rattle.model.specs.declared.Kind.{Kind}
 use Rattle.model.specs.declared.Kind.the-variants.{Restock}
 use Rattle.frame.specs.Writing.{allBetween, gatewaysAgree}
-use Rattle.records.specs.Events.{mostGateways, latestHour, stateSizeOf, eventLength, eventRefusal, eventOf}
+use Rattle.records.specs.Events.{mostGateways, latestHour, stateSizeOf, eventLength, cutEvents, eventRefusal, recordRefusal, eventOf}
 use Rattle.records.specs.declared.Found.{Found}
+use Rattle.records.specs.declared.Passed.{Passed}
 use Rattle.records.specs.declared.StockField.{StockField}
 
 -- the bytes of the event that begins at a position: as many as its map says, or all where there are fewer
@@ -53,3 +55,17 @@ foundAt field bytes at =
     cond (eqb (eventRefusal field s) 0)
     (record { number = 0; kind = kindNumber (eventOf field s .message .kind); end = pieceEnd (eventLength field) bytes at })
     (record { number = eventRefusal field s; kind = 0; end = at })
+
+-- what an event of that kind weighs in a pass over a record: a Restock one number, any other another
+abbrev pub weightOf : (lamps restocks kind : ℕ) → ℕ
+weightOf lamps restocks kind = cond (eqb kind 3) restocks lamps
+
+abbrev pub eventWeight : StockField → (lamps restocks : ℕ) → List ℕ → ℕ
+eventWeight field lamps restocks s = weightOf lamps restocks (kindNumber (eventOf field s .message .kind))
+
+-- what the pass finds: the first refusal, or 0, and what the events before it weigh, or all of them
+abbrev pub passedAs : StockField → (lamps restocks : ℕ) → List ℕ → Passed
+passedAs field lamps restocks bytes = record {
+  number = recordRefusal field bytes;
+  weight = tally (eventWeight field lamps restocks) (beforeFirst (isRefused (eventRefusal field)) (cutEvents field bytes));
+}

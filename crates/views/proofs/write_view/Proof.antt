@@ -3,7 +3,8 @@ use mathlib.Core.Path.{_≡_, refl}
 use Prim.Native.Nat.{_-_}
 use lib.ListN.{length}
 use Rattle.buffer.proofs.Lent.{bytes-known}
-use Rattle.views.proofs.Writing.{Written, write-start, write-end, ends, end-bounds, next-taken, next-room, write-turn}
+use Rattle.records.proofs.TakenRest.{next-ends, end-bounds, event-taken}
+use Rattle.views.proofs.Writing.{Written, write-start, write-end, next-room, write-turn}
 use borrow.Author.Needs.{needs}
 use Rattle.views.proofs.write_view.Statement.{statement}
 use Rattle.views.proofs.write_view.Tie as tie
@@ -22,7 +23,7 @@ add-event-length c =
     let start = c .before .before .before .before in
     let bytes = start .args .bytes .now in
     let b = bytes-known bytes (c .before .before .before .shared-slice-known .given) in
-    let e = ends (start .args .reader) (start .args .stock) bytes b (start .args .output .now) _ _ _ (c .before .loop .inv .0) (c .loop-test .taken) in
+    let e = next-ends (start .args .stock) bytes b (c .before .loop .at) (c .before .loop .inv .0 .none) (c .loop-test .taken) in
     let i = e .inside in
     search needs
 
@@ -31,7 +32,7 @@ shared-slice-read-event-length c =
     let start = c .before .before .before .before .before in
     let bytes = start .args .bytes .now in
     let b = bytes-known bytes (c .before .before .before .before .shared-slice-known .given) in
-    let e = ends (start .args .reader) (start .args .stock) bytes b (start .args .output .now) _ _ _ (c .before .before .loop .inv .0) (c .before .loop-test .taken) in
+    let e = next-ends (start .args .stock) bytes b (c .before .before .loop .at) (c .before .before .loop .inv .0 .none) (c .before .loop-test .taken) in
     let i = e .kind in
     search needs
 
@@ -43,7 +44,7 @@ add-end c =
     let start = c .before .before .before .before .before .before in
     let bytes = start .args .bytes .now in
     let b = bytes-known bytes (c .before .before .before .before .before .shared-slice-known .given) in
-    let bounds = end-bounds (start .args .reader) (start .args .stock) bytes b (start .args .output .now) _ _ _ (c .before .before .before .loop .inv .0) (c .before .before .loop-test .taken) refl (c .event-length .ensures) refl in
+    let bounds = end-bounds (start .args .stock) bytes b (c .before .before .before .loop .at) (c .before .before .before .loop .inv .0 .none) (c .before .before .loop-test .taken) refl (c .event-length .ensures) refl in
     search needs
 
 sub-put-event : tie.Need-sub-put-event Inv-loop μ-loop
@@ -51,7 +52,7 @@ sub-put-event c =
     let start = c .before .before .before .before .before .before .before in
     let bytes = start .args .bytes .now in
     let b = bytes-known bytes (c .before .before .before .before .before .before .shared-slice-known .given) in
-    let bounds = end-bounds (start .args .reader) (start .args .stock) bytes b (start .args .output .now) _ _ _ (c .before .before .before .before .loop .inv .0) (c .before .before .before .loop-test .taken) refl (c .before .event-length .ensures) refl in
+    let bounds = end-bounds (start .args .stock) bytes b (c .before .before .before .before .loop .at) (c .before .before .before .before .loop .inv .0 .none) (c .before .before .before .loop-test .taken) refl (c .before .event-length .ensures) refl in
     search needs
 
 part-put-event-start : tie.Need-part-put-event-start Inv-loop μ-loop
@@ -59,7 +60,7 @@ part-put-event-start c =
     let start = c .before .before .before .before .before .before .before in
     let bytes = start .args .bytes .now in
     let b = bytes-known bytes (c .before .before .before .before .before .before .shared-slice-known .given) in
-    let bounds = end-bounds (start .args .reader) (start .args .stock) bytes b (start .args .output .now) _ _ _ (c .before .before .before .before .loop .inv .0) (c .before .before .before .loop-test .taken) refl (c .before .event-length .ensures) refl in
+    let bounds = end-bounds (start .args .stock) bytes b (c .before .before .before .before .loop .at) (c .before .before .before .before .loop .inv .0 .none) (c .before .before .before .loop-test .taken) refl (c .before .event-length .ensures) refl in
     search needs
 
 part-put-event-end : tie.Need-part-put-event-end Inv-loop μ-loop
@@ -67,7 +68,7 @@ part-put-event-end c =
     let start = c .before .before .before .before .before .before .before in
     let bytes = start .args .bytes .now in
     let b = bytes-known bytes (c .before .before .before .before .before .before .shared-slice-known .given) in
-    let bounds = end-bounds (start .args .reader) (start .args .stock) bytes b (start .args .output .now) _ _ _ (c .before .before .before .before .loop .inv .0) (c .before .before .before .loop-test .taken) refl (c .before .event-length .ensures) refl in
+    let bounds = end-bounds (start .args .stock) bytes b (c .before .before .before .before .loop .at) (c .before .before .before .before .loop .inv .0 .none) (c .before .before .before .loop-test .taken) refl (c .before .event-length .ensures) refl in
     search needs
 
 put-event-requires : tie.Need-put-event-requires Inv-loop μ-loop
@@ -75,14 +76,14 @@ put-event-requires c κs =
     let start = c .before .before .before .before .before .before .before .before in
     let bytes = start .args .bytes .now in
     let b = bytes-known bytes (c .before .before .before .before .before .before .before .shared-slice-known .given) in
-    (next-taken (start .args .reader) (start .args .stock) bytes b (start .args .output .now) _ _ _ (c .before .before .before .before .before .loop .inv .0) (c .before .before .before .before .loop-test .taken) refl (c .before .before .event-length .ensures) refl, next-room (start .args .reader) (start .args .stock) bytes b (start .args .output .now) _ _ _ (c .before .before .before .before .before .loop .inv .0) (c .before .before .before .before .loop-test .taken) refl (c .before .before .event-length .ensures) refl (start .pre .1))
+    (event-taken (start .args .stock) bytes b (c .before .before .before .before .before .loop .at) (c .before .before .before .before .before .loop .inv .0 .none) (c .before .before .before .before .loop-test .taken) refl (c .before .before .event-length .ensures) refl, next-room (start .args .reader) (start .args .stock) bytes b (start .args .output .now) _ _ _ (c .before .before .before .before .before .loop .inv .0) (c .before .before .before .before .loop-test .taken) refl (c .before .before .event-length .ensures) refl (start .pre .1))
 
 loop-less : tie.Need-loop-less Inv-loop μ-loop
 loop-less c =
     let start = c .before .before .before .before .before .before .before .before .before .before .before in
     let bytes = start .args .bytes .now in
     let b = bytes-known bytes (c .before .before .before .before .before .before .before .before .before .before .shared-slice-known .given) in
-    let bounds = end-bounds (start .args .reader) (start .args .stock) bytes b (start .args .output .now) _ _ _ (c .before .before .before .before .before .before .before .before .loop .inv .0) (c .before .before .before .before .before .before .before .loop-test .taken) refl (c .before .before .before .before .before .event-length .ensures) refl in
+    let bounds = end-bounds (start .args .stock) bytes b (c .before .before .before .before .before .before .before .before .loop .at) (c .before .before .before .before .before .before .before .before .loop .inv .0 .none) (c .before .before .before .before .before .before .before .loop-test .taken) refl (c .before .before .before .before .before .event-length .ensures) refl in
     search needs
 
 loop-again : tie.Need-loop-again Inv-loop μ-loop
