@@ -6,14 +6,16 @@
  * 256 + 64 * queue_places + 32 * outstanding_places bytes; bytes past that are never written.
  *
  * Pointers. No pointer is null, even where its length is 0, and each points to as many elements as its length says. Parts of one
- * call may not overlap. `memory`, `out`, `list`, `frame` and `record` need no alignment; `neighbours` has that of uint16_t.
+ * call may not overlap. `memory`, `out`, `list`, `frame` and `record` need no alignment; `neighbours` has that of uint16_t, `figures`
+ * that of uint64_t.
  *
  * Threads. There are none, and no global state. Calls on different memories may run at once; calls on one memory may not.
  *
- * What is written. A call that is refused writes nothing, neither to `memory` nor to `out`. One that is accepted writes its bytes to
- * the front of `out`; the bytes of `out` behind them stay as they were. What hurfaith_work, hurfaith_take and hurfaith_start write
- * are frames for the carrier, one behind the other; what hurfaith_commit writes is the record of one event and is never carried, nor
- * is what hurfaith_view writes, which is for its reader.
+ * What is written. A call that is refused writes nothing, to `memory`, `out`, `neighbours` or `figures`. One that is accepted writes its
+ * bytes to the front of `out`; the bytes of `out` behind them stay as they were. What hurfaith_work, hurfaith_take and hurfaith_start
+ * write are frames for the carrier, one behind the other; what hurfaith_commit writes is the record of one event and is never carried,
+ * nor is what hurfaith_view writes, which is for its reader. hurfaith_route and hurfaith_balance write numbers to the front of
+ * `neighbours` and of `figures`, and no others.
  *
  * Numbers. Every call answers one of these:
  */
@@ -44,14 +46,16 @@ enum {
     HURFAITH_OUT_OF_TURN = 4,
     /* Too few queue places, outstanding places or bytes of output for all that the call would do. The same call may be made again
      * once there is more room: an acknowledgment frees an outstanding place, commit a queue place. View: the whole record is good, and
-     * the output is too short for all of the view. */
+     * the output is too short for all of the view. Route: fewer than four neighbours are lent. Balance: the whole record is good, and
+     * fewer than three figures are lent. */
     HURFAITH_NO_ROOM = 5,
     /* Work: no unprocessed message. Commit: nothing to commit. */
     HURFAITH_NOTHING_TO_DO = 6,
     /* An acknowledgment that is equal to nothing outstanding. */
     HURFAITH_NOT_OUTSTANDING = 7,
     /* A setting, request, delivery and life hours among them, a routing number or, at set up, the length of the memory is outside its
-     * range. View: a reader or an old_stock other than 0 and 1, or a record of 2^48 bytes or more. */
+     * range. View: a reader or an old_stock other than 0 and 1, or a record of 2^48 bytes or more. Balance: an opening stock above
+     * 65,535, or such a record. */
     HURFAITH_OUT_OF_RANGE = 8,
     /* A plain message, a cancel or an Lvt below this gateway's agreed time. */
     HURFAITH_BELOW_AGREED_TIME = 9,
@@ -166,6 +170,23 @@ enum {
  * looked for where the whole record is good. An empty record gives an empty view. An output as long as the record is enough. `record`
  * is only read. Two records that are taken and agree in the fields of a reader, event by event, give that reader equal bytes. */
 uint64_t hurfaith_view(const uint8_t *record, size_t record_len, uint8_t *out, size_t out_len, uint32_t reader, uint32_t old_stock);
+
+/* What came to a gateway's shelf and what left it, in `record`, a whole record as its commits wrote it, with the stock of four bytes; or
+ * the first events of one. The stock is followed from opening_stock, at most 65,535, through the events as the lamp model has it, never
+ * taken from a state: a Restock adds its quantity, and a Request that finds stock takes one.
+ *
+ *   figures[0]   received: the quantities of the Restocks together
+ *   figures[1]   served: the Requests that found stock
+ *   figures[2]   the stock in the last event's state, or opening_stock where the record has no event
+ *
+ * Elements behind these three stay as they were. No figure and no sum of them passes 64 bits. The record is read as hurfaith_view reads
+ * it. Answers 0; or 8, looked for first; or 1, 11, 12, 2, 3 or the 11 of a cut state, of the first event that is refused; or 5 where count
+ * is below 3, looked for where the whole record is good. `record` is only read.
+ *
+ * Where commits wrote the record and opening_stock is what that gateway was set up with, opening_stock + figures[0] is
+ * figures[1] + figures[2], after each commit and before the first. The call does not look whether it is: that is for the caller to see.
+ * A record with the old stock is none for this call: its shelf stopped at 65,535, so that it need not balance. */
+uint32_t hurfaith_balance(const uint8_t *record, size_t record_len, uint32_t opening_stock, uint64_t *figures, size_t count);
 
 #ifdef __cplusplus
 }

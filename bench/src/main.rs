@@ -1,5 +1,5 @@
-//! Measures the calls, the test of memory, a round, views of a record, the town's forecast and the program arcs beside plain Rust, in one
-//! run, and prints a table.
+//! Measures the calls, the test of memory, a round, views of a record and its balance, the town's forecast and the program arcs beside plain
+//! Rust, in one run, and prints a table.
 //!
 //! `bench SCENARIO ARCS` with the town's scenario and the proved program arcs.
 
@@ -12,7 +12,7 @@ use host::carrier::{Forecast, Stopped};
 use host::command::{printed, shown, Arguments, Ending, Program, BAD_FILE};
 use host::record::Stock;
 use host::scenario::Scenario;
-use interface::{Calls, LampPlace, MAINTENANCE, MOST_PLACES, PURCHASING};
+use interface::{Calls, LampPlace, BALANCE_FIGURES, MAINTENANCE, MOST_PLACES, PURCHASING};
 use library::Library;
 use measure::{in_turn, timed, with_unit, Times};
 use plain::Plain;
@@ -29,9 +29,9 @@ const PROGRAM: Program =
 
 const HELP: &str = "\
 Measures the calls of the proved library, the test whether memory is sound, a round, views of a record
-of a megabyte, with the new stock and with the old one, the forecast of a SCENARIO and the program ARCS
-beside plain Rust that does the same, and prints tables of the times. The program plain_arcs stands
-beside this one. The SCENARIO - is standard input.
+of a megabyte, with the new stock and with the old one, the balance of such a record, the forecast of a
+SCENARIO and the program ARCS beside plain Rust that does the same, and prints tables of the times. The
+program plain_arcs stands beside this one. The SCENARIO - is standard input.
 
 Status: 0, 1 if plain Rust does something else than what it is measured beside, 2 for a bad usage, 3
 if a file or program cannot be used or standard output cannot be written.
@@ -68,6 +68,7 @@ fn measure(arguments: &Arguments) -> Result<(), Ending> {
         tables.row(&what, round(gateways))?;
     }
     views(&mut tables)?;
+    balance(&mut tables)?;
     tables.row("the town's forecast", town.times()?)?;
     tables.row("the program arcs, N = 65,535", arcs.times())?;
 
@@ -208,17 +209,37 @@ fn round(gateways: u32) -> Times {
     in_turn(TURNS / 3, |library| turn(if library { &Library } else { &Plain }))
 }
 
-/// The views of a record of a megabyte, with the megabytes of it that the library reads in a second.
+/// The views of a record of a megabyte.
 fn views(tables: &mut Tables<impl Write>) -> Result<(), Ending> {
     for (kind, stock) in [("record", Stock::New), ("record with the old stock", Stock::Old)] {
         let record = records::record(stock);
         for (name, reader) in [("purchasing", PURCHASING), ("maintenance", MAINTENANCE)] {
             let times = view(&record, reader, stock)?;
-            let speed = record.len() as f64 / 1e6 / times.library.as_secs_f64();
-            tables.row(&format!("view for {name}, 1 MB of {kind} ({speed:.0} MB/s)"), times)?;
+            let speed = speed(&record, times);
+            tables.row(&format!("view for {name}, 1 MB of {kind} ({speed})"), times)?;
         }
     }
     Ok(())
+}
+
+/// The megabytes of a record that the library reads in a second.
+fn speed(record: &[u8], times: Times) -> String {
+    format!("{:.0} MB/s", record.len() as f64 / 1e6 / times.library.as_secs_f64())
+}
+
+/// The balance of a record of a megabyte. Both implementations must find the same.
+fn balance(tables: &mut Tables<impl Write>) -> Result<(), Ending> {
+    let record = records::record(Stock::New);
+    let found = |calls: &dyn Calls| {
+        let mut figures = [0; BALANCE_FIGURES];
+        (calls.balance(&record, records::OPENING_STOCK, &mut figures), figures)
+    };
+    if found(&Library) != found(&Plain) {
+        return Err(Ending::Failed(DIFFERENT, "plain Rust finds another balance".into()));
+    }
+    let turn = |calls: &dyn Calls| timed(|| found(calls));
+    let times = in_turn(TURNS, |library| turn(if library { &Library } else { &Plain }));
+    tables.row(&format!("balance, 1 MB of record ({})", speed(&record, times)), times)
 }
 
 /// The time of one view of a record. Both implementations must write the same.

@@ -12,6 +12,9 @@ const MEGABYTE: usize = 1_000_000;
 /// The gateway of the record, which is its own supplier.
 const OWN: u8 = 7;
 
+/// The stock that it begins with.
+pub const OPENING_STOCK: u32 = 100;
+
 /// Hours at which a Request or a Delivery is due, and the lamps, in event order.
 type Due = BTreeSet<(u32, u32)>;
 
@@ -32,8 +35,8 @@ struct Gateway {
 pub fn record(written: Stock) -> Vec<u8> {
     let mut generator = Generator(1);
     let (record, begins) = (Vec::new(), Vec::new());
-    let mut gateway =
-        Gateway { stock: 100, failed: 0, fitted: 0, short: 0, record, written, begins };
+    let stock = OPENING_STOCK;
+    let mut gateway = Gateway { stock, failed: 0, fitted: 0, short: 0, record, written, begins };
     let (mut requests, mut deliveries) = (Due::new(), Due::new());
     let mut lamps = 0;
     for hour in 0.. {
@@ -130,6 +133,8 @@ fn of_lamp(kind: u8, hour: u32, lamp: u32) -> Vec<u8> {
 mod tests {
     use super::*;
     use host::record::{Record, Records, KINDS};
+    use interface::{Balance, Calls};
+    use library::Library;
 
     #[test]
     fn it_is_a_record_of_a_megabyte_with_all_kinds() {
@@ -143,5 +148,13 @@ mod tests {
                 assert!(count > 1_000, "{count} of {kind}");
             }
         }
+    }
+
+    #[test]
+    fn it_balances() {
+        let mut figures = [0; 3];
+        assert_eq!(Library.balance(&record(Stock::New), OPENING_STOCK, &mut figures), 0);
+        let balance = Balance::of(figures);
+        assert!(balance.balances(OPENING_STOCK) && balance.served > 1_000, "{balance:?}");
     }
 }

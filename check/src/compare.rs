@@ -2,15 +2,17 @@
 
 use crate::peer_calls::{setup, Peer, UNSOUND};
 use crate::tally::{Called, FrameCall, Lacking, Tally};
-use crate::{lead_times, seen, stocks, views, Wrong};
+use crate::{balances, lead_times, seen, stocks, views, Wrong};
 use interface::{
-    ample_output, AgreedTime, Answer, Calls, Opening, ViewAnswer, MOST_PLACES, OLD_STOCK,
+    ample_output, AgreedTime, Answer, Balance, Calls, Opening, ViewAnswer, BALANCE_FIGURES,
+    MOST_PLACES, OLD_STOCK,
 };
 use library::Library;
 use peer::gateway::{self, Gateway};
 use peer::refusal::{Reason, Refusal, REASONS};
-use peer::{frame, memory, view};
+use peer::{balance, frame, memory, view};
 use plain::Plain;
+use std::fmt::Debug;
 
 /// What unwritten output bytes hold, so that a stray write shows.
 const FILL: u8 = 0xa5;
@@ -134,26 +136,14 @@ impl Comparison {
     }
 
     pub fn agreed_time(&mut self, memory: &[u8]) -> Result<AgreedTime, Wrong> {
-        let time = Library.agreed_time(memory);
-        for (name, other) in OTHERS {
-            let other_time = other.agreed_time(memory);
-            if time != other_time {
-                return Err(format!("agreed time: {time:?}, by {name} {other_time:?}"));
-            }
-        }
+        let time = alike(|| "agreed time".into(), |calls| calls.agreed_time(memory))?;
         self.tally.count(Called::AgreedTime, time.number);
         Ok(time)
     }
 
     /// Reads the lamp of a frame.
     pub fn lamp(&mut self, frame: &[u8]) -> Result<(), Wrong> {
-        let found = Library.lamp(frame);
-        for (name, other) in OTHERS {
-            let other_found = other.lamp(frame);
-            if found != other_found {
-                return Err(format!("lamp of {frame:?}: {found:?}, by {name} {other_found:?}"));
-            }
-        }
+        let found = alike(|| format!("lamp of {frame:?}"), |calls| calls.lamp(frame))?;
         self.tally.count(Called::Lamp, found.number);
         self.count_refused_frame(FrameCall::Lamp, frame::lamp_place(frame).err(), found.number)
     }
@@ -196,26 +186,33 @@ impl Comparison {
     }
 
     pub fn route(&mut self, gateways: u32, own: u32, count: usize) -> Result<(), Wrong> {
-        let answer = |calls: &dyn Calls| {
-            let mut neighbours = vec![u16::from(FILL); count];
-            let number = calls.route(gateways, own, &mut neighbours);
-            (number, neighbours)
-        };
-        let found = answer(&Library);
-        for (name, other) in OTHERS {
-            let other_found = answer(other);
-            if found != other_found {
-                let differs = format!("{found:?}, by {name} {other_found:?}");
-                return Err(format!("route of {own} of {gateways}: {differs}"));
-            }
-        }
-        let (number, neighbours) = found;
-        let written = if number == 0 { 4 } else { 0 };
-        if neighbours[written..].iter().any(|&neighbour| neighbour != FILL.into()) {
-            return Err(format!("route of {own} of {gateways} wrote more than {written} numbers"));
-        }
+        let what = || format!("route of {own} of {gateways}");
+        let lent = vec![u16::from_ne_bytes([FILL; 2]); count];
+        let route = |calls: &dyn Calls, lent: &mut [u16]| calls.route(gateways, own, lent);
+        let (number, _) = filled::<u16, 4>(what, &lent, route)?;
         self.tally.count(Called::Route, number);
         Ok(())
+    }
+
+    /// Balances a record from an opening stock, with so many numbers lent; the number, and the balance where it is 0.
+    pub fn balance(
+        &mut self,
+        record: &[u8],
+        opening_stock: u32,
+        count: usize,
+    ) -> Result<(u32, Option<Balance>), Wrong> {
+        let what = || format!("balance from {opening_stock} of {record:?}");
+        let lent = vec![u64::from_ne_bytes([FILL; 8]); count];
+        let balance =
+            |calls: &dyn Calls, lent: &mut [u64]| calls.balance(record, opening_stock, lent);
+        let (number, figures) = filled::<u64, BALANCE_FIGURES>(what, &lent, balance)?;
+        self.tally.count(Called::Balance, number);
+        let by_peer = balance::balance(record, opening_stock, count);
+        for situation in balances::situations(record, count, by_peer) {
+            self.tally.count_situation(situation);
+        }
+        self.count_refused_record(FrameCall::Balance, by_peer.err(), number)?;
+        Ok((number, figures.map(Balance::of)))
     }
 
     /// Counts why a frame was not taken; in memory that is not sound it is not read.
@@ -242,6 +239,16 @@ impl Comparison {
             }
         }
         let call = if old_stock == OLD_STOCK { FrameCall::OldView } else { FrameCall::View };
+        self.count_refused_record(call, refusal, number)
+    }
+
+    /// Counts the reason why a call refused a frame of a record; the answer must be its number, and for a cut state that of one.
+    fn count_refused_record(
+        &mut self,
+        call: FrameCall,
+        refusal: Option<Refusal>,
+        number: u32,
+    ) -> Result<(), Wrong> {
         match refusal {
             Some(Refusal::CutState) => check_number(number, Refusal::CutState.number()),
             Some(Refusal::Frame(reason)) => self.count_refused_frame(call, Some(reason), number),
@@ -302,6 +309,38 @@ impl Comparison {
         }
         Ok(())
     }
+}
+
+/// What the library answers to a call that only reads; the others must answer it too.
+fn alike<T: PartialEq + Debug>(
+    what: impl Fn() -> String,
+    answer: impl Fn(&dyn Calls) -> T,
+) -> Result<T, Wrong> {
+    let found = answer(&Library);
+    for (name, other) in OTHERS {
+        let other_found = answer(other);
+        if found != other_found {
+            return Err(format!("{}: {found:?}, by {name} {other_found:?}", what()));
+        }
+    }
+    Ok(found)
+}
+
+/// The number of a call that fills in the first few of the numbers that it is lent and no others, and where it does not refuse these few.
+fn filled<T: Copy + PartialEq + Debug, const COUNT: usize>(
+    what: impl Fn() -> String,
+    lent: &[T],
+    call: impl Fn(&dyn Calls, &mut [T]) -> u32,
+) -> Result<(u32, Option<[T; COUNT]>), Wrong> {
+    let (number, numbers) = alike(&what, |calls| {
+        let mut numbers = lent.to_vec();
+        (call(calls, &mut numbers), numbers)
+    })?;
+    let filled = if number == 0 { COUNT } else { 0 };
+    if numbers.get(filled..).is_none_or(|behind| *behind != lent[filled..]) {
+        return Err(format!("{}: answered {number} and left {numbers:?}", what()));
+    }
+    Ok((number, numbers.first_chunk().copied().filter(|_| number == 0)))
 }
 
 /// What a call that was answered with 5 lacked, to be counted: output bytes where an ample output helps it on, else queue

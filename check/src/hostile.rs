@@ -2,6 +2,7 @@
 
 use crate::draw::{self, Site};
 use crate::lead_times::LEADS;
+use crate::seen::RESTOCK;
 use crate::stocks;
 use peer::generator::Generator;
 use peer::model::{MAX_LAST_HOUR, MOST_HOURS};
@@ -73,6 +74,32 @@ pub fn spoiled_record(
         _ => {}
     }
     bytes
+}
+
+/// Records of a good event and another one, whose state has so many bytes, behind it: with each of the other's bytes set to other values.
+pub fn every_byte_changed(event: &[u8], good: &[u8], state_length: usize) -> Vec<Vec<u8>> {
+    let mut records = Vec::new();
+    for at in 0..event.len() {
+        for value in values(event, at, state_length) {
+            let mut record = [good, event].concat();
+            record[good.len() + at] = value;
+            records.push(record);
+        }
+    }
+    records
+}
+
+/// The values that a byte of an event is set to: all of them before the lamp, those near the ends of the range in the lamp, and few in
+/// the state, which is never refused for a value.
+fn values(event: &[u8], at: usize, state_length: usize) -> Vec<u8> {
+    let lamp = if event[0] == RESTOCK { 0..0 } else { 9..27 };
+    if lamp.contains(&at) {
+        vec![0, 31, 32, 33, 34, 125, 126, 127, 128, 255]
+    } else if at + state_length >= event.len() {
+        vec![0, 255]
+    } else {
+        (0..=255).collect()
+    }
 }
 
 /// A frame of any form, whole or damaged, and a state behind it.

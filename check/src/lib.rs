@@ -1,6 +1,7 @@
 //! Compares the proved library with plain Rust and the second implementation, call by call, over random and
 //! hostile input, and checks the claim of demand 3 after each call of a run.
 
+pub mod balances;
 pub mod compare;
 pub mod draw;
 pub mod events;

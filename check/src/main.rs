@@ -2,7 +2,7 @@
 //! they were answered. Its status is 1 if anything differs or goes wrong, and if some answer or reason was never met.
 
 use check::compare::Comparison;
-use check::{lead_times, runs, stocks, views, Wrong};
+use check::{runs, Wrong};
 use host::command::{printed, tell, Arguments, Ending, Program};
 use host::scenario::number;
 use std::io::{self, Write};
@@ -15,9 +15,10 @@ const PROGRAM: Program =
 const HELP: &str = "\
 Makes every call three times on copies of the same bytes, by the proved library, by plain Rust and by
 the second implementation, and compares what they answer and leave: the routing, gateways with all
-places in use, views of records with any byte changed, lead times around their range, events near the last
-hour and stocks around the most that they may come to, then random runs of COUNT seeds, SEED and those
-behind it. Behind 4294967295 comes 0.
+places in use, views and balances of records with any byte changed, lead times around their range, events
+near the last hour and stocks around the most that they may come to, then random runs of COUNT seeds, SEED
+and those behind it. Behind 4294967295 comes 0. After each commit of a run the gateway's record must
+balance.
 
 Prints how often each call had each answer, and how often each call that reads frames refused one for
 each reason; then what can be and never was. Few seeds do not meet every answer and reason; with a
@@ -77,14 +78,7 @@ fn seeds(seed: u32, count: u32) -> String {
 }
 
 fn compare(seed: u32, count: u32, comparison: &mut Comparison) -> Result<(), Wrong> {
-    runs::routes(64, comparison)?;
-    runs::most_places(comparison)?;
-    views::of_every_byte(comparison)?;
-    lead_times::around_their_range(comparison)?;
-    lead_times::near_the_last_hour(comparison)?;
-    stocks::opening_stocks(comparison)?;
-    stocks::most(comparison)?;
-    stocks::around_the_bound(comparison)?;
+    runs::unseeded(comparison)?;
     let mut shown = Instant::now();
     for number in 0..count {
         let seed = seed.wrapping_add(number);

@@ -1,7 +1,10 @@
 //! The second implementation behind the interface of the calls: it reads a gateway from the lent memory, does
 //! the call and writes the gateway back.
 
-use interface::{AgreedTime, Answer, Calls, LampPlace, Opening, ViewAnswer, NO_NEIGHBOUR};
+use interface::{
+    AgreedTime, Answer, Calls, LampPlace, Opening, ViewAnswer, BALANCE_FIGURES, NO_NEIGHBOUR,
+};
+use peer::balance::{self, Book};
 use peer::frame::{self, Frame};
 use peer::gateway::{Gateway, Setup};
 use peer::model::Hours;
@@ -89,6 +92,16 @@ impl Calls for Peer {
                 ViewAnswer { number: 0, written: bytes.len() }
             }
             Err(refusal) => ViewAnswer { number: refusal.number(), written: 0 },
+        }
+    }
+
+    fn balance(&self, record: &[u8], opening_stock: u32, figures: &mut [u64]) -> u32 {
+        match balance::balance(record, opening_stock, figures.len()) {
+            Ok(Book { received, served, stock, .. }) => {
+                figures[..BALANCE_FIGURES].copy_from_slice(&[received, served, stock.into()]);
+                0
+            }
+            Err(refusal) => refusal.number(),
         }
     }
 }

@@ -1,11 +1,12 @@
-//! The runs: forecasts with random carriers and the views of their records, single gateways that are told anything, set-ups and
-//! routing.
+//! The runs: forecasts with random carriers, the views of their records and their balances, single gateways that are told anything, set-ups
+//! and routing.
 
+use crate::balances::{self, Book};
 use crate::compare::{check_number, Call, Comparison, AMPLE};
 use crate::draw::{self, Site};
 use crate::tally::Situation;
-use crate::world::{opening, World};
-use crate::{events, hostile, lead_times, views, Wrong};
+use crate::world::{committed, opening, World};
+use crate::{events, hostile, lead_times, stocks, views, Wrong};
 use interface::{memory_length, Opening, MOST_AT_ONCE, MOST_HOURS, MOST_PLACES};
 use peer::forecast;
 use peer::frame::{self, Frame, Sense};
@@ -22,6 +23,22 @@ const ROOMS: [&[usize]; 2] = [
 /// gateways here takes about ten.
 const PATIENCE: usize = 60;
 
+/// What needs no seed.
+pub fn unseeded(comparison: &mut Comparison) -> Result<(), Wrong> {
+    routes(64, comparison)?;
+    most_places(comparison)?;
+    views::of_every_byte(comparison)?;
+    balances::of_every_byte(comparison)?;
+    balances::from_opening_stocks(comparison)?;
+    balances::against_the_states(comparison)?;
+    balances::past_32_bits(comparison)?;
+    lead_times::around_their_range(comparison)?;
+    lead_times::near_the_last_hour(comparison)?;
+    stocks::opening_stocks(comparison)?;
+    stocks::most(comparison)?;
+    stocks::around_the_bound(comparison)
+}
+
 /// All runs of one seed.
 pub fn all(seed: u32, comparison: &mut Comparison) -> Result<(), Wrong> {
     let mut generator = Generator::new(seed);
@@ -36,11 +53,15 @@ pub fn all(seed: u32, comparison: &mut Comparison) -> Result<(), Wrong> {
     for _ in 0..20 {
         events::two_events(&mut generator, comparison)?;
     }
-    views::of_records(&records, &mut generator, comparison)
+    views::of_records(&records, &mut generator, comparison)?;
+    for record in &records {
+        balances::of_record(record, &mut generator, comparison)?;
+    }
+    Ok(())
 }
 
 /// Every gateway's neighbours for all numbers of gateways up to a limit.
-pub fn routes(limit: u32, comparison: &mut Comparison) -> Result<(), Wrong> {
+fn routes(limit: u32, comparison: &mut Comparison) -> Result<(), Wrong> {
     for gateways in (0..=limit).chain([65_534, 65_535, 65_536, u32::MAX]) {
         let numbers = if gateways <= limit { gateways + 1 } else { 40 };
         for own in 0..=numbers {
@@ -71,17 +92,37 @@ pub fn forecast_run(
         let own = generator.below(world.gateways());
         probe(&world.memories[usize::from(own)], generator, comparison)?;
     }
-    let whole = finish(&mut world, comparison)?;
+    let whole = finish(&mut world, habits.first, comparison)?;
     let situation = if whole { Situation::ForecastsWhole } else { Situation::ForecastsStuck };
     comparison.tally.count_situation(situation);
     Ok(world.into_records())
+}
+
+/// Which of the frames under way a carrier brings first.
+#[derive(Clone, Copy, PartialEq, Eq)]
+enum First {
+    Oldest,
+    Newest,
+    Any,
+}
+
+impl First {
+    /// Counts a balance that was held after a commit.
+    fn count(self, comparison: &mut Comparison) {
+        let situation = match self {
+            First::Oldest => Situation::BalancesHeldWithTheOldestFirst,
+            First::Newest => Situation::BalancesHeldWithTheNewestFirst,
+            First::Any => Situation::BalancesHeldWithAnyFirst,
+        };
+        comparison.tally.count_situation(situation);
+    }
 }
 
 /// What a random carrier prefers.
 struct Habits {
     /// How often work, bringing, the start call and commit are chosen, one after the other.
     weights: [u8; 4],
-    newest: bool,
+    first: First,
     /// Whether frames of rounds, or all others, are seldom brought.
     slow_rounds: Option<bool>,
     rooms: &'static [usize],
@@ -92,7 +133,7 @@ impl Habits {
         let weights = [8, 12, 3, 3].map(|most| 1 + generator.below(most));
         Habits {
             weights,
-            newest: generator.below(4) == 0,
+            first: generator.pick(&[First::Newest, First::Oldest, First::Any, First::Any]),
             slow_rounds: generator.pick(&[None, Some(true), Some(true), Some(false)]),
             rooms: generator.pick(&ROOMS),
         }
@@ -120,7 +161,12 @@ fn random_call(
             let own = generator.pick(&[0, own]);
             world.start(comparison, own, room)
         }
-        _ => world.commit(comparison, own, room).map(|_| ()),
+        _ => {
+            if world.commit(comparison, own, room)? {
+                habits.first.count(comparison);
+            }
+            Ok(())
+        }
     }
 }
 
@@ -135,7 +181,11 @@ fn bring(
     if count == 0 {
         return Ok(());
     }
-    let place = if habits.newest { count - 1 } else { usize::from(generator.half()) % count };
+    let place = match habits.first {
+        First::Oldest => 0,
+        First::Newest => count - 1,
+        First::Any => usize::from(generator.half()) % count,
+    };
     let is_round = !matches!(world.frame(place), Frame::Event { .. });
     if habits.slow_rounds == Some(is_round) && generator.below(12) != 0 {
         return Ok(());
@@ -144,7 +194,7 @@ fn bring(
 }
 
 /// Turns until every record is whole, or too few places stop the run. Whether every record became whole.
-fn finish(world: &mut World, comparison: &mut Comparison) -> Result<bool, Wrong> {
+fn finish(world: &mut World, first: First, comparison: &mut Comparison) -> Result<bool, Wrong> {
     let mut progress = world.progress();
     let mut rounds = world.completed_rounds();
     let mut idle = 0;
@@ -153,7 +203,7 @@ fn finish(world: &mut World, comparison: &mut Comparison) -> Result<bool, Wrong>
             check_stuck(world, rounds, comparison)?;
             return Ok(false);
         }
-        turn(world, comparison)?;
+        turn(world, first, comparison)?;
         idle += 1;
         let now = world.progress();
         if now != progress {
@@ -163,19 +213,24 @@ fn finish(world: &mut World, comparison: &mut Comparison) -> Result<bool, Wrong>
     Ok(true)
 }
 
-/// A turn: every gateway works, every frame then under way is brought, gateway 0 starts a round, every gateway commits.
-fn turn(world: &mut World, comparison: &mut Comparison) -> Result<(), Wrong> {
+/// A turn: every gateway works, every frame then under way is brought, the newest first where the carrier brings those, else the oldest, gateway
+/// 0 starts a round, every gateway commits.
+fn turn(world: &mut World, first: First, comparison: &mut Comparison) -> Result<(), Wrong> {
     for own in 0..world.gateways() {
         world.work(comparison, own, 4, AMPLE)?;
     }
-    for _ in 0..world.frames_under_way() {
-        world.bring(comparison, 0, AMPLE)?;
+    let first = if first == First::Any { First::Oldest } else { first };
+    for newest in (0..world.frames_under_way()).rev() {
+        let place = if first == First::Newest { newest } else { 0 };
+        world.bring(comparison, place, AMPLE)?;
     }
     if world.agreed(0) != NOTHING_DUE {
         world.start(comparison, 0, AMPLE)?;
     }
     for own in 0..world.gateways() {
-        while world.commit(comparison, own, AMPLE)? {}
+        while world.commit(comparison, own, AMPLE)? {
+            first.count(comparison);
+        }
     }
     Ok(())
 }
@@ -248,6 +303,7 @@ pub fn single_gateway(
     let site = Site::of(&memory);
     let rooms = generator.pick(&ROOMS);
     let mut expected: Vec<Vec<u8>> = Vec::new();
+    let (mut record, mut book) = (Vec::new(), Book::new(opening.stock));
     for _ in 0..calls {
         let room = generator.pick(rooms);
         let frame = told(generator, &site, &expected);
@@ -257,8 +313,15 @@ pub fn single_gateway(
             4 => Call::Commit,
             _ => Call::Take { frame: &frame },
         };
-        let (_, output) = comparison.call(call, &mut memory, room)?;
-        expected.extend(acknowledgments(&output));
+        let (answer, output) = comparison.call(call, &mut memory, room)?;
+        match call {
+            Call::Commit if answer.number == 0 => {
+                record.extend(&output);
+                book.add(&committed(own, &output)?);
+                book.hold(&record, comparison)?;
+            }
+            _ => expected.extend(acknowledgments(&output)),
+        }
         if expected.len() > 40 {
             expected.drain(..20);
         }
@@ -367,7 +430,7 @@ fn change_setting(generator: &mut Generator, opening: &mut Opening) {
 }
 
 /// A gateway with all 512 queue places in use: long work, long undoing, and what no longer fits.
-pub fn most_places(comparison: &mut Comparison) -> Result<(), Wrong> {
+fn most_places(comparison: &mut Comparison) -> Result<(), Wrong> {
     for (stock, outstanding_places) in [(0, MOST_PLACES), (65_535, MOST_PLACES), (100, 300)] {
         let opening = Opening {
             gateways: 2,

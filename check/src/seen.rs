@@ -57,6 +57,17 @@ pub fn event(kind: u8, stock: Stock) -> Vec<u8> {
     head.into_iter().chain(1..=state_length(stock) as u8).collect()
 }
 
+/// The events of a record that gateways wrote.
+pub fn split(mut record: &[u8]) -> Vec<Vec<u8>> {
+    let mut events = Vec::new();
+    while !record.is_empty() {
+        let (event, rest) = record.split_at(if record[0] == RESTOCK { 26 } else { 43 });
+        events.push(event.to_vec());
+        record = rest;
+    }
+    events
+}
+
 /// The event with the old stock, the low half of the new one.
 pub fn old(event: &[u8]) -> Vec<u8> {
     let (frame, state) = event.split_at(event.len() - STATE_LENGTH);

@@ -268,13 +268,15 @@ fn opening(queue_places: u32, stock: u32) -> Opening {
     }
 }
 
-fn restock(hour: Hour, quantity: u16) -> Vec<u8> {
+/// The frame of a Restock of gateway 1.
+pub fn restock(hour: Hour, quantity: u16) -> Vec<u8> {
     let kind = Kind::Restock;
     let message = Message { hour, kind, origin: 0, lamp: [0; 18], quantity, from: 1, to: 1 };
     frame::write(&Frame::Event { sense: Sense::Plain, message })
 }
 
-fn request(sense: Sense, hour: Hour) -> Vec<u8> {
+/// The frame of a Request of gateway 0 to gateway 1, or one that goes with it.
+pub fn request(sense: Sense, hour: Hour) -> Vec<u8> {
     let kind = Kind::Request;
     let message = Message { hour, kind, origin: 0, lamp: LAMP, quantity: 0, from: 0, to: 1 };
     frame::write(&Frame::Event { sense, message })

@@ -37,13 +37,14 @@ pub enum Called {
     ViewForAnother,
     ViewOfAnotherStock,
     ViewForAnotherOfAnotherStock,
+    Balance,
 }
 
 /// The numbers of all answers.
 const NUMBERS: RangeInclusive<u32> = 0..=12;
 
 /// Every kind of call with the numbers that it can answer.
-const ANSWERS: [(Called, &[u32]); 24] = [
+const ANSWERS: [(Called, &[u32]); 25] = [
     (Called::Route, &[0, 5, 8]),
     (Called::SetUp, &[0, 1, 2, 3, 5, 8, 11, 12]),
     (Called::Work, &[0, 5, 6, 10]),
@@ -68,6 +69,7 @@ const ANSWERS: [(Called, &[u32]); 24] = [
     (Called::ViewForAnother, &[8]),
     (Called::ViewOfAnotherStock, &[8]),
     (Called::ViewForAnotherOfAnotherStock, &[8]),
+    (Called::Balance, &[0, 1, 2, 3, 5, 8, 11, 12]),
 ];
 
 /// The calls that read frames.
@@ -79,10 +81,17 @@ pub enum FrameCall {
     View,
     /// A view of a record with the old stock.
     OldView,
+    Balance,
 }
 
-const FRAME_CALLS: [FrameCall; 5] =
-    [FrameCall::Take, FrameCall::SetUp, FrameCall::Lamp, FrameCall::View, FrameCall::OldView];
+const FRAME_CALLS: [FrameCall; 6] = [
+    FrameCall::Take,
+    FrameCall::SetUp,
+    FrameCall::Lamp,
+    FrameCall::View,
+    FrameCall::OldView,
+    FrameCall::Balance,
+];
 
 /// Why there was no room.
 #[derive(Clone, Copy, Debug, PartialEq, Eq, PartialOrd, Ord)]
@@ -95,7 +104,7 @@ pub enum Lacking {
 const LACKING: [Lacking; 3] =
     [Lacking::QueuePlaces, Lacking::OutstandingPlaces, Lacking::OutputBytes];
 
-/// What else is counted, of the runs of forecasts, of stocks in memory and of views. The bound is the most that a stock may come to with the
+/// What else is counted, of the runs of forecasts, of stocks in memory, of views and of balances. The bound is the most that a stock may come to with the
 /// Restocks still to be done from it: from the one held the pending ones, from one saved those of its place and behind it.
 #[derive(Clone, Copy, Debug, PartialEq, Eq, PartialOrd, Ord)]
 pub enum Situation {
@@ -144,9 +153,28 @@ pub enum Situation {
     ViewsOfABadEventBeforeACutState,
     /// Views refused for an event, with too little room for the events before it.
     ViewsOfABadEventWithTooLittleRoom,
+    /// Balances held of gateways that have committed nothing yet.
+    BalancesHeldBeforeTheFirstCommit,
+    /// Balances held after commits, where the carrier brings the oldest frame first, the newest or any.
+    BalancesHeldWithTheOldestFirst,
+    BalancesHeldWithTheNewestFirst,
+    BalancesHeldWithAnyFirst,
+    /// Balances held of records in which a Request found no stock, or a Request shares its hour with a Restock.
+    BalancesHeldWithARequestThatFoundNoStock,
+    BalancesHeldWithARequestInTheHourOfARestock,
+    /// Balances held of records whose last stock is more than 65,535.
+    BalancesHeldWithAStockAbove65535,
+    /// Balances answered whose figures do not balance, of records that no gateway has written from that stock.
+    BalancesThatDoNotHold,
+    /// Balances refused for the opening stock, of records in which something is to be refused too.
+    BalancesOfABadRecordFromTooMuchStock,
+    /// Balances refused for an event, with too few figures lent.
+    BalancesOfABadRecordWithTooFewFigures,
+    /// Balances of records in which too few bytes of state stand behind a good frame.
+    BalancesOfACutState,
 }
 
-const SITUATIONS: [Situation; 26] = [
+const SITUATIONS: [Situation; 37] = [
     Situation::CallsWithCancelWaiting,
     Situation::RequestsTakenBesideADoneRestockOfTheirHour,
     Situation::RequestsTakenBesideADoneDeliveryOfTheirHour,
@@ -173,6 +201,17 @@ const SITUATIONS: [Situation; 26] = [
     Situation::ViewsOfABadFrameWithACutState,
     Situation::ViewsOfABadEventBeforeACutState,
     Situation::ViewsOfABadEventWithTooLittleRoom,
+    Situation::BalancesHeldBeforeTheFirstCommit,
+    Situation::BalancesHeldWithTheOldestFirst,
+    Situation::BalancesHeldWithTheNewestFirst,
+    Situation::BalancesHeldWithAnyFirst,
+    Situation::BalancesHeldWithARequestThatFoundNoStock,
+    Situation::BalancesHeldWithARequestInTheHourOfARestock,
+    Situation::BalancesHeldWithAStockAbove65535,
+    Situation::BalancesThatDoNotHold,
+    Situation::BalancesOfABadRecordFromTooMuchStock,
+    Situation::BalancesOfABadRecordWithTooFewFigures,
+    Situation::BalancesOfACutState,
 ];
 
 #[derive(Clone, Debug, Default)]

@@ -4,7 +4,8 @@
 use crate::compare::{check_number, Comparison};
 use crate::hostile;
 use crate::seen::{
-    change_field, event, old, other, state_length, stock_number, RESTOCK, SEEN, STOCKS, UNSEEN,
+    change_field, event, old, other, split, state_length, stock_number, RESTOCK, SEEN, STOCKS,
+    UNSEEN,
 };
 use crate::tally::Situation;
 use crate::Wrong;
@@ -251,40 +252,11 @@ fn of_every_byte_of(
     comparison: &mut Comparison,
 ) -> Result<(), Wrong> {
     let old_stock = stock_number(stock);
-    for at in 0..event.len() {
-        for value in values(event, at, stock) {
-            let mut event = event.to_vec();
-            event[at] = value;
-            let record = [good, &event].concat();
-            comparison.view(&record, record.len(), reader, old_stock)?;
-            comparison.view(&record[..record.len() - 1], 0, reader, old_stock)?;
-        }
+    for record in hostile::every_byte_changed(event, good, state_length(stock)) {
+        comparison.view(&record, record.len(), reader, old_stock)?;
+        comparison.view(&record[..record.len() - 1], 0, reader, old_stock)?;
     }
     Ok(())
-}
-
-/// The values that a byte of an event is set to: all of them before the lamp, those near the ends of the range in the lamp, and few in
-/// the state, which is never refused for a value.
-fn values(event: &[u8], at: usize, stock: Stock) -> Vec<u8> {
-    let lamp = if event[0] == RESTOCK { 0..0 } else { 9..27 };
-    if lamp.contains(&at) {
-        vec![0, 31, 32, 33, 34, 125, 126, 127, 128, 255]
-    } else if at + state_length(stock) >= event.len() {
-        vec![0, 255]
-    } else {
-        (0..=255).collect()
-    }
-}
-
-/// The events of a record that gateways wrote.
-fn split(mut record: &[u8]) -> Vec<Vec<u8>> {
-    let mut events = Vec::new();
-    while !record.is_empty() {
-        let (event, rest) = record.split_at(if record[0] == RESTOCK { 26 } else { 43 });
-        events.push(event.to_vec());
-        record = rest;
-    }
-    events
 }
 
 /// What is to be counted of a view of a record with this stock that was refused, beside its answer.

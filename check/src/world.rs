@@ -1,17 +1,19 @@
 //! A run of demand 3 over lent memories: what is under way, the records, and the claim after each call.
 
+use crate::balances::Book;
 use crate::compare::{check_number, Call, Comparison};
 use crate::hours::HourSoFar;
 use crate::ledger::Ledger;
 use crate::tally::Situation;
 use crate::Wrong;
-use interface::{AgreedTime, Answer, Opening, STATE_LENGTH};
+use interface::{AgreedTime, Answer, Opening};
 use peer::frame::{self, Frame, Sense};
 use peer::gateway::Setup;
-use peer::model::{Hour, Hours, Kind, NOTHING_DUE};
+use peer::model::{Done, Hour, Hours, Kind, NOTHING_DUE};
+use peer::record::Stock;
 use peer::round::least;
 use peer::under_way::{check_agreed, Carried, UnderWay};
-use peer::{memory, queue, record};
+use peer::{queue, record};
 
 pub struct World {
     pub memories: Vec<Vec<u8>>,
@@ -22,6 +24,7 @@ pub struct World {
     /// The records of the single queue.
     whole: Vec<Vec<u8>>,
     hours: Vec<HourSoFar>,
+    books: Vec<Book>,
     agreed: Vec<Hour>,
 }
 
@@ -30,11 +33,15 @@ impl World {
     pub fn new(setups: &[Setup], comparison: &mut Comparison) -> Result<World, Wrong> {
         let mut memories = Vec::new();
         let mut ledgers = Vec::new();
+        let mut books = Vec::new();
         for setup in setups {
             let mut memory = vec![0x5a; setup.memory];
             check_number(comparison.set_up(&mut memory, &setup.opening, &opening(setup))?, 0)?;
             memories.push(memory);
             ledgers.push(opening_ledger(setup));
+            let book = Book::new(setup.stock);
+            book.hold(&[], comparison)?;
+            books.push(book);
         }
         let bytes = |record: &Vec<_>| record.iter().flat_map(record::bytes).collect();
         Ok(World {
@@ -42,6 +49,7 @@ impl World {
             records: vec![Vec::new(); memories.len()],
             whole: queue::records(setups).iter().map(bytes).collect(),
             hours: setups.iter().map(|setup| HourSoFar::new(setup.stock)).collect(),
+            books,
             agreed: vec![0; memories.len()],
             memories,
             ledgers,
@@ -199,24 +207,19 @@ impl World {
     /// A commit of gateway `own` wrote these bytes.
     fn record(&mut self, own: u8, output: &[u8], comparison: &mut Comparison) -> Result<(), Wrong> {
         let at = usize::from(own);
-        let Some((frame, state)) = output.split_last_chunk::<STATE_LENGTH>() else {
-            return Err(format!("{own} commits {} bytes", output.len()));
-        };
-        let Ok(Frame::Event { message, .. }) = frame::read(frame) else {
-            return Err(format!("{own} commits what is no event"));
-        };
-        if self.ledgers[at].commit() != Some(message) {
+        let done = committed(own, output)?;
+        if self.ledgers[at].commit() != Some(done.message) {
             return Err(format!("{own} commits what was not done"));
         }
         self.records[at].extend(output);
         if !self.whole[at].starts_with(&self.records[at]) {
             return Err(format!("the record of {own} is no beginning of the single queue's"));
         }
-        let stock = memory::number(&state[..4]);
-        for situation in self.hours[at].add(&message, stock)? {
+        for situation in self.hours[at].add(&done.message, done.after.stock)? {
             comparison.tally.count_situation(situation);
         }
-        Ok(())
+        self.books[at].add(&done);
+        self.books[at].hold(&self.records[at], comparison)
     }
 
     /// Counts a Request that enters the queue of gateway `own` when a Restock or a Delivery of its hour is done there.
@@ -259,6 +262,14 @@ impl World {
             self.agreed[own] = hour;
         }
         Ok(())
+    }
+}
+
+/// The event that a commit of gateway `own` wrote.
+pub fn committed(own: u8, output: &[u8]) -> Result<Done, Wrong> {
+    match record::read(output, Stock::New).as_deref() {
+        Ok(&[done]) => Ok(done),
+        _ => Err(format!("{own} commits {output:?}, which is no event")),
     }
 }
 

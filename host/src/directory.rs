@@ -15,8 +15,15 @@ const SCENARIO: &str = "forecast.scenario";
 const COPY: &str = "forecast.copy";
 
 /// What is made of all the records; views are made of each.
-pub const RESULTS: [&str; 6] =
-    ["report.html", "years.csv", "months.csv", "drivers.csv", "lamps.csv", "places.csv"];
+pub const RESULTS: [&str; 7] = [
+    "report.html",
+    "years.csv",
+    "months.csv",
+    "drivers.csv",
+    "balance.csv",
+    "lamps.csv",
+    "places.csv",
+];
 
 /// A directory in which no other forecast runs as long as this is held.
 pub struct Directory {
@@ -55,9 +62,9 @@ impl Directory {
         self.copy_path().exists()
     }
 
-    /// Whether there is one that has.
+    /// Whether there is one that has, of this or an earlier version: the first of the results is written last.
     pub fn has_results(&self) -> bool {
-        RESULTS.iter().all(|name| self.path.join(name).exists())
+        self.path.join(RESULTS[0]).exists()
     }
 
     /// Removes what an earlier forecast has left, the copy first.

@@ -61,6 +61,11 @@ impl<R: Read, P: Parser> Events<R, P> {
         Events { input, place: 0, parser, bytes: Vec::new(), over: false }
     }
 
+    /// Where the next event begins, if the last could be read.
+    pub fn place(&self) -> u64 {
+        self.place
+    }
+
     fn read(&mut self) -> Result<Option<P::Event>, Unreadable> {
         let place = self.place;
         let no_event = |reason: P::Reason| {

@@ -12,6 +12,11 @@ pub const WEEK: u32 = 168;
 pub const MONTH: u32 = 730;
 pub const YEAR: u32 = 12 * MONTH;
 
+/// The number, counted from 1, of the period of so many hours that an hour belongs to.
+pub fn period(hour: u32, hours: u32) -> u32 {
+    hour.saturating_sub(1) / hours + 1
+}
+
 /// Figures of a gateway, or of all, in a period.
 #[derive(Clone, Copy, Debug, Default, PartialEq, Eq)]
 pub struct Figures {
@@ -83,7 +88,7 @@ impl Changes {
     }
 
     fn add(&mut self, hour: u32, gateway: usize, change: &Figures) {
-        let number = hour.saturating_sub(1) / self.hours + 1;
+        let number = period(hour, self.hours);
         self.periods.entry(number).or_default().entry(gateway).or_default().add(change);
     }
 }

@@ -1,6 +1,7 @@
 //! A host of the executive: reads a scenario, lends the memories, carries the frames, keeps the records, and makes of them what
 //! purchasing, stores and crews read.
 
+pub mod balance;
 mod bytes;
 pub mod carrier;
 pub mod checkpoint;

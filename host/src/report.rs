@@ -1,5 +1,6 @@
 //! The files that are made of the figures, and the summary that the program forecast prints.
 
+use crate::balance::{Line, Year};
 use crate::figures::{Figures, Period};
 use crate::lamps::{At, Failure, Lamps, Stage};
 use crate::places::Places;
@@ -17,7 +18,7 @@ pub fn write_periods(
 ) -> io::Result<()> {
     writeln!(out, "{period},gateway,failed,drawn,fitted,restocked,handed_out,on_shelves,on_the_way,short,drivers_to_order")?;
     for period in periods {
-        for (name, figures) in lines(&period) {
+        for (name, figures) in lines(&period.gateways, &period.all) {
             let Figures { failed, drawn, fitted, restocked, handed_out, .. } = figures;
             let Figures { on_shelves, on_the_way, short, .. } = figures;
             let number = period.number;
@@ -32,19 +33,31 @@ pub fn write_periods(
 pub fn write_orders(out: &mut impl Write, years: impl Iterator<Item = Period>) -> io::Result<()> {
     writeln!(out, "year,gateway,drivers_to_order")?;
     for year in years {
-        for (name, figures) in lines(&year) {
+        for (name, figures) in lines(&year.gateways, &year.all) {
             writeln!(out, "{},{name},{}", year.number, figures.to_order())?;
         }
     }
     Ok(())
 }
 
-/// The lines of a period: each gateway's figures under its number, then those of all.
-fn lines(period: &Period) -> impl Iterator<Item = (String, &Figures)> {
-    let gateways = (0..)
-        .zip(&period.gateways)
-        .map(|(number, figures): (u32, _)| (number.to_string(), figures));
-    gateways.chain(std::iter::once((String::from("all"), &period.all)))
+/// The stock book, a line for each gateway and year and one for all together, and whether its numbers balance.
+pub fn write_balance(out: &mut impl Write, years: &[Year]) -> io::Result<()> {
+    writeln!(out, "year,gateway,opening_stock,received,served,stock,balances")?;
+    for year in years {
+        for (name, line) in lines(&year.gateways, &year.all) {
+            let Line { opening_stock, received, served, stock } = line;
+            let balances = if line.balances() { "yes" } else { "no" };
+            write!(out, "{},{name},{opening_stock},{received},", year.number)?;
+            writeln!(out, "{served},{stock},{balances}")?;
+        }
+    }
+    Ok(())
+}
+
+/// The lines of a period: what each gateway has under its number, then what all have.
+fn lines<'a, T>(gateways: &'a [T], all: &'a T) -> impl Iterator<Item = (String, &'a T)> {
+    let gateways = (0..).zip(gateways).map(|(number, line): (u32, _)| (number.to_string(), line));
+    gateways.chain(std::iter::once((String::from("all"), all)))
 }
 
 /// A line for each failure of each lamp, in lamp order: when it failed, when and from which shelf its driver was drawn, when it was

@@ -1,11 +1,14 @@
 //! The carrier over the proved library: forecasts that end, one that cannot go on, and calls that answer what they never should.
 
+#[path = "common/failing.rs"]
+mod failing;
+
+use failing::Failing;
 use host::carrier::{Forecast, Progress, Stopped, Want};
 use host::frame::REQUEST;
 use host::places::Places;
 use host::record::{Kind, Record, Records, State};
 use host::scenario::Scenario;
-use interface::{AgreedTime, Answer, Calls, LampPlace, Opening, ViewAnswer};
 use library::Library;
 
 /// Runs a scenario: how it ended, and each gateway's events.
@@ -132,71 +135,19 @@ fn the_trace_is_thinned() {
     assert_eq!(rounds, expected);
 }
 
-/// The proved library, but that a call of the first completed round answers something else.
-struct Failing {
-    /// Answered to frames of a round.
-    frame: u32,
-    /// Answered for the agreed time.
-    agreed_time: u32,
-}
-
-impl Calls for Failing {
-    fn route(&self, gateways: u32, own: u32, neighbours: &mut [u16]) -> u32 {
-        Library.route(gateways, own, neighbours)
-    }
-
-    fn set_up(&self, memory: &mut [u8], list: &[u8], opening: &Opening) -> u32 {
-        Library.set_up(memory, list, opening)
-    }
-
-    fn work(&self, memory: &mut [u8], output: &mut [u8], budget: u32) -> Answer {
-        Library.work(memory, output, budget)
-    }
-
-    fn take(&self, memory: &mut [u8], frame: &[u8], output: &mut [u8]) -> Answer {
-        if frame.len() <= 8 && self.frame != 0 {
-            return Answer { number: self.frame, ..Answer::default() };
-        }
-        Library.take(memory, frame, output)
-    }
-
-    fn start(&self, memory: &mut [u8], output: &mut [u8]) -> Answer {
-        Library.start(memory, output)
-    }
-
-    fn commit(&self, memory: &mut [u8], output: &mut [u8]) -> Answer {
-        Library.commit(memory, output)
-    }
-
-    fn agreed_time(&self, memory: &[u8]) -> AgreedTime {
-        match self.agreed_time {
-            0 => Library.agreed_time(memory),
-            number => AgreedTime { number, hour: 0 },
-        }
-    }
-
-    fn lamp(&self, frame: &[u8]) -> LampPlace {
-        Library.lamp(frame)
-    }
-
-    fn view(&self, record: &[u8], output: &mut [u8], reader: u32, old_stock: u32) -> ViewAnswer {
-        Library.view(record, output, reader, old_stock)
-    }
-}
-
 /// A round stops the forecast at any answer that it does not expect, and its frame is not lost.
 #[test]
 fn a_round_looks_at_every_answer() {
     let scenario = Scenario::parse(include_str!("../../examples/two/scenario")).unwrap();
     for number in [1, 4, 5, 10, 11, 12] {
-        let calls = Failing { frame: number, agreed_time: 0 };
+        let calls = Failing { frame: number, ..Failing::default() };
         let mut forecast = Forecast::new(calls, &scenario).unwrap();
         let expected = Stopped::Refused { gateway: 1, call: "a frame", number };
         assert_eq!(forecast.run(|_, _| ()), Err(expected));
         let under_way = &forecast.carried().under_way;
         assert!(under_way.iter().any(|frame| frame.bytes() == [7, 4, 0, 1]), "{under_way:?}");
     }
-    let calls = Failing { frame: 0, agreed_time: 10 };
+    let calls = Failing { agreed_time: 10, ..Failing::default() };
     let mut forecast = Forecast::new(calls, &scenario).unwrap();
     let expected = Stopped::Refused { gateway: 0, call: "the agreed time", number: 10 };
     assert_eq!(forecast.run(|_, _| ()), Err(expected));

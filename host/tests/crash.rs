@@ -75,7 +75,7 @@ fn undisturbed(name: &str) -> BTreeMap<String, Vec<u8>> {
     assert_eq!((end.status, &end.error[..]), (Some(0), ""));
     assert!(!end.output.contains(" 0 windows taken back"), "{}", end.output);
     let files = files(&directory);
-    assert_eq!(files.len(), 4 * 3 + 1 + 6);
+    assert_eq!(files.len(), 4 * 3 + 1 + 7);
     files
 }
 

@@ -1,12 +1,13 @@
 //! The figures add up, and are those of an independent count over the records.
 
+use host::balance::{self, Balances, Line, Year};
 use host::carrier::Forecast;
 use host::figures::{Accounts, Figures, Period, MONTH, WEEK, YEAR};
 use host::generator::Generator;
 use host::history::History;
 use host::lamps::Stage;
 use host::record::{Kind, Record, Records};
-use host::report::{order_table, write_lamps, write_orders, write_periods};
+use host::report::{order_table, write_balance, write_lamps, write_orders, write_periods};
 use host::scenario::Scenario;
 use interface::MOST_STOCK;
 use library::Library;
@@ -34,6 +35,16 @@ impl Whole {
 
     fn events(&self, gateway: usize) -> Vec<Record> {
         Records::new(&self.records[gateway][..]).map(Result::unwrap).collect()
+    }
+
+    /// The stock book, by year.
+    fn book(&self) -> Vec<Year> {
+        let stocks = self.scenario.stocks();
+        let balances = self.records.iter().zip(stocks).map(|(record, stock)| {
+            Balances::of(&Library, record, stock).unwrap_or_else(|why| panic!("{why}"))
+        });
+        let numbers = self.accounts.years().map(|year| year.number);
+        balance::years(&balances.collect::<Vec<_>>(), numbers)
     }
 
     /// Holds the periods of a length to add up and to be those of the count.
@@ -130,6 +141,36 @@ fn check(whole: &Whole) {
     whole.check(WEEK, whole.accounts.weeks().collect());
     whole.check(MONTH, whole.accounts.months().collect());
     whole.check(YEAR, whole.accounts.years().collect());
+    check_book(whole);
+}
+
+/// The stock book has the years' figures, and every line of it balances.
+fn check_book(whole: &Whole) {
+    let book = whole.book();
+    assert_eq!(balance::unbalanced(&book), []);
+    let years: Vec<Period> = whole.accounts.years().collect();
+    assert_eq!(book.len(), years.len());
+    let mut before: Vec<i128> = whole.scenario.stocks().into_iter().map(i128::from).collect();
+    for (of_book, year) in book.iter().zip(&years) {
+        let stocks = std::mem::take(&mut before);
+        let all = stocks.iter().sum();
+        let opening = stocks.into_iter().chain([all]);
+        let lines = of_book.gateways.iter().chain([&of_book.all]);
+        for ((line, figures), stock) in
+            lines.zip(year.gateways.iter().chain([&year.all])).zip(opening)
+        {
+            assert_eq!(*line, expected_line(stock, figures));
+        }
+        assert_eq!(of_book.number, year.number);
+        before = year.gateways.iter().map(|figures| figures.on_shelves.into()).collect();
+    }
+}
+
+/// The line of the stock book that begins with this stock and has the figures of a year.
+fn expected_line(opening_stock: i128, figures: &Figures) -> Line {
+    let Figures { restocked, handed_out, on_shelves, .. } = *figures;
+    let [received, served, stock] = [restocked, handed_out, on_shelves].map(i128::from);
+    Line { opening_stock, received, served, stock }
 }
 
 fn text(write: impl FnOnce(&mut Vec<u8>) -> std::io::Result<()>) -> String {
@@ -151,6 +192,24 @@ fn the_last_example_of_document_01() {
     let lamps = "lamp,gateway,failed,drawn,shelf,fitted,at_the_end\n\
                  L00000000000000001,0,10,11,1,35,fitted\nL00000000000000002,0,10,,,,short\n";
     assert_eq!(text(|out| write_lamps(out, &whole.accounts.lamps)), lamps);
+}
+
+/// Gateway 1 begins with two drivers and hands out one; what comes in the last hour of a year is of that year, and in the second year it hands
+/// out three of the nine. Gateway 0 hands out nothing.
+#[test]
+fn the_stock_book_of_two_years() {
+    let whole = Whole::run(
+        "last-hour 20000\ngateway 0 supplier 1 stock 0\ngateway 1 supplier 1 stock 2\n\
+         failure 0 10 L00000000000000001\nrestock 1 8760 5\nrestock 1 8761 3\n\
+         failure 0 8760 L00000000000000002\nfailure 0 9000 L00000000000000003\n\
+         failure 1 17519 L00000000000000004\nrestock 0 9000 7\n",
+    );
+    check(&whole);
+    let book = "year,gateway,opening_stock,received,served,stock,balances\n\
+                1,0,0,0,0,0,yes\n1,1,2,5,1,6,yes\n1,all,2,5,1,6,yes\n\
+                2,0,0,7,0,7,yes\n2,1,6,3,3,6,yes\n2,all,6,10,3,13,yes\n\
+                3,0,7,0,0,7,yes\n3,1,6,0,0,6,yes\n3,all,13,0,0,13,yes\n";
+    assert_eq!(text(|out| write_balance(out, &whole.book())), book);
 }
 
 /// A lamp that fails in a year's last hours, with a driver on the shelf, is no driver to order of that year beyond the one that is drawn.

@@ -138,7 +138,34 @@ impl ViewAnswer {
     }
 }
 
-/// The calls. Memory is lent for the time of a call; a refusal leaves memory and output as they were.
+/// How many figures a balance has.
+pub const BALANCE_FIGURES: usize = 3;
+
+/// What a gateway's record tells of its shelf, followed from the opening stock on: the figures that `balance` fills in, in their order.
+#[derive(Clone, Copy, Debug, Default, PartialEq, Eq)]
+pub struct Balance {
+    /// The quantities of all Restocks together.
+    pub received: u64,
+    /// Requests that found stock.
+    pub served: u64,
+    /// The stock in the last event's state; the opening stock where there is no event.
+    pub stock: u64,
+}
+
+impl Balance {
+    pub const fn of([received, served, stock]: [u64; BALANCE_FIGURES]) -> Balance {
+        Balance { received, served, stock }
+    }
+
+    /// Whether the opening stock and what was received are what was served and what is left, as they are of every record that commits
+    /// wrote.
+    pub fn balances(&self, opening_stock: u32) -> bool {
+        let sum = |one: u64, other: u64| u128::from(one) + u128::from(other);
+        sum(opening_stock.into(), self.received) == sum(self.served, self.stock)
+    }
+}
+
+/// The calls. Memory is lent for the time of a call; a refusal leaves memory, output, neighbours and figures as they were.
 pub trait Calls {
     /// The neighbours of gateway `own`: two that it hears, then two that it tells, with
     /// [`NO_NEIGHBOUR`] where there is none. 0, 8, or 5 where fewer than four numbers are lent.
@@ -169,6 +196,12 @@ pub trait Calls {
     /// a record of 2^48 bytes or more; or 1, 11, 12, 2, 3 or, for a cut state, 11 of the first event that is refused; or 5. An output
     /// as long as the record is enough.
     fn view(&self, record: &[u8], output: &mut [u8], reader: u32, old_stock: u32) -> ViewAnswer;
+
+    /// What came to the shelf and left it in a whole record with [`NEW_STOCK`]: the figures of a [`Balance`]. The stock is followed from the
+    /// opening stock by the lamp model. 0; or 8 for an opening stock above [`MOST_AT_ONCE`] or a record of 2^48 bytes or more; or 1, 11, 12,
+    /// 2, 3 or, for a cut state, 11 of the first event that is refused; or 5 where fewer than [`BALANCE_FIGURES`] numbers are lent. Whether
+    /// the figures balance is for the caller to see.
+    fn balance(&self, record: &[u8], opening_stock: u32, figures: &mut [u64]) -> u32;
 }
 
 #[cfg(test)]
@@ -178,6 +211,14 @@ mod tests {
     #[test]
     fn the_most_that_a_stock_may_have() {
         assert_eq!(MOST_STOCK, 33_619_455);
+    }
+
+    #[test]
+    fn what_came_is_what_left_and_what_is_there() {
+        let balance = Balance::of([7, 4, 5]);
+        assert_eq!(balance, Balance { received: 7, served: 4, stock: 5 });
+        assert_eq!([1, 2, 3].map(|stock| balance.balances(stock)), [false, true, false]);
+        assert!(!Balance::of([u64::MAX, 0, 0]).balances(1));
     }
 
     #[test]

@@ -68,6 +68,13 @@ mod declared {
             reader: u32,
             old_stock: u32,
         ) -> u64;
+        pub fn hurfaith_balance(
+            record: *const u8,
+            record_length: usize,
+            opening_stock: u32,
+            figures: *mut u64,
+            figures_length: usize,
+        ) -> u32;
     }
 }
 
@@ -180,5 +187,18 @@ impl Calls for Library {
                 old_stock,
             )
         })
+    }
+
+    fn balance(&self, record: &[u8], opening_stock: u32, figures: &mut [u64]) -> u32 {
+        // SAFETY: each pointer and length are those of one slice; the figures are lent mutably.
+        unsafe {
+            declared::hurfaith_balance(
+                record.as_ptr(),
+                record.len(),
+                opening_stock,
+                figures.as_mut_ptr(),
+                figures.len(),
+            )
+        }
     }
 }

@@ -1,6 +1,7 @@
-//! The rules of document 01 and requests (a) to (f) of document 02 written again from the papers, for comparison.
+//! The rules of document 01 and requests (a) to (g) of document 02 written again from the papers, for comparison.
 
 pub mod arcs;
+pub mod balance;
 pub mod carrier;
 pub mod examples;
 pub mod forecast;

@@ -13,7 +13,7 @@ usage: peer arcs <NUMBER
 ";
 
 const HELP: &str = "
-The rules of document 01 and requests (a) to (f) of document 02 written a second time, for comparison.
+The rules of document 01 and requests (a) to (g) of document 02 written a second time, for comparison.
 
   arcs           the arcs between a NUMBER of gateways, as the program arcs prints them
   frames         a line for each item of a STREAM of candidate frames: the number and the reason if

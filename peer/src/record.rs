@@ -8,6 +8,9 @@ use crate::refusal::{Reason, Refusal};
 /// N, where a record is read: it is that of no forecast in particular.
 const NODES: u32 = 255;
 
+/// A record of so many bytes or more is outside the range.
+const LIMIT: u64 = 1 << 48;
+
 /// How many bytes a state has.
 pub const STATE_LENGTH: usize = 16;
 
@@ -37,6 +40,14 @@ pub fn state_bytes(state: &State) -> Vec<u8> {
 pub fn line(done: &Done) -> String {
     let State { stock, failed, fitted, short } = done.after;
     format!("{} {stock} {failed} {fitted} {short}", frame::line(&plain(done)))
+}
+
+/// Refuses a record that is too long, before it is read.
+pub fn check_length(record: &[u8]) -> Result<(), Refusal> {
+    match record.len() as u64 {
+        0..LIMIT => Ok(()),
+        _ => Err(Refusal::Setting),
+    }
 }
 
 /// The events of a whole record, or the refusal of the first one that is refused.

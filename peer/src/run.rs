@@ -1,5 +1,6 @@
 //! A run: the gateways of a forecast, the frames under way, and what must hold after every call.
 
+use crate::balance::Book;
 use crate::frame::{self, Frame, Sense};
 use crate::gateway::{Gateway, Setup};
 use crate::model::{Done, Hour, NOTHING_DUE};
@@ -19,6 +20,8 @@ pub struct Run {
     records: Vec<Vec<Done>>,
     /// The whole records of the single queue.
     whole: Vec<Vec<Done>>,
+    /// What came to each shelf and left it, by the events committed.
+    books: Vec<Book>,
     /// Each gateway's agreed time after the last call.
     agreed: Vec<Hour>,
     tally: Tally,
@@ -43,6 +46,7 @@ impl Run {
             under_way: UnderWay::new(gateways.len()),
             records: vec![Vec::new(); gateways.len()],
             whole: queue::records(setups),
+            books: setups.iter().map(|setup| Book::new(setup.stock)).collect(),
             agreed: vec![0; gateways.len()],
             tally: Tally::default(),
             gateways,
@@ -158,22 +162,31 @@ impl Run {
 
     /// Commits one event if there is one; whether there was.
     pub fn commit(&mut self, own: u8, room: usize) -> Result<bool, Wrong> {
-        let at = usize::from(own);
-        let answer = self.gateways[at].commit(room);
+        let answer = self.gateways[usize::from(own)].commit(room);
         match answer {
-            Ok(done) => {
-                let expected = self.whole[at].get(self.records[at].len());
-                if expected.map(record::bytes) != Some(record::bytes(&done)) {
-                    return Err(format!("{own} commits {done:?}, the single queue {expected:?}"));
-                }
-                self.records[at].push(done);
-            }
+            Ok(done) => self.record(own, done)?,
             Err(Refusal::NoRoom) => self.tally.refused += 1,
             Err(Refusal::Nothing) => {}
             Err(why) => return Err(format!("commit of {own} answered {why:?}")),
         }
         self.check()?;
         Ok(answer.is_ok())
+    }
+
+    /// A commit of gateway `own` wrote this event.
+    fn record(&mut self, own: u8, done: Done) -> Result<(), Wrong> {
+        let at = usize::from(own);
+        let expected = self.whole[at].get(self.records[at].len());
+        if expected.map(record::bytes) != Some(record::bytes(&done)) {
+            return Err(format!("{own} commits {done:?}, the single queue {expected:?}"));
+        }
+        self.records[at].push(done);
+        let book = &mut self.books[at];
+        book.add(&done);
+        if !book.balances() {
+            return Err(format!("the record of {own} does not balance: {book:?}"));
+        }
+        Ok(())
     }
 
     /// The records are those of the single queue, byte for byte.

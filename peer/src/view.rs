@@ -5,9 +5,6 @@ use crate::model::{Done, Kind, Message, State};
 use crate::record::{self, Stock};
 use crate::refusal::Refusal;
 
-/// A record of so many bytes or more is outside the range.
-const RECORD_LIMIT: u64 = 1 << 48;
-
 /// Who reads a record.
 #[derive(Clone, Copy, Debug, PartialEq, Eq)]
 pub enum Reader {
@@ -58,9 +55,7 @@ pub fn view(record: &[u8], room: usize, reader: u32, old_stock: u32) -> Result<V
         1 => Stock::Old,
         _ => return Err(Refusal::Setting),
     };
-    if record.len() as u64 >= RECORD_LIMIT {
-        return Err(Refusal::Setting);
-    }
+    record::check_length(record)?;
     let bytes: Vec<u8> =
         record::read(record, stock)?.iter().flat_map(|done| event(&reader.fields(done))).collect();
     if bytes.len() > room {

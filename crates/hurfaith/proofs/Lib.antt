@@ -7,3 +7,5 @@ pub mod ReadBacks
 pub mod Routing
 pub mod LampPlaces
 pub mod ViewSizes
+pub mod Balancing
+pub mod BalanceTable

@@ -11,6 +11,7 @@ use Rattle.packing.specs.Packed.{packed, ReadBack, packedTwo, ReadBackTwo, numb
 use Rattle.buffer.specs.Slice.{Bytes}
 use Rattle.frame.specs.Reasons.{reading}
 use Rattle.frame.specs.Lamps.{lampRefusal, lampStart, IsLamp}
+use Rattle.records.specs.Balancing.{balanced}
 use Rattle.views.specs.Viewing.{ViewResult, viewed}
 use Rattle.gateway.specs.Calls.{CallResult, taken, started, committed, workedOff, agreedTime}
 use Rattle.gateway.specs.declared.Answer.{Answer}
@@ -77,6 +78,21 @@ routed N own neighbours =
     cond (eqb (r .answer) 0)
     (cond (leb 4 (length neighbours)) (record { answer = 0; neighbours = front }) (record { answer = 5; neighbours = neighbours }))
     (record { answer = r .answer; neighbours = neighbours })
+
+-- what the call of the balance leaves: its number, and the array
+pub record BalanceResult : Type 0 where
+  pub answer : ℕ
+  pub figures : List ℕ
+
+-- received, served and the last stock at the array's front; the refusals of the balance, then 5 for an array of less than three
+unfoldable pub balanceGiven : ℕ → List ℕ → List ℕ → BalanceResult
+unfolding balanced
+balanceGiven opening bytes figures =
+    let b = balanced opening bytes in
+    let front = b .received ∷ b .served ∷ b .stock ∷ drop 3 figures in
+    cond (eqb (b .number) 0)
+    (cond (leb 3 (length figures)) (record { answer = 0; figures = front }) (record { answer = 5; figures = figures }))
+    (record { answer = b .number; figures = figures })
 
 -- what is proved of the packed answers beside the contracts: whatever bytes a call is given, the parts of its answer are read back
 pub record AnswersReadBack : Type 0 where

@@ -1,2 +1,3 @@
 -- The answers of the exported functions.
 pub mod Exported
+pub mod BalanceExamples

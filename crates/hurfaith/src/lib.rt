@@ -11,6 +11,8 @@ use packing::number_at;
 use packing::packed;
 use packing::packed_two;
 use packing::put_four;
+use packing::put_three;
+use records::balance::balance;
 use round::agreed::agreed_time;
 use round::start::start;
 use take::take;
@@ -20,7 +22,7 @@ ghost use mathlib.Core.Path.{_≡_};
 ghost use mathlib.Core.List.{[]};
 ghost use Rattle.views.specs.Viewing.{viewed};
 ghost use Rattle.gateway.specs.Calls.{left, workedOff, started, committed, agreedTime, taken, setUp};
-ghost use Rattle.hurfaith.specs.Exported.{packedAnswer, packedWork, packedTime, routed, numberAlone, settingsGiven, LampAnswer, packedView};
+ghost use Rattle.hurfaith.specs.Exported.{packedAnswer, packedWork, packedTime, routed, numberAlone, settingsGiven, LampAnswer, packedView, balanceGiven};
 
 // The neighbours of a gateway: the two that it hears from and the two that it tells, 65,535 where there is none.
 #[no_mangle]
@@ -154,4 +156,22 @@ pub extern "C" fn hurfaith_view(bytes: &[u8], output: &mut [u8], reader: u32, ol
 {
     let answer = view(bytes, output, reader, old_stock);
     packed_two(answer.number, answer.written)
+}
+
+// The balance of a record with an opening stock: what the Restocks brought, the Requests that found stock, and the stock in the last
+// event's state, at the array's front.
+#[no_mangle]
+pub extern "C" fn hurfaith_balance(bytes: &[u8], opening_stock: u32, figures: &mut [u64]) -> u32
+    ensures { λ r. ⌜ record { answer = r; figures = now (figures .exit) }
+        ≡ balanceGiven «opening_stock» (now (bytes .entry)) (now (figures .entry)) ⌝ }
+{
+    let answer = balance(bytes, opening_stock);
+    if answer.number != 0 {
+        return answer.number as u32;
+    }
+    if figures.len() < 3 {
+        return 5;
+    }
+    put_three(figures, answer.received, answer.served, answer.stock);
+    0
 }

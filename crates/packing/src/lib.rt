@@ -44,3 +44,13 @@ pub fn put_four(neighbours: &mut [u16], first: u16, second: u16, third: u16, fou
     neighbours[2] = third;
     neighbours[3] = fourth;
 }
+
+// Puts three numbers to the front of an array.
+pub fn put_three(figures: &mut [u64], first: u64, second: u64, third: u64)
+    requires { ⌜ 3 ≤ length (now figures) ⌝ }
+    ensures { λ _. ⌜ now (figures .exit) ≡ first ∷ second ∷ third ∷ drop 3 (now (figures .entry)) ⌝ }
+{
+    figures[0] = first;
+    figures[1] = second;
+    figures[2] = third;
+}

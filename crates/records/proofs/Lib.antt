@@ -6,4 +6,7 @@ pub mod EventNumbers
 pub mod PassedEvents
 pub mod TakenRest
 pub mod WrittenEvents
+pub mod HistoryLaws
+pub mod Booking
 pub mod GoodEvents
+pub mod BalanceTable

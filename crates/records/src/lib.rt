@@ -1,4 +1,6 @@
 // A record, read event by event: each is its frame, then the state after it.
+pub mod balance; // balance.rt: what the Restocks brought, the Requests that found stock, and the last stock
+
 use buffer::read32;
 use frame::Frame;
 use frame::Reading;

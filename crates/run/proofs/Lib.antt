@@ -11,6 +11,7 @@ pub mod QueueChanges
 pub mod EventCalls
 pub mod DueHours
 pub mod SingleQueues
+pub mod SingleHistories
 pub mod LedgerItems
 pub mod Ledgers
 pub mod EventsUnderWay
@@ -37,6 +38,7 @@ pub mod RoundWorlds
 pub mod AcceptedCalls
 pub mod HeldGateways
 pub mod CommittedEvents
+pub mod FollowedEvents
 pub mod RoundForms
 pub mod RoundNotes
 pub mod RoundClaims
@@ -64,3 +66,5 @@ pub mod HoursTable
 pub mod Theorem
 pub mod RecordsTaken
 pub mod RecordExample
+pub mod HistoryProved
+pub mod HistoryTable

@@ -1,6 +1,6 @@
 -- N memories just set up are beside the theory's world before its first step.
 use mathlib.Core.Path.{_≡_, refl, sym, _∙_, ap, subst}
-use Prim.Native.Nat.{ℕ, _-_, _<_}
+use Prim.Native.Nat.{ℕ, _-_, _≤_, _<_}
 use native.Mathlib.Omega.{arith}
 use mathlib.Core.Bool.{Bool, true, false}
 use mathlib.Core.List.{List, []}
@@ -19,7 +19,7 @@ use Rattle.gateway.specs.SettingUp.{settingsOf, cutFrames, opened, setUpRefusal
 use Rattle.gateway.specs.Calls.{setUp, agreedTime}
 use Rattle.gateway.specs.declared.Opening.{Opening}
 use Rattle.gateway.proofs.Maintaining.{Kept}
-use Rattle.gateway.proofs.Openings.{opened-keeps, opening-long}
+use Rattle.gateway.proofs.Openings.{opened-keeps, opening-long, opening-stock}
 use Rattle.event_steps.specs.Gateways.{openingData}
 use Rattle.round_steps.specs.Arcs.{Graph}
 use Rattle.round_steps.specs.RoundSteps as RoundSteps
@@ -27,10 +27,12 @@ use Rattle.event_steps.specs.SingleQueue as Theory
 use Rattle.timewarp.specs.Worlds as Worlds
 use Rattle.run.specs.Forecast.{SetUpInput, Forecast}
 use Rattle.run.specs.SingleQueue.{openingMessages, openingQueue, steps, turnsFor, wholeRecord}
+use Rattle.run.specs.History.{singleHistory}
 use Rattle.run.specs.World.{openingWorld}
 use Rattle.run.proofs.ForecastModel.{forecastModel, Settled}
 use Rattle.run.proofs.QueueViews.{viewOf}
 use Rattle.run.proofs.SingleQueues.{historyRecord, steps-end, whole-record}
+use Rattle.run.proofs.SingleHistories.{inOrder, whole-done}
 use Rattle.run.proofs.Ledgers.{Follows}
 use Rattle.run.proofs.EventsUnderWay.{seenIn}
 use Rattle.run.proofs.EventWorlds.{settingOf}
@@ -72,6 +74,9 @@ module _ (n last : ℕ) (setups : ℕ → SetUpInput) (lent : ℕ → List ℕ) 
     laws : WritingLaws first (lent i)
     unfolding opened
     laws = writing-laws first (lent i) (kept .proper .valid) (kept .proper .ranged) (opening-long o (length (lent i)) (setups i .list) (set-up .not-refused))
+
+    pub stock-few : o .stock ≤ 65535
+    stock-few = opening-stock o (length (lent i)) (setups i .list) (set-up .not-refused)
 
     pub memory-sound : sound (openingWorld setups lent .memories i) ≡ true
     unfolding openingWorld
@@ -128,6 +133,10 @@ module _ (n last : ℕ) (setups : ℕ → SetUpInput) (lent : ℕ → List ℕ) 
   -- the whole record of the single queue is that of the theory's single queue
   pub single-queue : (i : ℕ) → wholeRecord n last setups i ≡ historyRecord n last setups i (Theory.singleHistory (forecastModel n last setups) i)
   single-queue i = whole-record n last setups (forecast .some) hours-end settled (opening-agrees n last setups (forecast .some) lawful) i
+
+  -- and so is its history
+  pub single-history : (i : ℕ) → singleHistory n last setups i ≡ inOrder (Theory.singleHistory (forecastModel n last setups) i)
+  single-history i = whole-done n last setups i (forecast .some) hours-end settled (opening-agrees n last setups (forecast .some) lawful)
 
   -- and that single queue ends
   pub queue-ends : steps setups (turnsFor last (openingQueue n setups .list)) (openingQueue n setups) .list ≡ []

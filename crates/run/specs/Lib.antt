@@ -9,3 +9,6 @@ pub mod ExampleRun
 pub mod OrderExamples
 pub mod HoursExamples
 pub mod RecordsTaken
+pub mod History
+pub mod Balanced
+pub mod HistoryExamples

@@ -37,11 +37,11 @@ abbrev aboutLamp : ℕ → ℕ → Kind → Message
 aboutLamp character hour kind = record { hour = hour; from = 0; to = 0; kind = kind; lamp = 76 ∷ (replicate 16 48 ++ (character ∷ [])) }
 
 -- about lamp L00000000000000001
-abbrev messageAt : ℕ → Kind → Message
+abbrev pub messageAt : ℕ → Kind → Message
 messageAt hour kind = aboutLamp 49 hour kind
 
 -- a Restock has no lamp
-abbrev restockAt : ℕ → ℕ → Message
+abbrev pub restockAt : ℕ → ℕ → Message
 restockAt hour quantity = record { hour = hour; from = 0; to = 0; kind = Restock quantity; lamp = replicate 18 0 }
 
 -- the events of hour 7

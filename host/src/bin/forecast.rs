@@ -1,6 +1,7 @@
 //! The program forecast: runs all gateways of a scenario over the proved library until every record is whole, and writes what
 //! purchasing, stores and crews read.
 
+use host::balance::{self, Unbalanced};
 use host::carrier::{Progress, Stopped};
 use host::command::{printed, shown, Arguments, Ending, Program, BAD_FILE};
 use host::digest::Digest;
@@ -9,7 +10,7 @@ use host::kept::{Kept, Unfinished};
 use host::progress::{Display, Style};
 use host::record_files::BadFile;
 use host::report::{counted, grouped};
-use host::results;
+use host::results::{self, Results};
 use host::scenario::{number, Scenario};
 use library::Library;
 use std::ffi::OsStr;
@@ -36,7 +37,8 @@ const PROGRAM: Program = Program {
 Runs all gateways of a scenario until every record is whole, and writes to DIRECTORY each
 gateway's record (gateway-NNN.record), what purchasing and what maintenance is to see of it
 (gateway-NNN.purchasing, gateway-NNN.maintenance), and what is made of all records: report.html to
-begin with, years.csv, months.csv, drivers.csv, lamps.csv and places.csv. SCENARIO - is standard input.
+begin with, years.csv, months.csv, drivers.csv, balance.csv, lamps.csv and places.csv. SCENARIO - is
+standard input.
 
   --resume DIRECTORY    go on with the forecast in DIRECTORY after a crash
   --save-every SECONDS  write the copy to go on from every so many seconds (10; 0: after each round)
@@ -45,8 +47,9 @@ begin with, years.csv, months.csv, drivers.csv, lamps.csv and places.csv. SCENAR
   --help, --version
 
 Status: 0 if every record is whole, 1 if the forecast cannot go on (what is committed is kept), 2 for
-a bad usage, 3 if the scenario, the copy or a file cannot be used. docs/OPERATING.md says what a
-scenario is and what each figure means.
+a bad usage, 3 if the scenario, the copy or a file cannot be used, 4 if a line of balance.csv does not
+balance, which never is so of committed records. docs/OPERATING.md says what a scenario is and what each
+figure means.
 
   forecast scenario result
   forecast --resume result
@@ -146,7 +149,8 @@ fn finish(name: &str, kept: Kept<Library>, result: Result<(), Unfinished>) -> Re
         }
         Err(Unfinished::File(bad)) => return Err(interrupted(bad)),
     };
-    let summary = results(kept, stopped.as_deref()).map_err(interrupted)?;
+    let (summary, unbalanced) = results(kept, stopped.as_deref()).map_err(interrupted)?;
+    balance::check(&path, &unbalanced)?;
     match stopped {
         None => printed(io::stdout().lock().write_all(summary.as_bytes())),
         Some(why) => Err(Ending::Failed(
@@ -156,13 +160,17 @@ fn finish(name: &str, kept: Kept<Library>, result: Result<(), Unfinished>) -> Re
     }
 }
 
-/// Writes the results, after which there is nothing to go on with; the summary.
-fn results(kept: Kept<Library>, stopped: Option<&str>) -> Result<String, BadFile> {
+/// Writes the results, after which there is nothing to go on with; the summary, and what does not balance.
+fn results(
+    kept: Kept<Library>,
+    stopped: Option<&str>,
+) -> Result<(String, Vec<Unbalanced>), BadFile> {
     let (directory, scenario, carried) = kept.close()?;
-    let orders = results::write(&Library, &directory, &scenario, &carried, stopped)?;
+    let Results { orders, unbalanced } =
+        results::write(&Library, &directory, &scenario, &carried, stopped)?;
     directory.remove_copy()?;
     let Progress { worked, committed, frames, rounds, taken_back, .. } = carried.progress;
-    Ok(format!(
+    let summary = format!(
         "{}, last hour {}: every record is whole, {}\n\
          {orders}\
          {} were done and undone again, {} carried, {}, {} taken back\n\
@@ -176,7 +184,8 @@ fn results(kept: Kept<Library>, stopped: Option<&str>) -> Result<String, BadFile
         counted(taken_back, "window"),
         directory.path().display(),
         RESULTS.join(", "),
-    ))
+    );
+    Ok((summary, unbalanced))
 }
 
 fn unusable(bad: BadFile) -> Ending {
