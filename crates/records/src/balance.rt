@@ -1,5 +1,6 @@
 // The balance of a record, as a stock book has it: what the Restocks brought, how many Requests found stock, and the stock in the last
 // event's state. One pass checks the record, one follows its stock.
+use crate::RECORD_LIMIT;
 use crate::StockField;
 use crate::event_length;
 use crate::pass_over;
@@ -38,9 +39,6 @@ pub struct Book {
 
 // The most that an opening stock has.
 const MOST_OPENING_STOCK: u32 = 65535;
-
-// A record of so many bytes or more is refused.
-const RECORD_LIMIT: usize = 281474976710656;
 
 // The figures of a whole record and an opening stock.
 pub fn balance(bytes: &[u8], opening: u32) -> BalanceAnswer

@@ -30,6 +30,9 @@ ghost use Rattle.memory.specs.Layout.{stateSize};
 ghost use Rattle.records.specs.Events.{stateSizeOf, isEvent, frameRefusal};
 ghost use Rattle.records.specs.inside.Finding.{foundAt, lengthOfKind, weightOf, passedAs, goodWithLamp, goodRestock, goodGateways};
 
+// A record of so many bytes or more is refused.
+pub const RECORD_LIMIT: usize = 281474976710656;
+
 // The N and the H that a record is read with.
 const MOST_GATEWAYS: u16 = 255;
 

@@ -10,6 +10,7 @@ use frame::tables::ORIGIN_PLACE;
 use frame::tables::QUANTITY_END;
 use frame::tables::QUANTITY_PLACE;
 use memory::STATE_SIZE;
+use records::RECORD_LIMIT;
 use records::StockField;
 use records::event_length;
 use records::pass_over;
@@ -50,9 +51,6 @@ pub struct Front {
     pub position: usize,
     pub state: usize,
 }
-
-// A record of so many bytes or more is refused.
-const RECORD_LIMIT: usize = 281474976710656;
 
 // The maps of each reader, of a Failure, Request or Delivery and of a Restock: a bit for each field that the reader sees and the kind has.
 const PURCHASING_MAP: u8 = 123;
