@@ -8,7 +8,6 @@ use lib.ListN.{length, replicate}
 use Rattle.model.specs.Doing.{openingState, after}
 use Rattle.model.specs.declared.Kind.the-variants.{Failure, Restock}
 use Rattle.model.specs.declared.Message.{Message}
-use Rattle.model.specs.declared.State.{State}
 use Rattle.frame.specs.Writing.{written}
 use Rattle.memory.specs.Codec.{encode}
 use Rattle.memory.specs.Records.{Gateway}

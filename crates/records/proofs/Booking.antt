@@ -2,19 +2,18 @@
 use mathlib.Core.Path.{_≡_, refl, sym, _∙_, ap}
 use mathlib.Core.Bool.{Bool, true, false, cond}
 use mathlib.Core.List.{List, [], _∷_, map}
-use Prim.Native.Nat.{ℕ, _+_, _*_, _-_, _≤_, _<_, _^_}
+use Prim.Native.Nat.{ℕ, _+_, _*_, _-_, _≤_, _<_}
 use native.Mathlib.Nat.{add-zero, zero-add, sub-zero}
 use native.Mathlib.Omega.{arith}
 use native.Mathlib.Decide.{ℕ-discrete}
-use lib.Dec.{ltb, leb, eqb}
+use lib.Dec.{ltb}
 use lib.ListN.{length, take, drop, getD}
-use borrow.Author.Tests.{eq-eqb, ne-eqb, lt-ltb, le-ltb, lt-leb, le-leb}
+use borrow.Author.Tests.{ne-eqb, lt-ltb, le-ltb, lt-leb, le-leb}
 use Rattle.lists.specs.Lists.{firstNumber}
 use Rattle.lists.specs.inside.Pieces.{piecesFrom}
 use Rattle.lists.proofs.PieceLaws.{pieces-none}
 use Rattle.buffer.specs.Slice.{Bytes, part}
-use Rattle.buffer.specs.Number.{bytesOf, numberOf}
-use Rattle.buffer.proofs.Lent.{bytes-part}
+use Rattle.buffer.specs.Number.{numberOf}
 use Rattle.buffer.proofs.Numbers.{number-of-bytes}
 use Rattle.buffer.proofs.Writes.{part-part}
 use Rattle.model.specs.Doing.{openingState, after, counted}
@@ -23,8 +22,8 @@ use Rattle.model.specs.declared.Kind.{Kind}
 use Rattle.model.specs.declared.Kind.the-variants.{Failure, Request, Delivery, Restock, Start, Lvt, Update}
 use Rattle.model.specs.declared.State.{State}
 use Rattle.memory.specs.Codec.{stateWith}
-use Rattle.records.specs.Events.{Event, eventLength, eventRefusal, recordRefusal, eventOf, eventsOf, cutEvents}
-use Rattle.records.specs.Balancing.{findsStock, received, served, lastStock, balanceable, refusedBalance, figuresOf, balanceFor, balanced}
+use Rattle.records.specs.Events.{Event, eventLength, eventRefusal, recordRefusal, eventOf, eventsOf}
+use Rattle.records.specs.Balancing.{received, served, lastStock, refusedBalance, balanceFor, balanced}
 use Rattle.records.specs.inside.Booking.{entered, enteredEvent, enteredAll, openedBook, RoomInBook}
 use Rattle.records.specs.inside.Finding.{eventAt, lengthOfKind, passedAs}
 use Rattle.records.specs.declared.Passed.{Passed}

@@ -5,7 +5,7 @@ use Prim.Native.Nat.{ℕ, _+_, _-_, _≤_, _<_}
 use native.Mathlib.Omega.{arith}
 use native.Mathlib.Decide.{ℕ-discrete}
 use lib.ListN.{length, take, drop, getD}
-use borrow.Author.Tests.{eq-eqb, ne-eqb}
+use borrow.Author.Tests.{ne-eqb}
 use Rattle.lists.specs.inside.Pieces.{piecesFrom, pieceEnd}
 use Rattle.lists.proofs.PieceLaws.{Between, Passing, Passed, passing-end, passing-refused, weight-few, passing-turn, end-between}
 use Rattle.buffer.specs.Slice.{Bytes, part}

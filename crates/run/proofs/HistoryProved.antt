@@ -3,17 +3,15 @@ use mathlib.Core.Path.{_≡_, refl, sym, _∙_, ap, subst}
 use Prim.Native.Nat.{ℕ, _+_, _≤_, _<_, _^_}
 use native.Mathlib.Omega.{arith}
 use mathlib.Core.List.{List, _++_}
-use lib.Dec.{leb, ltb}
 use lib.ListN.{length}
-use borrow.Author.Tests.{eq-eqb, le-leb, lt-ltb}
+use borrow.Author.Tests.{le-leb, lt-ltb}
 use Rattle.lists.specs.Lists.{Beginning, joined}
 use Rattle.model.specs.declared.Message.{Message}
 use Rattle.event_steps.specs.Gateways.{Gateway as View}
 use Rattle.event_steps.specs.SingleQueue as Theory
 use Rattle.timewarp.proofs.Theorem.{claim-holds}
 use Rattle.gateway.specs.Committing.{recordFor}
-use Rattle.records.specs.Events.{Event, recordRefusal, eventsOf}
-use Rattle.records.specs.Histories.{eventsFrom}
+use Rattle.records.specs.Events.{recordRefusal, eventsOf}
 use Rattle.records.specs.Balancing.{Balances, balanceFor, balanced}
 use Rattle.records.specs.declared.StockField.the-variants.{Present}
 use Rattle.records.proofs.WrittenEvents.{eventBytes, record-read}
@@ -29,7 +27,7 @@ use Rattle.run.proofs.SingleHistories.{inOrder, in-order-append}
 use Rattle.run.proofs.CommittedEvents.{eventsAfter, record-events}
 use Rattle.run.proofs.FollowedEvents.{events-follow}
 use Rattle.run.proofs.OpeningWorlds.{stock-few, single-queue, single-history}
-use Rattle.run.proofs.BothWorlds.{Both, forecastSetting, model-laws}
+use Rattle.run.proofs.BothWorlds.{forecastSetting, model-laws}
 use Rattle.run.proofs.RecordsTaken.{records-taken}
 use Rattle.run.proofs.Theorem.{reached-both}
 

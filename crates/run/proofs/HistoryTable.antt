@@ -1,5 +1,5 @@
 -- The examples of histories and of the balance hold, by computation.
-use mathlib.Core.Path.{_≡_, refl, _∙_, ap}
+use mathlib.Core.Path.{_≡_, refl, ap}
 use native.Mathlib.Omega.{arith}
 use mathlib.Core.List.{[]}
 use lib.ListN.{take}
@@ -32,8 +32,8 @@ use Rattle.run.specs.World.{roundFrames, afterTaking, afterStarting, aft
 use Rattle.run.specs.SingleQueue.{openingMessages, openingQueue, earliest, others, doOne, stepOn, turnsFor}
 use Rattle.run.specs.ExampleRun.{worldAtEnd, twoRecords}
 use Rattle.run.specs.OrderExamples.{sameHourRecord}
-use Rattle.run.specs.History.{eventsAt, writing, nextOf, doneIn, singleHistory}
-use Rattle.run.specs.HistoryExamples.{recordAfter, threeMessages, recordOfTwo, HistoryExamples}
+use Rattle.run.specs.History.{nextOf, doneIn, singleHistory}
+use Rattle.run.specs.HistoryExamples.{recordAfter, recordOfTwo, HistoryExamples}
 use Rattle.run.proofs.Example.{examples}
 use Rattle.run.proofs.OrderTable.{order-within-an-hour}
 

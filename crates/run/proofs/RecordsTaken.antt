@@ -1,5 +1,5 @@
 -- The views take what commit wrote: the events that each gateway has committed may stand in a record.
-use mathlib.Core.Path.{_≡_, _∙_, ap}
+use mathlib.Core.Path.{_∙_, ap}
 use Rattle.records.specs.Events.{recordRefusal}
 use Rattle.records.specs.declared.StockField.the-variants.{Present}
 use Rattle.records.proofs.WrittenEvents.{record-taken}

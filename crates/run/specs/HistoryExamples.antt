@@ -20,7 +20,7 @@ abbrev pub recordAfter : ℕ → List ℕ
 recordAfter count = worldAtEnd 1 10 sameHourSetUp sameHourMemory (take count sameHourCalls) .records 0
 
 -- its history: a Failure, the Restock of 3 and the Failure's Request
-abbrev pub threeMessages : List Message
+abbrev threeMessages : List Message
 threeMessages = messageAt 4 (Failure 0) ∷ restockAt 5 3 ∷ failuresRequest ∷ []
 
 -- gateway i's record at the end of the run of two gateways
