@@ -159,27 +159,29 @@ pub enum Reason {
 }
 
 impl Reason {
-    /// The number of a refusal for this reason.
-    pub fn number(&self) -> u32 {
+    /// The number of a refusal for this reason. No call refuses a record for the order of its events, so that reason has none.
+    pub fn number(&self) -> Option<u32> {
         match self {
             Reason::FewerThanTwoBytes | Reason::CutFrame { .. } | Reason::CutState { .. } => {
-                refusal::LENGTH
+                Some(refusal::LENGTH)
             }
-            Reason::Lamp(_) => refusal::LAMP,
+            Reason::Lamp(_) => Some(refusal::LAMP),
             Reason::MapAndKind { .. }
             | Reason::Sense(_)
             | Reason::GatewayFields(_)
-            | Reason::NotTaken { .. }
-            | Reason::EventOrder => refusal::FORM,
-            Reason::GatewayNumber => refusal::GATEWAY,
-            Reason::Hour => refusal::HOUR,
+            | Reason::NotTaken { .. } => Some(refusal::FORM),
+            Reason::GatewayNumber => Some(refusal::GATEWAY),
+            Reason::Hour => Some(refusal::HOUR),
+            Reason::EventOrder => None,
         }
     }
 }
 
 impl fmt::Display for Reason {
     fn fmt(&self, formatter: &mut fmt::Formatter) -> fmt::Result {
-        write!(formatter, "{}, ", refusal::named(self.number()))?;
+        if let Some(number) = self.number() {
+            write!(formatter, "{}, ", refusal::named(number))?;
+        }
         match self {
             Reason::FewerThanTwoBytes => write!(formatter, "a frame of fewer than two bytes"),
             Reason::MapAndKind { map, kind } => {
@@ -209,7 +211,7 @@ impl fmt::Display for Reason {
             Reason::CutState { found, length } => {
                 write!(formatter, "cut: {found} of a state's {length} bytes")
             }
-            Reason::EventOrder => write!(formatter, "not in event order"),
+            Reason::EventOrder => write!(formatter, "an event that is not in event order"),
         }
     }
 }
@@ -472,7 +474,7 @@ mod tests {
         assert_eq!(why(&recorded(failure(3, NOTHING_DUE, LAMP))), no_hour);
         assert_eq!(why(&with(&[])[..27]), "11 (length), cut: 0 of a state's 16 bytes");
         assert_eq!(why(&with(&[])[..42]), "11 (length), cut: 15 of a state's 16 bytes");
-        assert_eq!(why(&with(&[(6, 0)])), "1 (form), not in event order");
+        assert_eq!(why(&with(&[(6, 0)])), "an event that is not in event order");
     }
 
     /// Of two neighbours in the order of the reasons, where both hold, the first is named.
@@ -527,7 +529,7 @@ mod tests {
                     assert_eq!((records.len(), why), (2, None));
                 } else {
                     assert_eq!(records.len(), 1);
-                    assert!(why.unwrap().ends_with(": 1 (form), not in event order"));
+                    assert!(why.unwrap().ends_with(": an event that is not in event order"));
                 }
             }
         }

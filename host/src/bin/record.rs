@@ -71,7 +71,8 @@ which an event with several faults has that of the first in this order:
   2         a gateway that cannot be, 255
   3         an hour that cannot be, 4294967295
   11        a cut state
-  1         an event that is not in order
+
+Last of all comes an event that is not in event order, which has no number: no call looks for it.
 
 Status: 0 if every FILE is a record, 1 if one is not, 2 for a bad usage, 3 if a FILE cannot be read
 or standard output cannot be written; where there are several, the highest.
