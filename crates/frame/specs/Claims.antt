@@ -26,7 +26,8 @@ pub record RangedFrame (f : Frame) : Type 0 where
   pub lamp : length (f .message .lamp) ≡ lampWidth
   pub bytes : Bytes (f .message .lamp)
 
--- frames and well-formed values are one to one
+-- Demand 2: "frames and messages correspond one to one."
+-- Frames and well-formed values are one to one.
 pub record OneToOne : Type 0 where
   -- reading what was written gives the value
   pub writtenRead : (f : Frame) → RangedFrame f → wellFormed f ≡ true → reading (written f) ≡ readAs Good f

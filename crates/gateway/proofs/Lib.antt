@@ -8,6 +8,7 @@ pub mod Takings
 pub mod Accepting
 pub mod Keeps
 pub mod Openings
+pub mod Refusals
 pub mod SoundAfter
 pub mod LaterMessages
 pub mod Table

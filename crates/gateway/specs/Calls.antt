@@ -1,4 +1,6 @@
 -- The calls on lent bytes: what each answers, the memory afterwards and the output afterwards, for every input.
+-- Demand 2: "every call does what document 01's rules say". The rules are the files before this one; the contract of each call is that it
+-- leaves what is defined here.
 use Prim.Native.Nat.{ℕ}
 use mathlib.Core.Bool.{Bool, true, false, cond, not}
 use mathlib.Core.List.{List, []}

@@ -1,5 +1,5 @@
--- What is proved of the calls beside their contracts: no call answers 10 to memory that the calls left, at every gateway that set up
--- accepts a message is later than its cause, and no sum of a stock and a Restock wraps.
+-- What is proved of the calls beside their contracts: a refusal changes nothing, no call answers 10 to memory that the calls left, at every
+-- gateway that set up accepts a message is later than its cause, and no sum of a stock and a Restock wraps.
 use mathlib.Core.Path.{_≡_}
 use Prim.Native.Nat.{ℕ, _+_, _≤_, _<_}
 use mathlib.Core.Bool.{true}
@@ -20,8 +20,28 @@ use Rattle.memory.specs.declared.Entry.{Entry}
 use Rattle.memory.specs.declared.Settings.{Settings}
 use Rattle.gateway.specs.Working.{pendingOf}
 use Rattle.gateway.specs.SettingUp.{settingsOf}
-use Rattle.gateway.specs.Calls.{taken, started, committed, workedOff, setUp, agreedTime}
+use Rattle.gateway.specs.Calls.{CallResult, refusedWith, taken, started, committed, workedOff, setUp, agreedTime}
+use Rattle.gateway.specs.declared.Answer.{Answer}
 use Rattle.gateway.specs.declared.Opening.{Opening}
+
+-- Demand 1: "Where a gateway is handed a frame, opening list, setting or memory of any content, in any state, the call returns within its
+-- buffers; what it can't use is refused by document 01's number, and a refusal changes nothing."
+-- That every call returns, within its buffers and with the number that Calls gives, is its contract, which has no premise. That a refusal
+-- changes nothing is claimed here.
+
+-- a call that refuses leaves its number alone: no byte is written, and memory and output are as they were
+abbrev pub RefusedAlone : List ℕ → List ℕ → CallResult Answer → Type 0
+RefusedAlone memory output r = (r .answer .number ≡ 0 → ⊥) → r ≡ refusedWith (r .answer .number) memory output
+
+-- every call that is refused, whatever the memory and what it is handed; and work that does no event, for whatever reason
+pub record RefusalsChangeNothing : Type 0 where
+  pub atSetUp : (o : Opening) (list memory : List ℕ) → RefusedAlone memory [] (setUp o list memory)
+  pub atTaking : (memory frame output : List ℕ) → RefusedAlone memory output (taken memory frame output)
+  pub atStarting : (memory output : List ℕ) → RefusedAlone memory output (started memory output)
+  pub atCommitting : (memory output : List ℕ) → RefusedAlone memory output (committed memory output)
+  pub atWorking : (b : ℕ) (memory output : List ℕ) → Bytes memory
+      → let r = workedOff b memory output in
+      r .answer .count ≡ 0 → (r .answer .written ≡ 0) × (r .memory ≡ memory) × (r .output ≡ output)
 
 -- sound memory of bytes
 pub record SoundBytes (memory : List ℕ) : Type 0 where

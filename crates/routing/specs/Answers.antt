@@ -25,6 +25,7 @@ noNeighbours = record { answer = 8; from = gateways []; to = gateways [] }
 abbrev pub noTotals : Totals
 noTotals = record { answer = 8; arcs = 0; messages = 0 }
 
+-- Demand 2: "For 1 to 65,535 gateways each one's neighbours are those of the memo's configuration code".
 -- The neighbours of a gateway by N and its own number, which is below N.
 unfoldable pub neighboursOf : (N own : ℕ) → Neighbours
 neighboursOf N own =

@@ -55,16 +55,6 @@ module _ (call : ℕ → Gateway → Outcome) (memory output : List ℕ) where
       go true false e h = absurd (true≢false (sym (eq-eqb (r .number) 0 h) ∙ e))
       go false d e h = absurd (omega arith)
 
-  -- a refused call leaves the memory as it was
-  pub refused-memory : eqb (onSound call memory output .answer .number) 0 ≡ false → onSound call memory output .memory ≡ memory
-  unfolding onSound leaving
-  refused-memory = go (sound memory) (eqb (r .number) 0)
-    where
-      go : (b d : Bool) → eqb (by-tests b d .answer .number) 0 ≡ false → by-tests b d .memory ≡ memory
-      go true true h = absurd (true≢false h)
-      go true false h = refl
-      go false d h = refl
-
 -- the number that a call answers on sound memory
 pub call-number : (call : ℕ → Gateway → Outcome) (memory output : List ℕ) → sound memory ≡ true → onSound call memory output .answer .number
     ≡ call (length output) (decode memory) .number

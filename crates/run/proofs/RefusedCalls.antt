@@ -1,38 +1,31 @@
 -- A refused call leaves the world as it was, and so does work that does no event.
-use mathlib.Core.Path.{_≡_, refl, _∙_, ap}
-use Prim.Native.Nat.{ℕ, zero, suc, _-_}
-use native.Mathlib.Omega.{arith}
-use mathlib.Core.Bool.{Bool, true, false, cond}
-use mathlib.Core.List.{List, [], _∷_, append-nil}
+use mathlib.Core.Path.{_≡_, _∙_, ap}
+use Prim.Native.Nat.{ℕ}
+use mathlib.Core.Bool.{false}
+use mathlib.Core.List.{List, append-nil}
 use lib.Dec.{eqb}
+use borrow.Author.Tests.{eqb-false}
 use lib.ListN.{length}
 use Rattle.lists.specs.Families.{change}
-use Rattle.model.specs.declared.Message.{Message}
 use Rattle.memory.specs.Records.{Gateway}
 use Rattle.memory.specs.Codec.{decode, encode}
 use Rattle.lists.specs.Lists.{cutBy}
-use Rattle.gateway.specs.SettingUp.{setUpRefusal}
-use Rattle.gateway.specs.Effects.{bytesOfFrames, fits}
-use Rattle.gateway.specs.Working.{Progress, noneDone, onceMore, workedBy, worked, done, pendingOf}
-use Rattle.gateway.specs.Claims.{SoundBytes}
+use Rattle.gateway.specs.Working.{worked}
+use Rattle.gateway.specs.Claims.{RefusedAlone, SoundBytes}
 use Rattle.gateway.specs.Rounds.{start}
 use Rattle.gateway.specs.Committing.{commit}
-use Rattle.gateway.specs.Calls.{takeBytes, setUp, taken, started, committed, workedOff}
+use Rattle.gateway.specs.Calls.{CallResult, takeBytes, setUp, taken, started, committed, workedOff}
+use Rattle.gateway.specs.declared.Answer.{Answer}
 use Rattle.gateway.specs.declared.Opening.{Opening}
 use Rattle.run.specs.World.{World, works, takes, starts, commits, setsUp, withMemory, afterWorking, afterCall}
 use Rattle.run.specs.Ledger.{didSome}
-use Rattle.run.proofs.AcceptedCalls.{refused-memory}
+use Rattle.gateway.proofs.Refusals.{NoEvent, no-event, call-refused, set-up-refused}
 use Rattle.run.proofs.BesideCalls.{change-self}
 use Rattle.run.proofs.HeldGateways.{held}
 
--- set up that is refused leaves the memory
-pub set-up-refused : (o : Opening) (list memory : List ℕ) → (setUp o list memory .answer .number ≡ 0 → ⊥) → setUp o list memory .memory ≡ memory
-unfolding setUp
-set-up-refused o list memory h = by-case (eqb (setUpRefusal o (length memory) list) 0) refl
-  where
-    by-case : (t : Bool) → eqb (setUpRefusal o (length memory) list) 0 ≡ t → setUp o list memory .memory ≡ memory
-    by-case true p = absurd (h (rw p))
-    by-case false p = rw p
+-- a refused call leaves the memory as it was
+refused-memory : {memory output : List ℕ} {r : CallResult Answer} → RefusedAlone memory output r → eqb (r .answer .number) 0 ≡ false → r .memory ≡ memory
+refused-memory {r = r} alone h = ap (λ (x : CallResult Answer). x .memory) (alone (eqb-false (r .answer .number) 0 h))
 
 -- a world in which a call left the memory as it was
 same-memory : (w : World) (i : ℕ) {memory : List ℕ} → memory ≡ w .memories i → withMemory i memory w ≡ w
@@ -44,45 +37,24 @@ same-memory w i e =
 pub refused-set-up : (n : ℕ) (w : World) (i : ℕ) (o : Opening) (list : List ℕ) → (setUp o list (w .memories i) .answer .number ≡ 0 → ⊥) →
     afterCall n w (setsUp i o list) ≡ w
 unfolding afterCall
-refused-set-up n w i o list h = same-memory w i (set-up-refused o list (w .memories i) h)
+refused-set-up n w i o list h = same-memory w i (ap (λ (x : CallResult Answer). x .memory) (set-up-refused o list (w .memories i) h))
 
 pub refused-frame : (n : ℕ) (w : World) (i : ℕ) (frame output : List ℕ) → eqb (taken (w .memories i) frame output .answer .number) 0 ≡ false
     → afterCall n w (takes i frame output) ≡ w
 unfolding afterCall taken
-refused-frame n w i frame output h = rw h (same-memory w i (refused-memory (takeBytes frame) (w .memories i) output h))
+refused-frame n w i frame output h = rw h (same-memory w i (refused-memory (call-refused (takeBytes frame) (w .memories i) output) h))
 
 pub refused-start : (n : ℕ) (w : World) (i : ℕ) (output : List ℕ) → eqb (started (w .memories i) output .answer .number) 0 ≡ false →
     afterCall n w (starts i output) ≡ w
 unfolding afterCall started
-refused-start n w i output h = rw h (same-memory w i (refused-memory start (w .memories i) output h))
+refused-start n w i output h = rw h (same-memory w i (refused-memory (call-refused start (w .memories i) output) h))
 
 pub refused-commit : (n : ℕ) (w : World) (i : ℕ) (output : List ℕ) → eqb (committed (w .memories i) output .answer .number) 0 ≡ false →
     afterCall n w (commits i output) ≡ w
 unfolding afterCall committed
-refused-commit n w i output h = rw h (same-memory w i (refused-memory commit (w .memories i) output h))
+refused-commit n w i output h = rw h (same-memory w i (refused-memory (call-refused commit (w .memories i) output) h))
 
--- work that does no event leaves the gateway and writes nothing
-record NoEvent (g : Gateway) (p : Progress) : Type 0 where
-  gateway : p .gateway ≡ g
-  output : p .output ≡ []
-
-no-event : (b room : ℕ) (g : Gateway) → worked b room g .count ≡ 0 → NoEvent g (worked b room g)
-unfolding worked
-no-event zero room g h = record { gateway = refl; output = refl }
-no-event (suc b) room g h = next (pendingOf (g .queue)) h
-  where
-    rest : Message → Progress
-    rest m = onceMore (bytesOfFrames (done m g .frames)) (worked b (room - length (bytesOfFrames (done m g .frames))) (done m g .gateway))
-
-    once : (m : Message) (t : Bool) → cond t (rest m) (noneDone 5 g) .count ≡ 0 → NoEvent g (cond t (rest m) (noneDone 5 g))
-    once m true k = absurd (omega arith)
-    once m false k = record { gateway = refl; output = refl }
-
-    next : (ms : List Message) → workedBy ms (noneDone 6 g) (λ m. cond (fits room (done m g)) (rest m) (noneDone 5 g)) .count ≡ 0
-        → NoEvent g (workedBy ms (noneDone 6 g) (λ m. cond (fits room (done m g)) (rest m) (noneDone 5 g)))
-    next [] k = record { gateway = refl; output = refl }
-    next (m ∷ ms) k = once m (fits room (done m g)) k
-
+-- work that does no event
 pub idle-work : (n : ℕ) (w : World) (i b : ℕ) (output : List ℕ) → SoundBytes (w .memories i) → workedOff b (w .memories i)
     output .answer .count ≡ 0 → afterCall n w (works i b output) ≡ w
 unfolding afterCall afterWorking workedOff cutBy didSome
