@@ -74,7 +74,11 @@ enum {
 
 /* 1, 11 and 12 are one test in seven steps, wherever a frame is read: fewer than two bytes 11, map and kind 1, length 11, sense 1, lamp
  * 12, gateway fields 1, a form that this call does not take 1. The first that fails is answered; 2 and 3 come behind all of them, and in
- * a record the 11 of a cut state behind 3. */
+ * a record the 11 of a cut state behind 3.
+ *
+ * A map of 0 gives a length of one byte. An opening list and a record are cut by these lengths, so that there it is a frame of fewer
+ * than two bytes, 11, whatever follows it. A frame that the carrier brings, or whose lamp is read, has the length that it has: with a
+ * map of 0 and a byte more it is 1, since no kind has that map. */
 
 /* The 64-bit answers hold three numbers. They never overlap: no call but hurfaith_view writes more than 14,364 bytes. For
  * hurfaith_agreed_time the third number is the hour, and no bytes are written. For hurfaith_lamp all that stands above the number is a

@@ -202,7 +202,10 @@ fn a_damaged_byte_is_found_whatever_is_picked() {
         damaged(PLACES[2] + 26, 200),
         format!("{begin} 86: 12 (lamp), byte 200 is outside 33 to 126\n")
     );
-    assert_eq!(damaged(PLACES[2] + 7, 9), format!("{begin} 86: an event that is not in event order\n"));
+    assert_eq!(
+        damaged(PLACES[2] + 7, 9),
+        format!("{begin} 86: an event that is not in event order\n")
+    );
     assert_eq!(
         damaged(PLACES[1] + 2, 255),
         format!("{begin} 43: 2 (gateway number or addressee), gateway 255\n")
