@@ -24,10 +24,11 @@ use Rattle.timewarp.proofs.Theorem.{claim-holds}
 use Rattle.run.specs.Forecast.{SetUpInput}
 use Rattle.run.specs.SingleQueue.{wholeRecord}
 use Rattle.run.specs.Ledger.{waiting}
+use Rattle.run.specs.WhatWaits.{waitingOf}
 use Rattle.run.specs.World.{World, Carried, kindIn}
 use Rattle.run.specs.Demand3.{agreed, NothingToCommit}
 use Rattle.run.proofs.ForecastModel.{forecastModel}
-use Rattle.run.proofs.QueueViews.{viewOf, waitingOf}
+use Rattle.run.proofs.QueueViews.{viewOf}
 use Rattle.run.proofs.SingleQueues.{historyRecord}
 use Rattle.run.proofs.Ledgers.{Follows, waiting-have}
 use Rattle.run.proofs.EventsUnderWay.{seenIn, eventOf, acknowledgedOf, bound-seen}

@@ -36,9 +36,10 @@ use Rattle.event_steps.specs.Gateways.{Event, plain, cancel, message, history, 
 use Rattle.event_steps.specs.EventSteps.{does, takes, takesAcknowledgment, commits, becomesPending, meetsCancel, strikesOut, waits}
 use Rattle.timewarp.proofs.CallChains.{insert-append}
 use Rattle.run.specs.Forecast.{SetUpInput}
+use Rattle.run.specs.WhatWaits.{waitingOf}
 use Rattle.run.proofs.EventOrders.{not-later-keys, later-keys}
 use Rattle.run.proofs.ForecastModel.{forecastModel, siteAt, Settled, sendsAt, sends-all-sent}
-use Rattle.run.proofs.QueueViews.{eventIf, eventFor, doneAfter, waitingOf, viewOf, done-append, done-history, pending-append}
+use Rattle.run.proofs.QueueViews.{eventIf, eventFor, doneAfter, viewOf, done-append, done-history, pending-append}
 use Rattle.run.proofs.QueueViews.{waiting-append, undone-done, undone-waiting, Marked, marked, pending, processed, waiting}
 use Rattle.run.proofs.SavedStates.{stateAt, Saved, saved-front, saved-back, saved-join, saved-state, saved-restored, saved-undone, saved-more}
 use Rattle.run.proofs.QueueChanges.{done-all, Found, last-found, cancel-met, oldest-taken, each-all, next-done, sent-taken}

@@ -1,9 +1,12 @@
 -- The claims beyond demand 3.
 use mathlib.Core.Path.{_≡_, sym, _∙_}
 use borrow.Author.Tests.{ne-eqb}
+use Rattle.memory.specs.Codec.{decode}
 use Rattle.gateway.specs.Calls.{taken, started, committed}
 use Rattle.run.specs.World.{World, Call, works, takes, starts, commits, setsUp, openingWorld, afterCall, afterCalls}
 use Rattle.run.specs.Further.{OnlyForRoom, SameRecords, DoesNothing, NothingChanged}
+use Rattle.run.specs.WhatWaits.{LedgersHold}
+use Rattle.run.proofs.Ledgers.{follows-same}
 use Rattle.run.proofs.RefusedCalls.{refused-frame, refused-start, refused-commit, refused-set-up, idle-work}
 use Rattle.run.proofs.FramesInTurn.{taken-or-room}
 use Rattle.run.proofs.Theorem.{claimed, reached-both}
@@ -33,3 +36,9 @@ nothing-changed n last setups lent forecast calls h c d = by-call c d
 pub only-for-room : OnlyForRoom
 only-for-room n last setups lent forecast calls h c under output = taken-or-room n (forecast .some) last setups (reached-both n last setups
     lent forecast calls h .both) c under output
+
+-- the ledgers and the queues that the memories hold
+pub ledgers-hold : LedgersHold
+ledgers-hold n last setups lent forecast calls h i l =
+    let w = afterCalls n (openingWorld setups lent) calls in
+    follows-same n last setups (decode (w .memories i) .queue) (w .ledgers i) (reached-both n last setups lent forecast calls h .both .beside .ledgers i l)

@@ -14,7 +14,8 @@ use Rattle.gateway.specs.Rounds.{leastOutstanding, leastQueued}
 use Rattle.gateway.specs.Working.{pendingOf}
 use Rattle.event_steps.specs.Models.{first}
 use Rattle.event_steps.specs.Gateways.{cancel, message}
-use Rattle.run.proofs.QueueViews.{eventIf, eventFor, waitingOf, Marked, pending, processed, waiting, marked}
+use Rattle.run.specs.WhatWaits.{waitingOf}
+use Rattle.run.proofs.QueueViews.{eventIf, eventFor, Marked, pending, processed, waiting, marked}
 
 -- a message's hour, as the theory has it
 abbrev pub hourOf : Message → ℕ

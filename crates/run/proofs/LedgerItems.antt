@@ -20,18 +20,10 @@ use Rattle.lists.specs.Lists.{beforeFirst, fromFirst}
 use Rattle.gateway.specs.Taking.{isLater, isCancelOf, isPlain}
 use Rattle.run.specs.Ledger as Ledger
 use Rattle.run.specs.Ledger.{Item, notDone, isItem, undoneAfter, didOne, notDoneOf}
+use Rattle.run.specs.WhatWaits.{itemOf, itemsOf}
 use Rattle.run.proofs.QueueViews.{Marked, marked, pending, processed, waiting}
 use Rattle.run.proofs.EventCalls.{ascending-right}
 use Rattle.run.proofs.QueueChanges.{each-all, last-found}
-
--- a plain entry as an item
-abbrev pub itemOf : Entry → Item
-itemOf e = record { message = e .message; done = isProcessed e }
-
--- the plain messages of a queue
-unfoldable pub itemsOf : List Entry → List Item
-itemsOf [] = []
-itemsOf (e ∷ es) = let rest = itemsOf es in cond (isWaiting e) rest (itemOf e ∷ rest)
 
 -- an entry in front, plain or not
 pub items-plain : (e : Entry) (es : List Entry) → isWaiting e ≡ false → itemsOf (e ∷ es) ≡ itemOf e ∷ itemsOf es

@@ -5,7 +5,8 @@ use Prim.Native.Nat.{ℕ, _≤_}
 use native.Mathlib.Omega.{arith}
 use mathlib.Core.Bool.{Bool, true, false, cond, not, _&&_, _||_, true≢false, false≢true}
 use mathlib.Core.List.{List, [], _∷_, _++_, map, List·Memᴰ·not-nil, List·Memᴰ·cases-cons, List·Memᴰ·append-cases}
-use Rattle.lists.specs.Lists.{_∈_, Ascending, any, withoutFirst, beforeLast, fromLast, tailOf, All, Insert, here, there, count}
+use lib.ListN.{length}
+use Rattle.lists.specs.Lists.{_∈_, Ascending, any, withoutFirst, passing, beforeLast, fromLast, tailOf, All, Insert, here, there, count}
 use Rattle.lists.proofs.SearchLaws.{cut-first, around-last}
 use Rattle.lists.proofs.ListLaws.{insert-between, matches-same, matches-equal, matches-other, count-nil, count-cons, count-insert, all-count, all-each}
 use Rattle.model.specs.declared.Message.{Message}
@@ -27,11 +28,12 @@ use Rattle.event_steps.proofs.OrderLaws.{message-eq}
 use Rattle.run.specs.Forecast.{SetUpInput}
 use Rattle.run.specs.Ledger as Ledger
 use Rattle.run.specs.Ledger.{Item, notDone, afterPlain, isItem, undoneAfter, afterCancel, didOne, committedOne, notDoneOf}
+use Rattle.run.specs.WhatWaits.{itemsOf, waitingOf, timesIn, SameMessages}
 use Rattle.run.proofs.ForecastModel.{forecastModel}
 use Rattle.run.proofs.SingleQueues.{Alike}
-use Rattle.run.proofs.QueueViews.{waitingOf, waiting-append, undone-waiting, Marked, marked, pending, processed, waiting}
+use Rattle.run.proofs.QueueViews.{waiting-append, undone-waiting, Marked, marked, pending, processed, waiting}
 use Rattle.run.proofs.QueueChanges.{Found, last-found, cancel-met}
-use Rattle.run.proofs.LedgerItems.{itemsOf, items-plain, items-waiting, items-append, items-undone, items-cut, items-any, or-left}
+use Rattle.run.proofs.LedgerItems.{items-plain, items-waiting, items-append, items-undone, items-cut, items-any, or-left}
 use Rattle.run.proofs.LedgerItems.{or-right, items-struck, next-here, next-later, items-done, without-here, without-later, isDone}
 use Rattle.run.proofs.LedgerItems.{items-committed, items-pending, items-met}
 
@@ -133,6 +135,32 @@ module _ (n last : ℕ) (setups : ℕ → SetUpInput) where
   pub record Follows (es : List Entry) (l : Ledger.Ledger) : Type 0 where
     pub items : l .items ≡ itemsOf es
     pub cancels : Alike model (l .cancels) (waitingOf es)
+
+  -- how often a message stands in a list
+  times-in : (x : Message) (l : List Message) → times x l ≡ timesIn x l
+  unfolding passing
+  times-in x [] = count-nil (message-eq model) x
+  times-in x (y ∷ l) = by-case (equal x y) refl (times-in x l)
+    where
+      by-case : (t : Bool) → equal x y ≡ t → times x l ≡ timesIn x l
+          → times x (y ∷ l) ≡ length (cond t (y ∷ passing (equal x) l) (passing (equal x) l))
+      by-case true q k = omega (arith, count-cons (message-eq model) x y l, matches-equal (message-eq model) (equal-same x y q))
+      by-case false q k =
+          omega (
+            arith,
+            count-cons (message-eq model) x y l,
+            matches-other (message-eq model) (λ (e : x ≡ y). true≢false (sym (same-equal x y e) ∙ q)),
+          )
+
+  -- a ledger that follows a queue has its messages
+  pub follows-same : (es : List Entry) (l : Ledger.Ledger) → Follows es l → SameMessages l es
+  unfolding Ledger.waiting
+  follows-same es l f =
+      record {
+        items = f .items;
+        waits = ap (λ k. k ++ l .cancels) (ap notDoneOf (f .items) ∙ items-pending es);
+        cancels = λ x. sym (times-in x (l .cancels)) ∙ f .cancels x ∙ times-in x (waitingOf es);
+      }
 
   -- nothing that waits by the ledger lacks what all pending and waiting messages have
   pub waiting-have : {p : Message → Type 0} (es : List Entry) (l : Ledger.Ledger) → Follows es l → All p (pendingOf es) → All p (waitingOf

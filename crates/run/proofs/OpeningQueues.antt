@@ -39,12 +39,12 @@ use Rattle.run.specs.SingleQueue.{openingMessages, openingQueue}
 use Rattle.run.specs.Ledger as Ledger
 use Rattle.run.specs.Ledger.{afterPlain}
 use Rattle.run.specs.World.{openingLedger}
+use Rattle.run.specs.WhatWaits.{itemsOf, waitingOf}
 use Rattle.run.proofs.ForecastModel.{forecastModel, openingAt, openingHere}
-use Rattle.run.proofs.QueueViews.{waitingOf, viewOf, pending-append, Marked, marked, pending, processed, waiting}
+use Rattle.run.proofs.QueueViews.{viewOf, pending-append, Marked, marked, pending, processed, waiting}
 use Rattle.run.proofs.QueueChanges.{each-all, none-done, saved-none}
 use Rattle.run.proofs.SavedStates.{Saved, stateAt}
 use Rattle.run.proofs.SingleQueues.{Alike, Agree, historyRecord}
-use Rattle.run.proofs.LedgerItems.{itemsOf}
 use Rattle.run.proofs.Ledgers.{Follows, entry-follows}
 
 -- every entry is pending

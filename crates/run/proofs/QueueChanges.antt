@@ -21,7 +21,8 @@ use Rattle.gateway.specs.Taking.{isCancelOf, isSent}
 use Rattle.event_steps.specs.Models.{stateAfter}
 use Rattle.event_steps.specs.Gateways.{plain, cancel}
 use Rattle.run.specs.Forecast.{SetUpInput}
-use Rattle.run.proofs.QueueViews.{eventIf, eventFor, doneWith, doneAfter, waitingOf, Marked, marked, pending, processed, waiting}
+use Rattle.run.specs.WhatWaits.{waitingOf}
+use Rattle.run.proofs.QueueViews.{eventIf, eventFor, doneWith, doneAfter, Marked, marked, pending, processed, waiting}
 use Rattle.run.proofs.SavedStates.{Saved, at-end, entry, saved-more, saved-state, stateAt}
 
 -- what all entries have, their processed ones have

@@ -11,6 +11,7 @@ use Rattle.memory.specs.declared.Mark.the-variants.{Pending, Processed, Waiting
 use Rattle.gateway.specs.Undoing.{undone}
 use Rattle.gateway.specs.Working.{pendingOf}
 use Rattle.event_steps.specs.Gateways.{Event, plain, cancel, Gateway, gatewayOf}
+use Rattle.run.specs.WhatWaits.{waitingOf}
 
 -- a message, or its cancel, as an event
 abbrev pub eventIf : Bool → Message → Event Message
@@ -27,11 +28,6 @@ doneWith e h = cond (isProcessed e) (e .message ∷ h) h
 unfoldable pub doneAfter : List Message → List Entry → List Message
 doneAfter h [] = h
 doneAfter h (e ∷ es) = doneAfter (doneWith e h) es
-
--- the waiting cancels
-unfoldable pub waitingOf : List Entry → List Message
-waitingOf [] = []
-waitingOf (e ∷ es) = let rest = waitingOf es in cond (isWaiting e) (e .message ∷ rest) rest
 
 -- the gateway of the theory, from what is committed, the queue and what is outstanding
 abbrev pub viewOf : List Message → List Entry → List Sent → Gateway Message

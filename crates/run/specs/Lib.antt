@@ -5,6 +5,7 @@ pub mod Ledger
 pub mod World
 pub mod Demand3
 pub mod Further
+pub mod WhatWaits
 pub mod ExampleRun
 pub mod OrderExamples
 pub mod HoursExamples
