@@ -1,7 +1,7 @@
 -- Laws of the arcs and of the tree of Updates: arcs counted at both ends, one parent each, messages of a whole round.
 use mathlib.Core.Bool.{Bool, true, false}
 use mathlib.Core.List.{List, [], _∷_}
-use mathlib.Core.Path.{_≡_, refl}
+use mathlib.Core.Path.{_≡_, refl, subst}
 use Prim.Native.Nat.{ℕ, zero, suc, _+_, _*_, _-_, _/_, _≤_, _<_, min}
 use native.Mathlib.Decide.{ℕ-discrete}
 use native.Mathlib.Omega.{arith}
@@ -63,7 +63,7 @@ child? last i j = go (in-ifGateway? last (2 * i + 1) j) (in-ifGateway? last (2 *
     go (is-not-it p) (is-not-it q) = no-child (omega (arith, whole))
 
 -- a gateway but 0 has a parent before it
-pub parent : (last j : ℕ) → 0 < j → j ≤ last → (i : ℕ) × (i < j) × Child last i j
+parent : (last j : ℕ) → 0 < j → j ≤ last → (i : ℕ) × (i < j) × Child last i j
 unfolding children
 parent last j p l = (i, omega arith, go (same? (2 * i + 1) j))
   where
@@ -76,6 +76,21 @@ parent last j p l = (i, omega arith, go (same? (2 * i + 1) j))
     go : Same (2 * i + 1) j → Child last i j
     go (same e d) = omega (arith, whole, in-ifGateway last (2 * i + 1) j e l)
     go (other n d) = omega (arith, whole, in-ifGateway last (2 * i + 2) j (omega arith) l)
+
+-- what 0 has, and each child of one that has it, every gateway has
+module _ (last : ℕ) (p : ℕ → Type 0) (first : p 0) (onward : (i j : ℕ) → Child last i j → p i → p j) where
+  from-parents-to : (n j : ℕ) → j ≤ n → j ≤ last → p j
+  from-parents-to zero j m l = subst p (omega arith) first
+  from-parents-to (suc n) j m l = go (same? 0 j) (λ i. from-parents-to n i)
+    where
+      go : Same 0 j → ((i : ℕ) → i ≤ n → i ≤ last → p i) → p j
+      go (same e d) ih = subst p e first
+      go (other k d) ih =
+          let (i, b, c) = parent last j (omega arith) l in
+          onward i j c (ih i (omega arith) (omega arith))
+
+  pub from-parents : (j : ℕ) → j ≤ last → p j
+  from-parents j l = from-parents-to j j (omega arith) l
 
 -- all gateways but 0 are children of one
 children-sum : (last n : ℕ) → sum n (λ i. length (children (suc last) i)) ≡ min (2 * n) last

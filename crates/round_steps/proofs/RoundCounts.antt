@@ -14,7 +14,7 @@ use Rattle.lists.proofs.FamilyLaws.{sum-change, sum-constant}
 use Rattle.round_steps.specs.Arcs.{Graph, Child, times, arcCount, roundMessages}
 use Rattle.round_steps.specs.RoundSteps.{idle, counting, stopped, finished, RoundFrame, start, lvt, update, raise}
 use Rattle.round_steps.proofs.RoundFrames.{both, both-is, both-not, updateTo, sent-first, sent-not-first, sent-none}
-use Rattle.round_steps.proofs.ArcLaws.{ChildOf, child, no-child, child?, parent, all-children, arcs-at-receivers, none-to-0}
+use Rattle.round_steps.proofs.ArcLaws.{ChildOf, child, no-child, child?, from-parents, all-children, arcs-at-receivers, none-to-0}
 
 -- what a gateway of a status has written in the open round: nothing, its Starts, its Starts and Lvts
 unfoldable pub spent : ℕ → ℕ → ℕ → ℕ
@@ -58,20 +58,14 @@ all-spent G st p q =
 -- no Update is accepted twice
 module _ (G : Graph) (st : ℕ → ℕ) (fr : List RoundFrame) (tag : ℕ) (written : ℕ → ℕ) (accepted : ℕ → ℕ → ℕ)
     (h : Counts G st fr tag written accepted) where
-  once-to : (t : ℕ) → t < tag → (n j : ℕ) → j ≤ n → j ≤ G .last → accepted t j ≤ 1
-  once-to t p zero j m l =
-      let e : 0 ≡ j = omega arith in
-      omega (arith, h .accepted-at-0 t p, ap (accepted t) e)
-  once-to t p (suc n) j m l = go (same? 0 j) (λ i. once-to t p n i)
-    where
-      go : Same 0 j → ((i : ℕ) → i ≤ n → i ≤ G .last → accepted t i ≤ 1) → accepted t j ≤ 1
-      go (same e d) ih = omega (arith, h .accepted-at-0 t p, ap (accepted t) e)
-      go (other k d) ih =
-          let (i, b, c) = parent (G .last) j (omega arith) l in
-          omega (arith, h .sent-once t i j c, ih i (omega arith) (omega arith))
-
   pub accepted-once : (t : ℕ) → t < tag → (j : ℕ) → j ≤ G .last → accepted t j ≤ 1
-  accepted-once t p j l = once-to t p (G .last) j l l
+  accepted-once t p =
+      from-parents (G .last) (λ j. accepted t j ≤ 1) (omega (arith, h .accepted-at-0 t p)) (λ i j c a. omega (arith, h .sent-once t i j c))
+
+  -- and each is accepted where none is under way
+  pub accepted-all : (t : ℕ) → t < tag → ((j : ℕ) → tally (updateTo t j) fr ≡ 0) → (j : ℕ) → j ≤ G .last → 1 ≤ accepted t j
+  accepted-all t p none =
+      from-parents (G .last) (λ j. 1 ≤ accepted t j) (omega (arith, h .accepted-at-0 t p)) (λ i j c a. omega (arith, h .sent-once t i j c, none j))
 
   -- a completed round wrote two messages an arc and one for each gateway but 0
   pub completed-count : (t : ℕ) → t < tag → ((j : ℕ) → 0 < j → j ≤ G .last → 1 ≤ accepted t j) → written t ≡ roundMessages G

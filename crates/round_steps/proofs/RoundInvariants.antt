@@ -23,7 +23,7 @@ use Rattle.round_steps.proofs.RoundCarried.{lvts-carried, updates-carri
 use Rattle.round_steps.proofs.RoundQueues.{Downward, Reading, Arrives, Sends}
 use Rattle.round_steps.proofs.RoundCut.{Cut, UnderMarks, cut-begin, cut-stop, cut-fall, cut-finish, cut-arrives, cut-sends}
 use Rattle.round_steps.proofs.RoundFloor.{Floor, OnMarks, marks-change, marks-noted, floor-round, floor-arrives, floor-sends}
-use Rattle.round_steps.proofs.RoundCounts.{Counts, spent, spentBy, all-spent, accepted-once, completed-count, counts-begin, counts-hear}
+use Rattle.round_steps.proofs.RoundCounts.{Counts, spent, spentBy, all-spent, accepted-once, accepted-all, completed-count, counts-begin, counts-hear}
 use Rattle.round_steps.proofs.RoundCounts.{counts-stop, counts-lvt, counts-finish, counts-close, counts-update}
 use Rattle.round_steps.proofs.ArcLaws.{ChildOf, child, no-child, child?}
 
@@ -424,6 +424,11 @@ module _ (G : Graph) (never : ℕ) (O W : ℕ → ℕ → Type 0) (r : Rounds) (
   -- a completed round wrote two messages an arc and one for each gateway but 0
   pub round-count : (t : ℕ) → Completed G r t → written t ≡ roundMessages G
   round-count t c = completed-count G status frames tag written accepted (s .counts) t (c .is-closed) (c .all-accepted)
+
+  -- a closed round is completed where no Update of it is under way
+  pub closed-completed : (t : ℕ) → t < tag → ((j : ℕ) → tally (updateTo t j) frames ≡ 0) → Completed G r t
+  closed-completed t p none =
+      record { is-closed = p; all-accepted = λ j n l. accepted-all G status frames tag written accepted (s .counts) t p none j l }
 
   -- a frame under way is never out of turn
   pub in-turn : (f : RoundFrame) (rest : List RoundFrame) → Insert f rest frames → InTurn G r f

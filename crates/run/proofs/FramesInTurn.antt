@@ -114,7 +114,7 @@ rounds-have {p} (d ∷ cs) a c m =
     (λ k. rounds-have cs (all-right (roundOf (d .tag - 1) (reading (d .frame) .frame)) (roundsIn cs) a) c k)
     (List·Memᴰ·cases-cons m)
 
-only : {A : Type 0} {p : A → Type 0} (x : A) → All p (x ∷ []) → p x
+pub only : {A : Type 0} {p : A → Type 0} (x : A) → All p (x ∷ []) → p x
 only x (cons h a) = h
 
 module _ (n : ℕ) (some : 1 ≤ n) (last : ℕ) (setups : ℕ → SetUpInput) {w : World} {t : Worlds.World (forecastSetting n some last setups)} (b
@@ -128,6 +128,15 @@ module _ (n : ℕ) (some : 1 ≤ n) (last : ℕ) (setups : ℕ → SetUpInput) {
   -- it is of the forms, and its numbers and its hour are in their ranges
   passes : Passing n last (c .frame)
   passes = all-each (b .passing) c under
+
+  -- the frames of a round are in their turn
+  pub turns : All (InTurn (figureGraph n some) (t .rounds)) (roundOf (c .tag - 1) f)
+  turns =
+      rounds-have (w .underWay)
+      (subst (All (InTurn (figureGraph n some) (t .rounds))) (sym (b .rounds .frames)) (claim-holds (forecastSetting n some last setups)
+      (model-laws n some last setups b) (b .beside .reached) .in-turn))
+      c
+      under
 
   -- the gateway i that it is addressed to
   module _ (i : ℕ) (inside : i < n) (here : addressee (f .sense) m ≡ i) (room : ℕ) where
@@ -161,15 +170,6 @@ module _ (n : ℕ) (some : 1 ≤ n) (last : ℕ) (setups : ℕ → SetUpInput) {
         let sent : Insert (eventIf x m) rest (map eventFor (g .outstanding)) =
         subst (λ (v : View Message). Insert (eventIf x m) rest (v .outstanding)) (ap (t .events .gateways) from-here ∙ b .beside .views i inside) put in
         rw (outstanding-found x m (g .outstanding) rest sent) (λ h. absurd (h refl))
-
-    -- the frames of a round are in their turn
-    turns : All (InTurn (figureGraph n some) (t .rounds)) (roundOf (c .tag - 1) f)
-    turns =
-        rounds-have (w .underWay)
-        (subst (All (InTurn (figureGraph n some) (t .rounds))) (sym (b .rounds .frames)) (claim-holds (forecastSetting n some last setups)
-        (model-laws n some last setups b) (b .beside .reached) .in-turn))
-        c
-        under
 
     heard-is : from (g .settings .n) (g .settings .own) ≡ figureGraph n some .from i
     heard-is = ap (λ (x : ℕ). from x (g .settings .own)) (count-is (b .stands i inside)) ∙ ap (from n) (own-is (b .stands i inside)) ∙ sym (hears-is n some i inside)

@@ -6,9 +6,13 @@ use Rattle.gateway.specs.Calls.{taken, started, committed}
 use Rattle.run.specs.World.{World, Call, works, takes, starts, commits, setsUp, openingWorld, afterCall, afterCalls}
 use Rattle.run.specs.Further.{OnlyForRoom, SameRecords, DoesNothing, NothingChanged}
 use Rattle.run.specs.WhatWaits.{LedgersHold}
+use Rattle.run.specs.RoundsEnd.{EndedAreClosed, AllTakenIsCompleted}
+use Rattle.run.proofs.FigureGraph.{figureGraph}
 use Rattle.run.proofs.Ledgers.{follows-same}
+use Rattle.run.proofs.RoundCounters.{ended-closed}
 use Rattle.run.proofs.RefusedCalls.{refused-frame, refused-start, refused-commit, refused-set-up, idle-work}
 use Rattle.run.proofs.FramesInTurn.{taken-or-room}
+use Rattle.run.proofs.UpdatesUnderWay.{none-is-completed, completed-has-none}
 use Rattle.run.proofs.Theorem.{claimed, reached-both}
 
 -- the records of two runs that are whole
@@ -42,3 +46,17 @@ pub ledgers-hold : LedgersHold
 ledgers-hold n last setups lent forecast calls h i l =
     let w = afterCalls n (openingWorld setups lent) calls in
     follows-same n last setups (decode (w .memories i) .queue) (w .ledgers i) (reached-both n last setups lent forecast calls h .both .beside .ledgers i l)
+
+-- the rounds that are closed
+pub ended-are-closed : EndedAreClosed
+ended-are-closed n last setups lent forecast calls h =
+    let k = reached-both n last setups lent forecast calls h in
+    ended-closed (figureGraph n (forecast .some)) (afterCalls n (openingWorld setups lent) calls .rounds) (k .world .rounds) (k .both .rounds .counted)
+
+-- and those of them that are completed
+pub all-taken-is-completed : AllTakenIsCompleted
+all-taken-is-completed n last setups lent forecast calls h t closed =
+    let b = reached-both n last setups lent forecast calls h .both in (
+      none-is-completed n (forecast .some) last setups b t closed,
+      completed-has-none n (forecast .some) last setups b t closed,
+    )

@@ -58,6 +58,7 @@ pub mod EventTakingsOnBytes
 pub mod TakingsKept
 pub mod RefusedCalls
 pub mod FramesInTurn
+pub mod UpdatesUnderWay
 pub mod KeptRelation
 pub mod Further
 pub mod Example

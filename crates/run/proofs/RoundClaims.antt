@@ -1,9 +1,10 @@
 -- What demand 3 claims of the rounds: gateway 0's phase says whether one is open; a completed one took two messages an arc and N − 1 more, below 4N.
-use mathlib.Core.Path.{_≡_, refl, _∙_, ap, subst}
+use mathlib.Core.Path.{_≡_, refl, sym, _∙_, ap, subst}
 use Prim.Native.Nat.{ℕ, suc, _+_, _*_, _-_, _≤_, _<_}
 use mathlib.Core.Bool.{true, not}
 use mathlib.Core.List.{List}
 use native.Mathlib.Omega.{arith}
+use borrow.Author.Tests.{leb-true}
 use Rattle.routing.specs.Arcs.{arcCount}
 use Rattle.memory.specs.Records.{Gateway}
 use Rattle.gateway.specs.Rounds.{isIdle}
@@ -16,7 +17,7 @@ use Rattle.round_steps.proofs.RoundInvariants.{round-count}
 use Rattle.run.specs.World
 use Rattle.run.specs.Demand3.{Completed}
 use Rattle.run.proofs.FigureGraph.{figureGraph, arcLaws, same-round-messages}
-use Rattle.run.proofs.RoundCounters.{Counted}
+use Rattle.run.proofs.RoundCounters.{Counted, closed-number}
 use Rattle.run.proofs.RoundChains.{setting}
 use Rattle.run.proofs.Standing.{StandingAt, is-idle, is-finished, is-counting, is-stopped}
 use Rattle.run.proofs.RoundWorlds.{Alike}
@@ -38,13 +39,15 @@ module _ (n : ℕ) (some : 1 ≤ n) (M : Model) (equal : n - 1 ≡ M .last)
   -- a round that the run counts as completed is so in the theory
   completed : (t : ℕ) → Completed n c t → (1 ≤ t) × RoundSteps.Completed (figureGraph n some) (w .rounds) (t - 1)
   completed t d =
-      let (one, most) = h .closed t (d .isClosed) in
+      let (one, most) = closed-number (figureGraph n some) c (w .rounds) h t (d .isClosed) in
       let number : t ≡ suc (t - 1) = omega arith in (
         one,
         record {
           is-closed = omega arith;
           all-accepted =
-              λ j p l. h .accepted (t - 1) j (subst (λ (u : ℕ). c .accepted u j ≡ true) number (d .allAccepted j p (omega arith)));
+              λ j p l.
+              let accepted : c .accepted (suc (t - 1)) j ≡ true = subst (λ (u : ℕ). c .accepted u j ≡ true) number (d .allAccepted j p (omega arith)) in
+              leb-true 1 (w .rounds .accepted (t - 1) j) (sym (h .accepted (t - 1) j p) ∙ accepted);
         },
       )
 

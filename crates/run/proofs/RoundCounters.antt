@@ -1,19 +1,22 @@
 -- The rounds as the run counts them, and as the theory does: kept by each step of a round.
 use mathlib.Core.Path.{_≡_, refl, sym, _∙_, ap}
 use mathlib.Core.Logic.{_≢_}
-use mathlib.Core.Bool.{Bool, true, false, false≢true}
+use mathlib.Core.Bool.{Bool, true, false, cond, _&&_, false≢true}
 use mathlib.Core.List.{List}
-use Prim.Native.Nat.{ℕ, suc, _+_, _≤_, _<_}
+use Prim.Native.Nat.{ℕ, suc, _+_, _-_, _≤_, _<_}
 use native.Mathlib.Omega.{arith}
-use lib.Dec.{eqb, ltb}
+use lib.Dec.{eqb, ltb, leb}
 use lib.ListN.{length}
+use borrow.Author.Tests.{leb-true, leb-false, le-leb, lt-leb}
 use Rattle.routing.specs.Arcs.{children}
 use Rattle.lists.specs.Families.{change, put}
-use Rattle.lists.proofs.FamilyLaws.{Changed, at, off, change?, change-at, change-off, Put, put?}
+use Rattle.lists.proofs.BoolLaws.{and-left, and-right, and-both}
+use Rattle.lists.proofs.FamilyLaws.{Changed, at, off, change?, change-at, change-off, Put, put?, put-off}
 use Rattle.round_steps.specs.Arcs.{Graph, Arc}
 use Rattle.round_steps.specs.RoundSteps.{idle, counting, stopped, finished, RoundFrame, raise, lower, begin, hear, stop, takeLvt, finish, close, takeUpdate}
 use Rattle.round_steps.specs.RoundSteps
 use Rattle.run.specs.World.{Rounds, tookMore, opens, closes, acceptsUpdate}
+use Rattle.run.specs.RoundsEnd.{ended}
 use Rattle.run.proofs.ArrivalBits.{oneIf, howMany, alike, none-in}
 use Rattle.run.proofs.Standing.{lvtIn, lvts-after-start, lvts-elsewhere, lvts-here}
 
@@ -32,6 +35,14 @@ more-taken f g t c e k = go (change? t (g t + c) g k)
     go (off n d) =
         omega (arith, change-off (suc t) (f (suc t) + c) f (suc k) (omega arith), e k)
 
+-- a number is within the next one just where it is within this one, or is the next
+one-further : (t k : ℕ) → (suc k ≡ t → ⊥) → leb t k ≡ leb t (suc k)
+one-further t k n = go (leb t k) refl
+  where
+    go : (b : Bool) → leb t k ≡ b → leb t k ≡ leb t (suc k)
+    go true e = e ∙ sym (le-leb t (suc k) (omega (arith, leb-true t k e)))
+    go false e = e ∙ sym (lt-leb t (suc k) (omega (arith, leb-false t k e)))
+
 -- gateway 0 has accepted one more Lvt
 abbrev pub oneMore : Rounds → Rounds
 oneMore c = record { opened = c .opened; open? = c .open?; lvts = suc (c .lvts); took = c .took; closed = c .closed; accepted = c .accepted }
@@ -42,8 +53,8 @@ pub record Counted (G : Graph) (c : Rounds) (r : RoundSteps.Rounds) : Type 0 whe
   pub is-open : c .open? ≡ isOpen (r .status 0)
   pub lvts : c .open? ≡ true → c .lvts ≡ howMany (lvtIn G (r .arrived) 0) (G .to 0)
   pub took : (t : ℕ) → c .took (suc t) ≡ r .written t
-  pub closed : (t : ℕ) → c .closed t ≡ true → (1 ≤ t) × (t ≤ r .tag)
-  pub accepted : (t j : ℕ) → c .accepted (suc t) j ≡ true → 1 ≤ r .accepted t j
+  pub closed : (t : ℕ) → c .closed t ≡ (leb 1 t && leb t (r .tag))
+  pub accepted : (t j : ℕ) → 0 < j → c .accepted (suc t) j ≡ leb 1 (r .accepted t j)
 
 module _ (G : Graph) (c : Rounds) (r : RoundSteps.Rounds) (h : Counted G c r) where
   open RoundSteps.Rounds r using (status, arrived, tag, written)
@@ -51,6 +62,20 @@ module _ (G : Graph) (c : Rounds) (r : RoundSteps.Rounds) (h : Counted G c r) wh
   -- the open round's number
   pub open-number : c .open? ≡ true → c .opened ≡ suc tag
   open-number o = omega (arith, h .opened, ap oneIf o)
+
+  -- as many rounds have ended as the theory has closed
+  pub ended-closed : (t : ℕ) → c .closed t ≡ (leb 1 t && leb t (ended c))
+  ended-closed t = h .closed t ∙ ap (λ k. leb 1 t && leb t k) (sym (go (c .open?) refl))
+    where
+      go : (b : Bool) → c .open? ≡ b → cond b (c .opened - 1) (c .opened) ≡ tag
+      go true o = omega (arith, open-number o)
+      go false o = omega (arith, h .opened, ap oneIf o)
+
+  -- a closed round's number
+  pub closed-number : (t : ℕ) → c .closed t ≡ true → (1 ≤ t) × (t ≤ tag)
+  closed-number t e =
+      let both = sym (h .closed t) ∙ e in
+      (leb-true 1 t (and-left (leb 1 t) (leb t tag) both), leb-true t tag (and-right (leb 1 t) (leb t tag) both))
 
   -- messages that the open round took more
   more-in-open : (m : ℕ) → c .open? ≡ true → (t : ℕ) → tookMore (c .opened) m c .took (suc t) ≡ raise tag m written t
@@ -168,22 +193,21 @@ module _ (G : Graph) (c : Rounds) (r : RoundSteps.Rounds) (h : Counted G c r) wh
         is-open = refl;
         lvts = λ e. absurd (false≢true e);
         took = more-in-open (length (children (suc (G .last)) 0)) o;
-        closed = λ t e. is-closed t (change? (c .opened) true (c .closed) t) e;
-        accepted = λ t j e. still t j (h .accepted t j e) (put? tag 0 1 (r .accepted) t j);
+        closed = λ t. is-closed t (change? (c .opened) true (c .closed) t);
+        accepted =
+            λ t j p. h .accepted t j p ∙ ap (leb 1) (sym (put-off tag 0 1 (r .accepted) t j (λ e. omega arith)));
       }
     where
-      is-closed : (t : ℕ) → Changed (c .opened) true (c .closed) t → change (c .opened) true (c .closed) t ≡ true → (1 ≤ t) × (t ≤ suc tag)
-      is-closed t (at p e) d = omega (arith, open-number o)
-      is-closed t (off p e) d = omega (arith, h .closed t (sym e ∙ d))
-
-      still : (t j : ℕ) → 1 ≤ r .accepted t j → Put tag 0 1 (r .accepted) t j → 1 ≤ put tag 0 1 (r .accepted) t j
-      still t j a (at p q e) = omega arith
-      still t j a (off p e) = omega arith
+      is-closed : (t : ℕ) → Changed (c .opened) true (c .closed) t → change (c .opened) true (c .closed) t ≡ (leb 1 t && leb t (suc tag))
+      is-closed t (at p e) =
+          let number = open-number o in
+          e ∙ sym (and-both (leb 1 t) (leb t (suc tag)) (le-leb 1 t (omega arith)) (le-leb t (suc tag) (omega arith)))
+      is-closed t (off p e) = e ∙ h .closed t ∙ ap (λ b. leb 1 t && b) (one-further t tag (λ d. p (open-number o ∙ d)))
 
   -- gateway j takes the Update of round t
   pub update-counted : (j t v : ℕ) (rest : List RoundFrame)
       → Counted G (acceptsUpdate (suc t) j (tookMore (suc t) (length (children (suc (G .last)) j)) c)) (takeUpdate G j t v rest r)
-  unfolding takeUpdate
+  unfolding takeUpdate put
   update-counted j t v rest =
       record {
         opened = h .opened;
@@ -191,25 +215,15 @@ module _ (G : Graph) (c : Rounds) (r : RoundSteps.Rounds) (h : Counted G c r) wh
         lvts = h .lvts;
         took = more-taken (c .took) written t (length (children (suc (G .last)) j)) (h .took);
         closed = h .closed;
-        accepted = λ u k e. is-accepted u k (put? t j (suc (r .accepted t j)) (r .accepted) u k) e;
+        accepted = λ u k p. is-accepted u k p (put? t j (suc (r .accepted t j)) (r .accepted) u k) (put? (suc t) j true (c .accepted) (suc u) k);
       }
     where
-      was : (u k : ℕ) → (t ≡ u → j ≢ k) → change (suc t) (change j true (c .accepted (suc t))) (c .accepted) (suc u) k ≡ c .accepted (suc u) k
-      was u k n = go (change? (suc t) (change j true (c .accepted (suc t))) (c .accepted) (suc u))
-        where
-          go : Changed (suc t) (change j true (c .accepted (suc t))) (c .accepted) (suc u)
-              → change (suc t) (change j true (c .accepted (suc t))) (c .accepted) (suc u) k ≡ c .accepted (suc u) k
-          go (at p e) =
-              ap (λ f. f k) e
-              ∙ change-off j true (c .accepted (suc t)) k (n (omega arith))
-              ∙ ap (λ x. c .accepted x k) p
-          go (off p e) = ap (λ f. f k) e
-
-      is-accepted : (u k : ℕ) → Put t j (suc (r .accepted t j)) (r .accepted) u k
-          → change (suc t) (change j true (c .accepted (suc t))) (c .accepted) (suc u) k ≡ true
-          → 1 ≤ put t j (suc (r .accepted t j)) (r .accepted) u k
-      is-accepted u k (at p q e) d = omega arith
-      is-accepted u k (off n e) d = omega (arith, h .accepted u k (sym (was u k n) ∙ d))
+      is-accepted : (u k : ℕ) → 0 < k → Put t j (suc (r .accepted t j)) (r .accepted) u k → Put (suc t) j true (c .accepted) (suc u) k
+          → put (suc t) j true (c .accepted) (suc u) k ≡ leb 1 (put t j (suc (r .accepted t j)) (r .accepted) u k)
+      is-accepted u k p (at a b e) (at x y d) = d ∙ sym (le-leb 1 (put t j (suc (r .accepted t j)) (r .accepted) u k) (omega arith))
+      is-accepted u k p (at a b e) (off x d) = absurd (x (omega arith) b)
+      is-accepted u k p (off a e) (at x y d) = absurd (a (omega arith) y)
+      is-accepted u k p (off a e) (off x d) = d ∙ h .accepted u k p ∙ ap (leb 1) (sym e)
 
   -- a gateway sends a message or cancel
   pub lower-counted : (i t : ℕ) → Counted G c (lower i t r)

@@ -1,9 +1,11 @@
 -- N gateways just set up are where the theory begins: no round is open, and no frame of one is under way.
 use mathlib.Core.Path.{_≡_, refl, sym, _∙_, ap}
-use mathlib.Core.Bool.{false, false≢true}
+use mathlib.Core.Bool.{false, _&&_, false≢true}
 use mathlib.Core.List.{[]}
-use Prim.Native.Nat.{ℕ, _-_, _≤_}
+use Prim.Native.Nat.{ℕ, zero, suc, _-_, _≤_}
 use native.Mathlib.Omega.{arith}
+use lib.Dec.{leb}
+use borrow.Author.Tests.{le-leb, lt-leb}
 use Rattle.memory.specs.Records.{Gateway}
 use Rattle.memory.specs.declared.Round.{Round}
 use Rattle.gateway.specs.Rounds.{idle}
@@ -33,12 +35,16 @@ module _ (n : ℕ) (some : 1 ≤ n) (M : Model) (equal : n - 1 ≡ M .last) wher
               is-open = refl;
               lvts = λ o. absurd (false≢true o);
               took = λ t. refl;
-              closed = λ t e. absurd (false≢true e);
-              accepted = λ t j e. absurd (false≢true e);
+              closed = λ t. sym (none-closed t);
+              accepted = λ t j p. refl;
             };
         unfinished = λ f. omega arith;
         frames = refl;
       }
     where
+      none-closed : (t : ℕ) → (leb 1 t && leb t 0) ≡ false
+      none-closed zero = refl
+      none-closed (suc t) = rw (le-leb 1 (suc t) (omega arith), lt-leb (suc t) 0 (omega arith))
+
       no-starts : (i : ℕ) → startBits (figureGraph n some) (λ a b. 0) i ≡ 0
       no-starts i = none-in (startIn (figureGraph n some) (λ a b. 0) i) (figureGraph n some .from i) (λ x c. refl) .0

@@ -6,6 +6,7 @@ pub mod World
 pub mod Demand3
 pub mod Further
 pub mod WhatWaits
+pub mod RoundsEnd
 pub mod ExampleRun
 pub mod OrderExamples
 pub mod HoursExamples
