@@ -1,4 +1,11 @@
--- Demand 3: one claim about every list of calls and every order and delay of the carrier.
+-- Demand 3: one claim about every list of calls and every order and delay of the carrier. Its words:
+-- "Take N gateways, N from 1 to 255, each number below N set up once, first, with that N and one last hour. For every list of these calls on
+-- them (work, take a frame, start a round, commit; refused ones included), after it every gateway's committed record is a beginning of the
+-- one that a single queue of all events in order gives it, and the whole where its agreed time is "nothing due" and it has nothing to
+-- commit; no gateway's agreed time ever fell, and none is past the hour of an event message or cancel waiting at any gateway or under way;
+-- each completed round took exactly two messages an arc and N − 1 more, under 4N. Each call gets the memory that its gateway's last call
+-- left, and nobody else writes it meanwhile. This holds whatever order and delay the carrier chooses, if it brings only frames that a
+-- gateway wrote for it, each unaltered to its addressee, accepted once at most."
 use mathlib.Core.Path.{_≡_}
 use Prim.Native.Nat.{ℕ, _+_, _*_, _-_, _≤_, _<_}
 use mathlib.Core.Bool.{true, not}
