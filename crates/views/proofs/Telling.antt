@@ -1,12 +1,12 @@
 -- The bytes of a view tell its fields: a map tells which fields stand, and then each its value.
 use mathlib.Core.Path.{_≡_, refl, sym, _∙_, ap, ap₂}
 use mathlib.Core.Bool.{Bool, true, false}
-use mathlib.Core.List.{List, [], _∷_, _++_, append-assoc}
+use mathlib.Core.List.{List, [], _∷_, _++_, append-assoc, map}
 use Prim.Native.Nat.{ℕ, _<_, _^_}
 use native.Mathlib.Omega.{arith}
 use lib.ListN.{length, take, drop, getD}
 use lib.Seq.{take-at, drop-at}
-use Rattle.lists.specs.Lists.{joined}
+use Rattle.lists.specs.Lists.{All, nil, cons, joined}
 use Rattle.buffer.specs.Number.{bytesOf}
 use Rattle.buffer.proofs.Numbers.{number-of-bytes, length-bytesOf}
 use Rattle.model.specs.Messages.{kindNumber, originOf, quantityOf}
@@ -55,10 +55,12 @@ places-told : {ps qs : List Place} → Pairs ps qs → viewMap ps ≡ viewMap qs
 unfolding viewMap placeBytes joined
 places-told none m xs ys e = (refl, e)
 places-told (next {ps = ps} {qs = qs} (both f g a) r) m xs ys e =
-    let e' : fieldBytes f ++ (joined placeBytes ps ++ xs) ≡ fieldBytes g ++ (joined placeBytes qs ++ ys) =
+    let here : List ℕ = joined placeBytes ps ++ xs in
+    let there : List ℕ = joined placeBytes qs ++ ys in
+    let apart : fieldBytes f ++ here ≡ fieldBytes g ++ there =
     sym (append-assoc (fieldBytes f) (joined placeBytes ps) xs) ∙ e ∙ append-assoc (fieldBytes g) (joined placeBytes qs) ys in
-    let field = a .same (fronts (fieldBytes f) (fieldBytes g) (a .long) (joined placeBytes ps ++ xs) (joined placeBytes qs ++ ys) e') in
-    let (places, behind) = places-told r (omega (arith, m)) xs ys (rests (fieldBytes f) (fieldBytes g) (a .long) (joined placeBytes ps ++ xs) (joined placeBytes qs ++ ys) e') in
+    let field = a .same (fronts (fieldBytes f) (fieldBytes g) (a .long) here there apart) in
+    let (places, behind) = places-told r (omega (arith, m)) xs ys (rests (fieldBytes f) (fieldBytes g) (a .long) here there apart) in
     (ap₂ (λ (h : Field) (l : List Place). holds h ∷ l) field places, behind)
 places-told (next (first f) r) m xs ys e = absurd (omega (arith, m))
 places-told (next (second g) r) m xs ys e = absurd (omega (arith, m))
@@ -138,3 +140,14 @@ module _ {d e : Event} (c : RangedEvent d) (r : RangedEvent e) where
 
   pub event-told : (reader : Reader) (xs ys : List ℕ) → eventView reader d ++ xs ≡ eventView reader e ++ ys → (seen reader d ≡ seen reader e) × (xs ≡ ys)
   event-told reader xs ys p = view-told (seen-pairs reader) xs ys p
+
+-- and so are those of events one behind the other
+pub events-told : (reader : Reader) {ds es : List Event} → All RangedEvent ds → All RangedEvent es
+    → joined (eventView reader) ds ≡ joined (eventView reader) es → map (seen reader) ds ≡ map (seen reader) es
+unfolding joined placesBytes
+events-told reader nil nil p = refl
+events-told reader nil (cons h hs) p = cc
+events-told reader (cons g gs) nil p = cc
+events-told reader (cons {l = ds} g gs) (cons {l = es} h hs) p =
+    let (same, rest) = event-told g h reader (joined (eventView reader) ds) (joined (eventView reader) es) p in
+    ap₂ _∷_ same (events-told reader gs hs rest)

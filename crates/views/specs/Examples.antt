@@ -13,7 +13,7 @@ use Rattle.views.specs.Fields as Fields
 use Rattle.views.specs.Fields.{holds, lacks}
 use Rattle.views.specs.Bytes.{view}
 use Rattle.views.specs.Viewing.{ViewResult, refusedView, viewed}
-use Rattle.views.specs.Secrecy.{fieldsSeen}
+use Rattle.views.specs.Secrecy.{fieldsSeen, Agree}
 use Rattle.views.specs.declared.Reader.the-variants.{Purchasing, Maintenance}
 
 -- the lamp of eighteen zeros
@@ -45,7 +45,7 @@ failure = event (failureFrame 10 lamp)
 abbrev restock : List ℕ
 restock = restockFrame 258 300 ++ state 301 2 3 4
 
-abbrev both : List ℕ
+abbrev pub both : List ℕ
 both = failure ++ restock
 
 -- the same events with the old stock, and the record of both
@@ -55,7 +55,7 @@ oldFailure = failureFrame 10 lamp ++ oldState 1 2 3 4
 abbrev oldRestock : List ℕ
 oldRestock = restockFrame 258 300 ++ oldState 301 2 3 4
 
-abbrev oldBoth : List ℕ
+abbrev pub oldBoth : List ℕ
 oldBoth = oldFailure ++ oldRestock
 
 -- the Failure with another stock and short after it; two Requests that differ in from, to, origin and lamp
@@ -166,6 +166,11 @@ pub record ViewExamples : Type 0 where
   -- a record with the old stock gives both readers the bytes of the record with the same values and the present stock
   pub oldAlike : (viewed 0 1 oldBoth (room 46) ≡ wrote 46 (failureForPurchasing ++ restockForPurchasing))
       × (viewed 1 1 oldBoth (room 31) ≡ wrote 31 (failureForMaintenance ++ restockForMaintenance))
+  -- the two records agree in what each reader sees, though one has the old stock
+  pub oldAgrees : (Agree Purchasing Present both Old oldBoth) × (Agree Maintenance Present both Old oldBoth)
+  -- so that by the law their views are equal, and the two calls leave the same, whatever the output was
+  pub oldEqual : (view Purchasing Present both ≡ view Purchasing Old oldBoth) × (view Maintenance Present both ≡ view Maintenance Old oldBoth)
+      × ((out : List ℕ) → viewed 0 0 both out ≡ viewed 0 1 oldBoth out) × ((out : List ℕ) → viewed 1 0 both out ≡ viewed 1 1 oldBoth out)
   -- an old state of thirteen bytes is cut, 11, one of fourteen is whole; a present one has sixteen
   pub cutStates : (recordRefusal Old (failureFrame 10 lamp ++ take 13 (oldState 1 2 3 4)) ≡ 11) × (recordRefusal Old oldFailure ≡ 0)
       × (refusal (failureFrame 10 lamp ++ take 15 (state 1 2 3 4)) ≡ 11) × (refusal failure ≡ 0)
