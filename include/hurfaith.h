@@ -172,7 +172,8 @@ enum {
  * The record is read event by event: a frame, cut by the length that its map gives, and the sixteen or fourteen bytes of the state
  * after it. Answers 0; or 8, looked for first; or 1, 11, 12, 2, 3 or the 11 of a cut state, of the first event that is refused; or 5,
  * looked for where the whole record is good. An empty record gives an empty view. An output as long as the record is enough. `record`
- * is only read. Two records that are taken and agree in the fields of a reader, event by event, give that reader equal bytes. */
+ * is only read. Two records that are taken and agree in the fields of a reader, event by event, give that reader equal bytes, also where
+ * one has the old stock and the other the new. */
 uint64_t hurfaith_view(const uint8_t *record, size_t record_len, uint8_t *out, size_t out_len, uint32_t reader, uint32_t old_stock);
 
 /* What came to a gateway's shelf and what left it, in `record`, a whole record as its commits wrote it, with the stock of four bytes; or
