@@ -11,8 +11,8 @@ use borrow.Author.Tests.{leb-true, ltb-true, eqb-true, eq-eqb, ne-eqb}
 use Rattle.lists.proofs.BoolLaws.{and-left}
 use Rattle.model.specs.Messages.{kindNumber, kindOf}
 use Rattle.frame.specs.Layout.{odd, wholeLength}
-use Rattle.frame.specs.Writing.{lampFits, gatewaysAgree}
-use Rattle.frame.specs.Reasons.{fieldsOf, frameOf, mapFits, senseFits, unless, fieldsForm, formOf, isGood, formNumber, formRefusal, readAs, reading}
+use Rattle.frame.specs.Writing.{lampFits, gatewaysAgree, unless}
+use Rattle.frame.specs.Reasons.{fieldsOf, frameOf, mapFits, senseFits, fieldsForm, formOf, isGood, formNumber, formRefusal, readAs, reading}
 use Rattle.buffer.proofs.Readings.{read-one}
 use Rattle.frame.specs.Lamps.{lampForm, carriesLamp, lampRefusal}
 use Rattle.frame.proofs.Presence.{lamp-kinds}

@@ -19,11 +19,12 @@ use Rattle.model.specs.Messages.{kindNumber, originOf, quantityOf}
 use Rattle.model.specs.declared.Message.{Message}
 use Rattle.frame.specs.Layout.{widths, odd, standing, wholeLength}
 use Rattle.frame.specs.Kinds.{mapOf, mapOfKind, senseNumber}
-use Rattle.frame.specs.Writing.{contents, written, wellFormed, outcomeOf, writing}
+use Rattle.frame.specs.Writing.{contents, written, valueRefusal, outcomeOf, writing}
 use Rattle.frame.specs.inside.Steps.{headBytes, fieldBytes, bodyBytes}
 use Rattle.frame.proofs.Presence.{HasHead, head-stands}
+use Rattle.frame.proofs.Values.{refused-with-1}
 use Rattle.frame.specs.declared.Frame.{Frame}
-use Rattle.frame.specs.declared.WriteAnswer.the-variants.{Written, NoFrame, NoRoom}
+use Rattle.frame.specs.declared.WriteAnswer.the-variants.{Written, NoFrame, WrongLamp, NoRoom}
 
 pub puts-as : {at behind : ℕ} {xs ys m after : List ℕ} → Puts at xs m after behind → xs ≡ ys → Puts at ys m after behind
 puts-as p e = record { position = p .position ∙ rw e; output = p .output ∙ rw e }
@@ -263,18 +264,24 @@ unfolding written wholeLength
 whole-size f e = ap (λ (n : ℕ). suc n) (joined-size (mapOf f) (contents f) ∙ ap (λ (l : List ℕ). tally (λ n. n) (standing (mapOf f) l))
     (contents-sizes f e)) ∙ omega arith
 
-module _ (f : Frame) (m : List ℕ) {ok : Bool} (e : ok ≡ wellFormed f) where
-  pub no-frame : not ok ≡ true → outcomeOf NoFrame m ≡ writing f m
+-- a frame written, by what its value is refused with
+module _ (f : Frame) (m : List ℕ) {refusal : ℕ} (e : refusal ≡ valueRefusal f) where
+  pub wrong-lamp : refusal ≡ 12 → outcomeOf WrongLamp m ≡ writing f m
   unfolding writing
-  no-frame h = rw (sym e ∙ not-true ok h)
+  wrong-lamp h = rw (sym e ∙ h)
 
-  module _ (h : not ok ≡ false) (lamp : length (f .message .lamp) ≡ 18) {map size : ℕ} (g : map ≡ mapOf f) (s : size ≡ wholeLength map) where
+  module _ (l : refusal ≡ 12 → ⊥) where
+    pub no-frame : (refusal ≡ 0 → ⊥) → outcomeOf NoFrame m ≡ writing f m
+    unfolding writing
+    no-frame h = rw (refused-with-1 f (λ z. h (e ∙ z)) (λ z. l (e ∙ z)))
+
+  module _ (h : refusal ≡ 0) (lamp : length (f .message .lamp) ≡ 18) {map size : ℕ} (g : map ≡ mapOf f) (s : size ≡ wholeLength map) where
     size-is : size ≡ length (written f)
     size-is = s ∙ rw g (sym (whole-size f lamp))
 
     pub no-room : length m < size → outcomeOf NoRoom m ≡ writing f m
     unfolding writing
-    no-room l = rw (sym e ∙ not-false ok h, lt-leb (length (written f)) (length m) (rw (← size-is) l))
+    no-room l = rw (sym e ∙ h, lt-leb (length (written f)) (length m) (rw (← size-is) l))
 
     pub room-enough : size ≤ length m → 0 + length (written f) ≤ length m
     room-enough l = rw (← size-is) (omega arith)
@@ -282,4 +289,4 @@ module _ (f : Frame) (m : List ℕ) {ok : Bool} (e : ok ≡ wellFormed f) where
     pub all-written : {after : List ℕ} {count : ℕ} → size ≤ length m → Puts 0 (written f) m after count
         → outcomeOf (Written count) after ≡ writing f m
     unfolding writing
-    all-written l p = rw (sym e ∙ not-false ok h, le-leb (length (written f)) (length m) (rw (← size-is) l), p .position, p .output, zero-add)
+    all-written l p = rw (sym e ∙ h, le-leb (length (written f)) (length m) (rw (← size-is) l), p .position, p .output, zero-add)

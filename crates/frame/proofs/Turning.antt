@@ -1,5 +1,5 @@
 -- Laws of the checks of a frame's numbers and hour, and of a value's form, a law for each branch of the code.
-use mathlib.Core.Path.{_≡_, sym, _∙_}
+use mathlib.Core.Path.{_≡_, refl, sym, _∙_}
 use Prim.Native.Nat.{ℕ, _/_, _<_, _≤_}
 use native.Mathlib.Omega.{arith}
 use mathlib.Core.Bool.{Bool, true, false, cond, not, _&&_, _||_}
@@ -9,7 +9,7 @@ use Rattle.model.specs.Messages.{kindNumber, originOf}
 use Rattle.model.specs.declared.Message.{Message}
 use Rattle.frame.specs.Layout.{odd}
 use Rattle.frame.specs.Kinds.{mapOfKind, hasHour, hasLamp, senseNumber}
-use Rattle.frame.specs.Writing.{allBetween, senseAllowed, hourFits, lampFits, gatewaysAgree, wellFormed}
+use Rattle.frame.specs.Writing.{allBetween, senseAllowed, hourFits, lampFits, gatewaysAgree, lampAllowed, valueRefusal}
 use Rattle.frame.specs.Limits.{numbersBelow, addressee, hourAllowed, refusal, refusalWhere}
 use Rattle.frame.specs.declared.Frame.{Frame}
 
@@ -70,7 +70,7 @@ pub checked-here : (f : Frame) (n own last : ℕ) {to number : ℕ} → to ≡ a
 unfolding refusal
 checked-here f n own last a e = e ∙ rw a
 
--- whether a value is one of the forms, by its kind's map
+-- what a value is refused with, by its kind's map
 module _ (f : Frame) {kind map sense : ℕ} {header : Bool} (k : kind ≡ kindNumber (f .message .kind)) (m : map ≡ mapOfKind kind)
     (s : sense ≡ senseNumber (f .sense))
     (e : header ≡ ((odd (map / 32) || eqb sense 0) && cond (odd (map / 8)) true (eqb (f .message .hour) 0)))
@@ -83,21 +83,43 @@ module _ (f : Frame) {kind map sense : ℕ} {header : Bool} (k : kind ≡ kindNu
     unfolding hasLamp hasHour
     header-test = e ∙ rw (map-is, s)
 
-    pub ill-header : not header ≡ true → false ≡ wellFormed f
-    unfolding wellFormed
+    pub ill-header : not header ≡ true → 1 ≡ valueRefusal f
+    unfolding valueRefusal
     ill-header h = rw (sym header-test ∙ not-true header h)
 
     module _ (h : not header ≡ false) {there lamp : Bool} (t : there ≡ odd (map / 32))
         (l : lamp ≡ cond there (allBetween 33 126 (f .message .lamp)) (allBetween 0 0 (f .message .lamp)))
       where
+        there-test : hasLamp (kindNumber (f .message .kind)) ≡ there
+        unfolding hasLamp
+        there-test = rw (← map-is) (sym t)
+
         lamp-test : lamp ≡ lampFits (f .message)
         unfolding lampFits
-        lamp-test = l ∙ rw (t, map-is)
+        lamp-test = l ∙ rw there-test
 
-        pub ill-lamp : not lamp ≡ true → false ≡ wellFormed f
-        unfolding wellFormed
-        ill-lamp a = rw (sym header-test ∙ not-false header h, sym lamp-test ∙ not-true lamp a)
+        pub other-lamp : not lamp ≡ true → there ≡ false → 1 ≡ valueRefusal f
+        unfolding valueRefusal
+        other-lamp a e =
+            let zeros : lamp ≡ allBetween 0 0 (f .message .lamp) = rw e at l in
+            rw (sym header-test ∙ not-false header h, there-test ∙ e, sym zeros ∙ not-true lamp a)
 
-        pub rest-formed : {agree : Bool} → not lamp ≡ false → agree ≡ gatewaysAgree (f .message .from) (f .message .to) (f .message .kind) → agree ≡ wellFormed f
-        unfolding wellFormed
-        rest-formed a g = g ∙ rw (sym header-test ∙ not-false header h, sym lamp-test ∙ not-false lamp a)
+        pub wrong-lamp : not lamp ≡ true → there ≡ true → 12 ≡ valueRefusal f
+        unfolding valueRefusal
+        wrong-lamp a e = rw (sym header-test ∙ not-false header h, sym lamp-test ∙ not-true lamp a, there-test ∙ e)
+
+        module _ (a : not lamp ≡ false) {agree : Bool} (g : agree ≡ gatewaysAgree (f .message .from) (f .message .to) (f .message .kind)) where
+          own-lamp : lampAllowed (kindNumber (f .message .kind)) (f .message .lamp) ≡ true
+          own-lamp = rw there-test (by there _ _ (sym l ∙ not-false lamp a))
+            where
+              by : (t some none : Bool) → cond t some none ≡ true → cond t true none ≡ true
+              by true some none e = refl
+              by false some none e = e
+
+          pub apart : not agree ≡ true → 1 ≡ valueRefusal f
+          unfolding valueRefusal
+          apart k = rw (sym header-test ∙ not-false header h, own-lamp, sym lamp-test ∙ not-false lamp a, sym g ∙ not-true agree k)
+
+          pub none-refused : not agree ≡ false → 0 ≡ valueRefusal f
+          unfolding valueRefusal
+          none-refused k = rw (sym header-test ∙ not-false header h, own-lamp, sym lamp-test ∙ not-false lamp a, sym g ∙ not-false agree k)

@@ -1,16 +1,17 @@
 -- What is proved of these definitions beside the contracts.
 use mathlib.Core.Path.{_≡_}
-use mathlib.Core.Bool.{true, cond}
+use mathlib.Core.Bool.{true, not, cond, _&&_}
 use mathlib.Core.List.{List, []}
 use Prim.Native.Nat.{ℕ, _<_, _^_}
 use lib.Count.{ones}
+use lib.Dec.{eqb}
 use lib.ListN.{length}
 use denote.Ref.{RefT, now}
 use Rattle.buffer.specs.Slice.{Bytes}
-use Rattle.model.specs.Messages.{originOf, quantityOf, kindOf}
+use Rattle.model.specs.Messages.{kindNumber, originOf, quantityOf, kindOf}
 use Rattle.frame.specs.Layout.{gatewayWidth, lampWidth, widths, standing}
-use Rattle.frame.specs.Kinds.{hasOrigin, hasQuantity}
-use Rattle.frame.specs.Writing.{wellFormed, written}
+use Rattle.frame.specs.Kinds.{hasOrigin, hasLamp, hasQuantity}
+use Rattle.frame.specs.Writing.{allBetween, wellFormed, valueRefusal, written}
 use Rattle.frame.specs.Reasons.{reading, readAs}
 use Rattle.frame.specs.Lamps.{IsLamp, lampRefusal}
 use Rattle.frame.specs.declared.Frame.{Frame}
@@ -36,6 +37,13 @@ pub record OneToOne : Type 0 where
   -- and that value is well formed
   pub readWellFormed : (s : List ℕ) → Bytes s → reading s .form ≡ Good → wellFormed (reading s .frame) ≡ true
   pub readRanged : (s : List ℕ) → Bytes s → reading s .form ≡ Good → RangedFrame (reading s .frame)
+
+-- what a value is refused with, and which values are frames
+pub record ValueNumbers : Type 0 where
+  -- nothing, exactly where it is well formed
+  pub formed : (f : Frame) → wellFormed f ≡ eqb (valueRefusal f) 0
+  -- 12, exactly where its kind has a lamp and a byte of the lamp is outside 33 to 126
+  pub lamp : (f : Frame) → eqb (valueRefusal f) 12 ≡ (hasLamp (kindNumber (f .message .kind)) && not (allBetween 33 126 (f .message .lamp)))
 
 -- the number of fields is the number of one bits in the map
 pub record FieldCount : Type 0 where

@@ -6,4 +6,5 @@ pub mod Reasons
 pub mod Lamps
 pub mod Limits
 pub mod Claims
+pub mod WritingExamples
 pub mod inside

@@ -9,7 +9,7 @@ use Rattle.model.specs.Messages.{kindOf}
 use Rattle.model.specs.declared.Kind.the-variants.{Start}
 use Rattle.frame.specs.Layout.{widths, lampWidth, wholeLength, cut}
 use Rattle.frame.specs.Kinds.{hasLamp, mapOfKind, senseBit, senseOf}
-use Rattle.frame.specs.Writing.{lampFits, gatewaysAgree}
+use Rattle.frame.specs.Writing.{lampFits, gatewaysAgree, unless}
 use Rattle.frame.specs.declared.Sense.the-variants.{Plain}
 use Rattle.frame.specs.declared.Frame.{Frame}
 use Rattle.frame.specs.declared.Form.{Form}
@@ -55,11 +55,6 @@ mapFits map kind = ltb kind 7 && (eqb map (mapOfKind kind) || (hasLamp kind && e
 -- the sense is 1 to 3 where bit 7 stands
 abbrev pub senseFits : ℕ → ℕ → Bool
 senseFits map sense = cond (leb senseBit map) (leb 1 sense && leb sense 3) true
-
--- a reason, unless the test passes: then what is found after it
-abbrev pub unless : Bool → Form → Form → Form
-unless true reason after = after
-unless false reason after = reason
 
 -- why fields are refused: the last three reasons, in this order, or Good
 unfoldable pub fieldsForm : ℕ → Fields → Form

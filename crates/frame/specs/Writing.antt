@@ -1,6 +1,6 @@
--- What a frame is written as, and which values are frames.
+-- What a frame is written as, which values are frames, and what writing a value answers.
 use Prim.Native.Nat.{ℕ}
-use mathlib.Core.Bool.{Bool, true, cond, _&&_, _||_}
+use mathlib.Core.Bool.{Bool, true, false, cond, _&&_, _||_}
 use mathlib.Core.List.{List, [], _∷_}
 use lib.Dec.{leb, eqb}
 use lib.ListN.{length}
@@ -15,7 +15,7 @@ use Rattle.frame.specs.Layout.{gatewayWidth, standing}
 use Rattle.frame.specs.Kinds.{hasHour, hasLamp, mapOf, senseNumber}
 use Rattle.frame.specs.declared.Frame.{Frame}
 use Rattle.frame.specs.declared.WriteAnswer.{WriteAnswer}
-use Rattle.frame.specs.declared.WriteAnswer.the-variants.{Written, NoFrame, NoRoom}
+use Rattle.frame.specs.declared.WriteAnswer.the-variants.{Written, NoFrame, WrongLamp, NoRoom}
 
 -- the bytes of every field, bit 0 first: kind, from, to, hour, origin, lamp, quantity, sense; numbers high byte first
 unfoldable pub contents : Frame → List (List ℕ)
@@ -63,6 +63,10 @@ senseAllowed kind sense = hasLamp kind || eqb sense 0
 abbrev pub hourFits : ℕ → ℕ → Bool
 hourFits kind hour = cond (hasHour kind) true (eqb hour 0)
 
+-- a lamp that the kind lacks is zero
+abbrev pub lampAllowed : ℕ → List ℕ → Bool
+lampAllowed kind lamp = cond (hasLamp kind) true (allBetween 0 0 lamp)
+
 -- whether a value is one of the forms above, given that its numbers fit their fields
 unfoldable pub wellFormed : Frame → Bool
 unfolding lampFits
@@ -72,16 +76,35 @@ wellFormed f =
     && lampFits (f .message)
     && gatewaysAgree (f .message .from) (f .message .to) (f .message .kind)
 
--- this paper's number of an answer: 1 no frame, 5 no room
+-- a reason, unless the test passes: then what is found after it
+abbrev pub unless : {A : Type 0} → Bool → A → A → A
+unless true reason after = after
+unless false reason after = reason
+
+-- what a value is refused with, or 0: 1 for a sense, an hour or a lamp that its kind lacks, which is a field outside its map; then 12 for a
+-- byte of its lamp outside 33 to 126; then 1 for gateways that disagree
+unfoldable pub valueRefusal : Frame → ℕ
+unfolding lampFits
+valueRefusal f =
+    let m = f .message in
+    let kind = kindNumber (m .kind) in
+    unless (senseAllowed kind (senseNumber (f .sense)) && hourFits kind (m .hour) && lampAllowed kind (m .lamp)) 1
+    (unless (lampFits m) 12
+    (unless (gatewaysAgree (m .from) (m .to) (m .kind)) 1
+    0))
+
+-- this paper's number of an answer: 1 no frame, 12 a wrong lamp, 5 no room
 abbrev pub answerNumber : WriteAnswer → ℕ
 answerNumber (Written count) = 0
 answerNumber NoFrame = 1
+answerNumber WrongLamp = 12
 answerNumber NoRoom = 5
 
 -- and its value: how many bytes were written
 abbrev pub answerCount : WriteAnswer → ℕ
 answerCount (Written count) = count
 answerCount NoFrame = 0
+answerCount WrongLamp = 0
 answerCount NoRoom = 0
 
 -- what writing a frame comes to: its number, the bytes written and the output afterwards
@@ -94,13 +117,15 @@ pub record WriteOutcome : Type 0 where
 abbrev pub outcomeOf : WriteAnswer → List ℕ → WriteOutcome
 outcomeOf answer output = record { number = answerNumber answer; count = answerCount answer; output = output }
 
--- a frame written at the start of an output: 1 for what is no frame, then 5 for too few bytes, and nothing is written; else the
+-- nothing is written
+abbrev pub notWritten : ℕ → List ℕ → WriteOutcome
+notWritten number m = record { number = number; count = 0; output = m }
+
+-- a frame written at the start of an output: what the value is refused with, then 5 for too few bytes, and nothing is written; else the
 -- bytes past it stay
 unfoldable pub writing : Frame → List ℕ → WriteOutcome
-unfolding wellFormed written
+unfolding valueRefusal written
 writing f m =
-    cond (wellFormed f)
-    (cond (leb (length (written f)) (length m))
-    (record { number = 0; count = length (written f); output = write 0 (written f) m })
-    (record { number = 5; count = 0; output = m }))
-    (record { number = 1; count = 0; output = m })
+    unless (eqb (valueRefusal f) 0) (notWritten (valueRefusal f) m)
+    (unless (leb (length (written f)) (length m)) (notWritten 5 m)
+    (record { number = 0; count = length (written f); output = write 0 (written f) m }))

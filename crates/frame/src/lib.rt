@@ -54,5 +54,6 @@ pub struct Reading {
 pub enum WriteAnswer {
     Written(usize),
     NoFrame,
+    WrongLamp,
     NoRoom,
 }

@@ -14,7 +14,7 @@ use Rattle.frame.specs.Layout.{wholeLength}
 use Rattle.frame.specs.Writing.{WriteOutcome, answerCount, outcomeOf, writing}
 use Rattle.frame.specs.declared.Frame.{Frame}
 use Rattle.frame.specs.declared.WriteAnswer.{WriteAnswer}
-use Rattle.frame.specs.declared.WriteAnswer.the-variants.{Written, NoFrame, NoRoom}
+use Rattle.frame.specs.declared.WriteAnswer.the-variants.{Written, NoFrame, WrongLamp, NoRoom}
 use Rattle.frame.proofs.Sizes.{whole-some}
 use Rattle.memory.specs.Layout.{headerSize, queueSize, queueAt}
 use Rattle.memory.specs.Validity.{frameIf}
@@ -58,6 +58,9 @@ module _ (m : Message) (output : List ℕ) {f : Frame} (a : WriteAnswer) {out : 
 
   pub plain-no-frame : a ≡ NoFrame → record { bytes = out; used = 0 } ≡ plainPut m output
   plain-no-frame n = put-as NoFrame n
+
+  pub plain-wrong-lamp : a ≡ WrongLamp → record { bytes = out; used = 0 } ≡ plainPut m output
+  plain-wrong-lamp n = put-as WrongLamp n
 
   pub plain-no-room : a ≡ NoRoom → record { bytes = out; used = 0 } ≡ plainPut m output
   plain-no-room n = put-as NoRoom n

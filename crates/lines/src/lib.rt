@@ -93,6 +93,7 @@ pub fn put_plain(output: &mut [u8], message: Message) -> usize
     match write(output, frame_if(false, message)) {
         WriteAnswer::Written(count) => count,
         WriteAnswer::NoFrame => 0,
+        WriteAnswer::WrongLamp => 0,
         WriteAnswer::NoRoom => 0,
     }
 }

@@ -1,59 +1,59 @@
 -- A frame written again: by what the writer answers, and that a frame that was read is written as it was.
 use mathlib.Core.Path.{_≡_, refl, sym, _∙_, ap, subst}
-use mathlib.Core.Bool.{Bool, true, false, not, cond}
+use mathlib.Core.Bool.{Bool, true, false, not}
 use mathlib.Core.List.{List}
 use Prim.Native.Nat.{ℕ, _≤_, _<_}
 use native.Mathlib.Omega.{arith}
-use lib.Dec.{leb}
+use lib.Dec.{leb, eqb}
 use lib.ListN.{length, length-take, take}
-use borrow.Author.Tests.{leb-true, leb-false, le-leb, lt-leb, not-false}
+use borrow.Author.Tests.{leb-true, leb-false, eqb-false, le-leb, lt-leb, not-false}
 use Rattle.buffer.specs.Slice.{Bytes, part, sameBytes, write}
 use Rattle.buffer.proofs.Equality.{bytes-same, same-bytes}
 use Rattle.buffer.proofs.Standing.{stands-written}
 use Rattle.buffer.proofs.Writes.{length-write}
-use Rattle.frame.specs.Writing.{WriteOutcome, answerNumber, answerCount, outcomeOf, wellFormed, written, writing}
+use Rattle.frame.specs.Writing.{WriteOutcome, answerNumber, answerCount, outcomeOf, notWritten, unless, valueRefusal, wellFormed, written, writing}
 use Rattle.frame.specs.Reasons.{reading, isGood}
 use Rattle.frame.specs.declared.Form.the-variants.{Good}
 use Rattle.frame.specs.declared.Frame.{Frame}
 use Rattle.frame.specs.declared.Reading.{Reading}
 use Rattle.frame.specs.declared.WriteAnswer.{WriteAnswer}
-use Rattle.frame.specs.declared.WriteAnswer.the-variants.{Written, NoFrame, NoRoom}
+use Rattle.frame.specs.declared.WriteAnswer.the-variants.{Written, NoFrame, WrongLamp, NoRoom}
 use Rattle.frame.proofs.FormNumbers.{good-form}
 use Rattle.frame.proofs.Laws.{one-to-one}
 use Rattle.frame.proofs.Sizes.{frame-small}
+use Rattle.frame.proofs.Values.{value-numbers}
 use Rattle.report.specs.inside.Again.{writtenAs}
 
 -- what writing comes to: number, bytes written and output
 data Writes (f : Frame) (m : List ℕ) : ℕ → ℕ → List ℕ → Type 0 where
   wrote : wellFormed f ≡ true → length (written f) ≤ length m → Writes f m 0 (length (written f)) (write 0 (written f) m)
   crowded : wellFormed f ≡ true → length m < length (written f) → Writes f m 5 0 m
-  formless : wellFormed f ≡ false → Writes f m 1 0 m
+  formless : (number : ℕ) → wellFormed f ≡ false → (number ≡ 0 → ⊥) → Writes f m number 0 m
 
 writes : (f : Frame) (m : List ℕ) → Writes f m (writing f m .number) (writing f m .count) (writing f m .output)
 unfolding writing
-writes f m = by-test (wellFormed f) (leb (length (written f)) (length m)) refl refl
+writes f m = by-test (eqb (valueRefusal f) 0) (leb (length (written f)) (length m)) refl refl
   where
     outcome : Bool → Bool → WriteOutcome
     outcome b c =
-        cond b
-        (cond c (record { number = 0; count = length (written f); output = write 0 (written f) m }) (record { number = 5; count = 0; output = m }))
-        (record { number = 1; count = 0; output = m })
+        unless b (notWritten (valueRefusal f) m)
+        (unless c (notWritten 5 m) (record { number = 0; count = length (written f); output = write 0 (written f) m }))
 
-    by-test : (b c : Bool) → wellFormed f ≡ b → leb (length (written f)) (length m) ≡ c → Writes f m (outcome b c .number) (outcome b c .count) (outcome b c .output)
-    by-test true true e d = wrote e (leb-true (length (written f)) (length m) d)
-    by-test true false e d = crowded e (leb-false (length (written f)) (length m) d)
-    by-test false c e d = formless e
+    formed : (b : Bool) → eqb (valueRefusal f) 0 ≡ b → wellFormed f ≡ b
+    formed b e = value-numbers .formed f ∙ e
+
+    by-test : (b c : Bool) → eqb (valueRefusal f) 0 ≡ b → leb (length (written f)) (length m) ≡ c
+        → Writes f m (outcome b c .number) (outcome b c .count) (outcome b c .output)
+    by-test true true e d = wrote (formed true e) (leb-true (length (written f)) (length m) d)
+    by-test true false e d = crowded (formed true e) (leb-false (length (written f)) (length m) d)
+    by-test false c e d = formless (valueRefusal f) (formed false e) (eqb-false (valueRefusal f) 0 e)
 
 -- by its number
-no-frame : {f : Frame} {m out : List ℕ} {number count : ℕ} (item : List ℕ) → Writes f m number count out → number ≡ 1 → false ≡ writtenAs f item (length m)
-no-frame item (wrote v l) e = absurd (omega arith)
-no-frame item (crowded v l) e = absurd (omega arith)
-no-frame item (formless v) e = rw v
-
-no-room : {f : Frame} {m out : List ℕ} {number count : ℕ} (item : List ℕ) → Writes f m number count out → number ≡ 5 → false ≡ writtenAs f item (length m)
-no-room item (wrote v l) e = absurd (omega arith)
-no-room {f} {m} item (crowded v l) e = rw (v, lt-leb (length (written f)) (length m) l)
-no-room item (formless v) e = absurd (omega arith)
+unwritten : {f : Frame} {m out : List ℕ} {number count : ℕ} (item : List ℕ) → Writes f m number count out → (number ≡ 0 → ⊥)
+    → false ≡ writtenAs f item (length m)
+unwritten item (wrote v l) n = absurd (n refl)
+unwritten {f} {m} item (crowded v l) n = rw (v, lt-leb (length (written f)) (length m) l)
+unwritten item (formless number v k) n = rw v
 
 -- the frame was written, in the first count bytes
 record Rewritten (f : Frame) (m out : List ℕ) (count : ℕ) : Type 0 where
@@ -71,7 +71,7 @@ rewritten {f} {m} (wrote v l) e = record {
   bytes = stands-written 0 (written f) m (omega arith);
 }
 rewritten (crowded v l) e = absurd (omega arith)
-rewritten (formless v) e = absurd (omega arith)
+rewritten (formless number v k) e = absurd (k e)
 
 module _ (f : Frame) (item m : List ℕ) {out : List ℕ} (a : WriteAnswer) (w : outcomeOf a out ≡ writing f m) where
   came : Writes f m (answerNumber a) (answerCount a) out
@@ -83,11 +83,17 @@ module _ (f : Frame) (item m : List ℕ) {out : List ℕ} (a : WriteAnswer) (w :
   pub output-is : out ≡ writing f m .output
   output-is = ap (λ (o : WriteOutcome). o .output) w
 
+  refused : (b : WriteAnswer) → a ≡ b → (answerNumber b ≡ 0 → ⊥) → false ≡ writtenAs f item (length m)
+  refused b e n = unwritten item came (λ z. n (sym (ap answerNumber e) ∙ z))
+
   pub no-frame-again : a ≡ NoFrame → false ≡ writtenAs f item (length m)
-  no-frame-again e = no-frame item came (ap answerNumber e)
+  no-frame-again e = refused NoFrame e (λ z. omega arith)
+
+  pub wrong-lamp-again : a ≡ WrongLamp → false ≡ writtenAs f item (length m)
+  wrong-lamp-again e = refused WrongLamp e (λ z. omega arith)
 
   pub no-room-again : a ≡ NoRoom → false ≡ writtenAs f item (length m)
-  no-room-again e = no-room item came (ap answerNumber e)
+  no-room-again e = refused NoRoom e (λ z. omega arith)
 
   pub inside-again : (count : ℕ) → a ≡ Written count → count ≤ length out
   inside-again count e = came-written count e .inside

@@ -47,6 +47,7 @@ fn written_as(frame: Frame, item: &[u8], again: &mut [u8]) -> bool
     match write(again, frame) {
         WriteAnswer::Written(count) => same(item, &again[..count]),
         WriteAnswer::NoFrame => false,
+        WriteAnswer::WrongLamp => false,
         WriteAnswer::NoRoom => false,
     }
 }

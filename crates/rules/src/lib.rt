@@ -16,7 +16,7 @@ ghost use Prim.Native.Nat.{_/_};
 ghost use lib.Dec.{eqb};
 ghost use Rattle.frame.specs.Layout.{odd};
 ghost use Rattle.frame.specs.Reasons.{mapFits, senseFits};
-ghost use Rattle.frame.specs.Writing.{allBetween, lampFits, gatewaysAgree, wellFormed};
+ghost use Rattle.frame.specs.Writing.{allBetween, lampFits, gatewaysAgree, wellFormed, valueRefusal};
 
 // Whether a lamp's bytes are 33 to 126, or zero where the kind has no lamp.
 pub fn lamp_fits(message: Message) -> bool
@@ -76,9 +76,16 @@ pub fn all_between(lamp: [u8; 18], low: u8, high: u8) -> bool
     fine
 }
 
-// Whether a value is one of the forms of a frame. Its kind's map is looked up once.
+// Whether a value is one of the forms of a frame.
 pub fn well_formed(frame: Frame) -> bool
     ensures { λ r. ⌜ r ≡ wellFormed frame ⌝ }
+{
+    value_refusal(frame) == 0
+}
+
+// What a value is refused with, or 0. Its kind's map is looked up once.
+pub fn value_refusal(frame: Frame) -> u8
+    ensures { λ r. ⌜ r ≡ valueRefusal frame ⌝ }
 {
     let message = frame.message;
     let kind = message.kind;
@@ -86,12 +93,19 @@ pub fn well_formed(frame: Frame) -> bool
     let sense = frame.sense;
     let map = map_of_kind(kind_number(kind));
     if !header_fits(map, sense_number(sense), message.hour) {
-        return false;
+        return 1;
     }
-    if !lamp_kept(lamp, stands(LAMP, map)) {
-        return false;
+    let there = stands(LAMP, map);
+    if !lamp_kept(lamp, there) {
+        if there {
+            return 12;
+        }
+        return 1;
     }
-    gateways_agree(message.from, message.to, kind)
+    if !gateways_agree(message.from, message.to, kind) {
+        return 1;
+    }
+    0
 }
 
 // Whether a kind with that map may have that sense and that hour.

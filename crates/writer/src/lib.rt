@@ -20,7 +20,7 @@ use model::Message;
 use model::kind_number;
 use model::origin_of;
 use model::quantity_of;
-use rules::well_formed;
+use rules::value_refusal;
 ghost use mathlib.Core.Path.{_≡_};
 ghost use Prim.Native.Nat.{_+_, _≤_, _<_};
 ghost use lib.ListN.{length};
@@ -33,7 +33,11 @@ ghost use Rattle.frame.specs.inside.Steps.{headBytes, fieldBytes, bodyBytes};
 pub fn write(out: &mut [u8], frame: Frame) -> WriteAnswer
     ensures { λ r. ⌜ outcomeOf r (now (out .exit)) ≡ writing frame (now (out .entry)) ⌝ }
 {
-    if !well_formed(frame) {
+    let refusal = value_refusal(frame);
+    if refusal == 12 {
+        return WriteAnswer::WrongLamp;
+    }
+    if refusal != 0 {
         return WriteAnswer::NoFrame;
     }
     let size = whole_length(map_of(frame));

@@ -1,6 +1,6 @@
 -- `report::written_as` meets its contract.
 use borrow.Author.Needs.{needs}
-use Rattle.report.proofs.Again.{output-is, no-frame-again, no-room-again, inside-again, prefix-again, compared}
+use Rattle.report.proofs.Again.{output-is, no-frame-again, wrong-lamp-again, no-room-again, inside-again, prefix-again, compared}
 use Rattle.report.proofs.written_as.Statement.{statement}
 use Rattle.report.proofs.written_as.Tie as tie
 
@@ -25,6 +25,9 @@ enum-told c = search needs
 enum-told-2 : tie.Need-enum-told-2
 enum-told-2 c = search needs
 
+enum-told-3 : tie.Need-enum-told-3
+enum-told-3 c = search needs
+
 same-length : tie.Need-same-length
 same-length c = search needs
 
@@ -41,7 +44,13 @@ same-length-3 : tie.Need-same-length-3
 same-length-3 c = search needs
 
 returns-3 : tie.Need-returns-3
-returns-3 c = (search no-room-again, search output-is)
+returns-3 c = (search wrong-lamp-again, search output-is)
+
+same-length-4 : tie.Need-same-length-4
+same-length-4 c = search needs
+
+returns-4 : tie.Need-returns-4
+returns-4 c = (search no-room-again, search output-is)
 
 pub written-as-spec : {M : Type 1} → statement M
 written-as-spec =
@@ -54,9 +63,12 @@ written-as-spec =
     same-requires
     enum-told
     enum-told-2
+    enum-told-3
     same-length
     returns
     same-length-2
     returns-2
     same-length-3
-    returns-3)
+    returns-3
+    same-length-4
+    returns-4)
