@@ -4,8 +4,8 @@ use check::same;
 use frame::Frame;
 use frame::WriteAnswer;
 use frame::forms::is_good;
-use frame::tables::has_lamp;
 use frame::tables::sense_number;
+use lamp::lamp;
 use model::Message;
 use model::kind_number;
 use model::origin_of;
@@ -15,13 +15,15 @@ use reasons::put_refused;
 use text::put_field;
 use writer::write;
 ghost use mathlib.Core.Path.{_≡_};
-ghost use mathlib.Core.Bool.{false};
+ghost use mathlib.Core.Bool.{true, false};
+ghost use mathlib.Core.List.{_++_};
 ghost use Prim.Native.Nat.{_+_, _≤_};
 ghost use lib.ListN.{length};
 ghost use Rattle.buffer.specs.Slice.{Puts};
 ghost use Rattle.frame.specs.Writing.{writing};
+ghost use Rattle.frame.specs.Reasons.{reading, isGood};
 ghost use Rattle.report.specs.inside.Again.{writtenAs};
-ghost use Rattle.report.specs.Line.{route, content, lampText, frameText, line};
+ghost use Rattle.report.specs.Line.{route, content, lampText, line};
 
 // Whether a frame, read and written again, has other bytes than it had: never, since frames and values are one to one. The
 // program frames asks it all the same, so that the writer too runs on every frame that is read.
@@ -61,19 +63,20 @@ pub fn put_line(out: &mut [u8], at: usize, item: &[u8]) -> usize
     let form = reading.form;
     if is_good(form) {
         let frame = reading.frame;
-        return put_frame(out, at, frame);
+        let behind_fields = put_fields(out, at, frame);
+        return put_lamp(out, behind_fields, item);
     }
     put_refused(out, at, form)
 }
 
-fn put_frame(out: &mut [u8], at: usize, frame: Frame) -> usize
-    requires { ⌜ at + 100 ≤ length (now out) ⌝ }
-    ensures { λ r. ⌜ (Puts at (frameText frame) (now (out .entry)) (now (out .exit)) r) × (r ≤ at + 100) ⌝ }
+// All fields but the lamp.
+fn put_fields(out: &mut [u8], at: usize, frame: Frame) -> usize
+    requires { ⌜ at + 77 ≤ length (now out) ⌝ }
+    ensures { λ r. ⌜ (Puts at (route (frame .message) ++ content frame) (now (out .entry)) (now (out .exit)) r) × (r ≤ at + 77) ⌝ }
 {
     let message = frame.message;
     let behind_route = put_route(out, at, message);
-    let behind_content = put_content(out, behind_route, frame);
-    put_lamp(out, behind_content, message)
+    put_content(out, behind_route, frame)
 }
 
 // Kind, from, to and hour.
@@ -101,17 +104,18 @@ fn put_content(out: &mut [u8], at: usize, frame: Frame) -> usize
     put_field(out, behind_quantity, sense_number(sense) as u32)
 }
 
-// The lamp, or a dash for a kind without one.
-fn put_lamp(out: &mut [u8], at: usize, message: Message) -> usize
-    requires { ⌜ at + 18 ≤ length (now out) ⌝ }
-    ensures { λ r. ⌜ (Puts at (lampText message) (now (out .entry)) (now (out .exit)) r) × (r ≤ at + 18) ⌝ }
+// The lamp of a frame, from the part of it that holds the lamp, or a dash where it has none.
+fn put_lamp(out: &mut [u8], at: usize, item: &[u8]) -> usize
+    requires { ⌜ (at + 18 ≤ length (now out)) × (isGood (reading (now item) .form) ≡ true) ⌝ }
+    ensures { λ r. ⌜
+        (Puts at (lampText (reading (now (item .entry)) .frame .message)) (now (out .entry)) (now (out .exit)) r)
+        × (r ≤ at + 18) ⌝ }
 {
-    let kind = message.kind;
-    if has_lamp(kind_number(kind)) {
-        let lamp = message.lamp;
-        copy(out, at, &lamp);
-        return at + 18;
+    let part = lamp(item);
+    if part.len() == 0 {
+        out[at] = 45;
+        return at + 1;
     }
-    out[at] = 45;
-    at + 1
+    copy(out, at, part);
+    at + part.len()
 }
