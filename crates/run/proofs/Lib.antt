@@ -61,9 +61,12 @@ pub mod FramesInTurn
 pub mod UpdatesUnderWay
 pub mod KeptRelation
 pub mod Further
+pub mod RunTests
+pub mod Computing
 pub mod Example
 pub mod OrderTable
 pub mod HoursTable
+pub mod RunTable
 pub mod Theorem
 pub mod RecordsTaken
 pub mod RecordExample

@@ -10,6 +10,7 @@ pub mod RoundsEnd
 pub mod ExampleRun
 pub mod OrderExamples
 pub mod HoursExamples
+pub mod RunExamples
 pub mod RecordsTaken
 pub mod History
 pub mod Balanced

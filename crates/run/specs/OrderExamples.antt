@@ -70,7 +70,7 @@ cancel m = written (frameIf true m)
 abbrev pub acknowledged : Message → List ℕ
 acknowledged m = written (acknowledgment false m)
 
-abbrev cancelAcknowledged : Message → List ℕ
+abbrev pub cancelAcknowledged : Message → List ℕ
 cancelAcknowledged m = written (acknowledgment true m)
 
 -- a state, by stock, fitted and short
