@@ -1,41 +1,35 @@
 -- The examples of histories and of the balance hold, by computation.
 use mathlib.Core.Path.{_≡_, refl, ap}
 use native.Mathlib.Omega.{arith}
-use mathlib.Core.List.{[]}
-use lib.ListN.{take}
-use Rattle.lists.specs.Lists.{every, passing, joined}
+use Prim.Native.Nat.{ℕ}
+use mathlib.Core.List.{List, [], _∷_}
+use lib.ListN.{take, drop, getD}
+use Rattle.lists.specs.Lists.{passing, joined}
 use Rattle.lists.specs.Families.{change, together}
-use Rattle.buffer.specs.Slice.{sameBytes, part, write}
+use Rattle.buffer.specs.Slice.{part}
 use Rattle.buffer.specs.Number.{bytesOf, numberOf}
-use Rattle.model.specs.Doing.{leadTimesValid, sent}
+use Rattle.model.specs.Doing.{sent}
 use Rattle.model.specs.EventOrder.{key, compared}
 use Rattle.frame.specs.Kinds.{hasHour, hasLamp, mapOf}
 use Rattle.frame.specs.Writing.{written, allBetween, wellFormed}
 use Rattle.frame.specs.Reasons.{reading}
-use Rattle.frame.specs.Limits.{refusal, refusalWhere}
-use Rattle.memory.specs.Codec.{entryBytes, entryOf, sentBytes, sentOf, stateBytes, stateWith, decode, encode}
-use Rattle.memory.specs.Soundness.{sound}
-use Rattle.memory.specs.Validity.{settingsValid, roundPossible, equal, later, ordered, processedFirst, noneMeet, storable, entryValid, sentValid, valid}
-use Rattle.memory.specs.Validity.{savedStocksBounded, heldStockBounded}
-use Rattle.gateway.specs.Effects.{settled, sentAll}
-use Rattle.gateway.specs.Undoing.{processedOf, undone, rolledBack}
-use Rattle.gateway.specs.Taking.{takePlain, takeAcknowledgment}
-use Rattle.gateway.specs.Working.{worked}
-use Rattle.gateway.specs.Rounds.{leastOutstanding, leastQueued, start}
-use Rattle.gateway.specs.Committing.{recordFor, commit}
-use Rattle.gateway.specs.SettingUp.{opened, setUpRefusal}
-use Rattle.gateway.specs.Calls.{taken, started, committed, workedOff, setUp}
+use Rattle.frame.specs.Limits.{refusalWhere}
+use Rattle.memory.specs.Codec.{stateBytes, stateWith}
+use Rattle.memory.specs.Validity.{later}
+use Rattle.gateway.specs.Committing.{recordFor}
 use Rattle.records.specs.Events.{eventsOf}
 use Rattle.records.specs.Histories.{eventsFrom}
 use Rattle.records.specs.Balancing.{received, served, lastStock, balanced}
-use Rattle.run.specs.World.{roundFrames, afterTaking, afterStarting, afterWorking, afterCommitting, afterCall, afterCalls, openingWorld}
+use Rattle.run.specs.World.{afterCalls}
 use Rattle.run.specs.SingleQueue.{openingMessages, openingQueue, earliest, others, doOne, stepOn, turnsFor}
 use Rattle.run.specs.ExampleRun.{worldAtEnd, twoRecords}
-use Rattle.run.specs.OrderExamples.{sameHourRecord}
+use Rattle.run.specs.OrderExamples.{sameHourSetUp, sameHourMemory, sameHourCalls, sameHourRecord}
+use Rattle.run.specs.RunExamples.{seenAlong}
 use Rattle.run.specs.History.{nextOf, doneIn, singleHistory}
 use Rattle.run.specs.HistoryExamples.{recordAfter, recordOfTwo, HistoryExamples}
 use Rattle.run.proofs.Example.{examples}
 use Rattle.run.proofs.OrderTable.{order-within-an-hour}
+use Rattle.run.proofs.Computing.{computing}
 
 -- the records of the two runs at their ends
 whole : recordAfter 8 ≡ sameHourRecord 0
@@ -47,20 +41,25 @@ first-of-two = examples .two .whole 0 (omega arith)
 second-of-two : recordOfTwo 1 ≡ twoRecords 1
 second-of-two = examples .two .whole 1 (omega arith)
 
--- that of the first before its end
+-- that of the first before its three commits and after each, gone through once
+along : seenAlong (λ w. w .records 0) 1 (worldAtEnd 1 10 sameHourSetUp sameHourMemory (take 5 sameHourCalls)) (drop 5 sameHourCalls)
+    ≡ [] ∷ take 43 (sameHourRecord 0) ∷ take 69 (sameHourRecord 0) ∷ sameHourRecord 0 ∷ []
+unfolding computing seenAlong
+along = refl
+
 record Before : Type 0 where
   five : recordAfter 5 ≡ []
   six : recordAfter 6 ≡ take 43 (sameHourRecord 0)
   seven : recordAfter 7 ≡ take 69 (sameHourRecord 0)
 
 before-the-end : Before
-unfolding
-    every change sameBytes part write bytesOf numberOf sent key compared hasHour mapOf written allBetween wellFormed reading refusal entryBytes
-    entryOf sentBytes sentOf decode encode sound settingsValid leadTimesValid roundPossible equal later ordered processedFirst noneMeet
-    savedStocksBounded heldStockBounded storable entryValid sentValid valid settled sentAll processedOf undone rolledBack takePlain
-    takeAcknowledgment worked leastOutstanding leastQueued start recordFor commit opened setUpRefusal taken started committed workedOff setUp
-    roundFrames afterTaking afterStarting afterWorking afterCommitting afterCall afterCalls openingWorld worldAtEnd
-before-the-end = record { five = refl; six = refl; seven = refl }
+unfolding seenAlong worldAtEnd afterCalls
+before-the-end =
+    record {
+      five = ap (λ (l : List (List ℕ)). getD l 0 []) along;
+      six = ap (λ (l : List (List ℕ)). getD l 1 []) along;
+      seven = ap (λ (l : List (List ℕ)). getD l 2 []) along;
+    }
 
 pub history-examples : HistoryExamples
 unfolding
