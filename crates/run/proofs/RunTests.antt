@@ -2,11 +2,11 @@
 use mathlib.Core.Path.{_≡_, refl, ap}
 use Prim.Native.Nat.{ℕ, zero, suc, _<_}
 use native.Mathlib.Omega.{arith}
-use mathlib.Core.Bool.{Bool, true, false, cond, not, _&&_, _||_}
+use mathlib.Core.Bool.{Bool, true, false, cond, not, _&&_, _||_, false≢true}
 use mathlib.Core.List.{List, [], _∷_}
 use lib.Dec.{leb, ltb, eqb}
 use lib.ListN.{length}
-use borrow.Author.Tests.{leb-true, ltb-true, eqb-true, eqb-false, not-true, eq-eqb, ne-eqb}
+use borrow.Author.Tests.{leb-true, ltb-true, eqb-true, eq-eqb, ne-eqb}
 use Rattle.lists.specs.Lists.{any}
 use Rattle.lists.proofs.BoolLaws.{and-left, and-right}
 use Rattle.lists.proofs.FamilyLaws.{Same, same, other, same?}
@@ -87,7 +87,7 @@ examined n w (works i b output) = (ltb i n, afterCall n w (works i b output))
 examined n w (takes i frame output) =
     let r = taken (w .memories i) frame output in
     let accepted = eqb (r .answer .number) 0 in (
-      ltb i n && allBetween 0 255 frame && (not accepted || any (isFrame frame) (w .underWay)),
+      ltb i n && allBetween 0 255 frame && cond accepted (any (isFrame frame) (w .underWay)) true,
       cond accepted (afterTaking n i frame (r .memory) (framesIn (r .answer .written) (r .output)) w) (withMemory i (r .memory) w),
     )
 examined n w (starts i output) = (ltb i n, afterCall n w (starts i output))
@@ -103,11 +103,14 @@ allowed-by n w (works i b output) h = ltb-true i n h
 allowed-by n w (takes i frame output) h = (
   ltb-true i n (search parts),
   bytes-by frame (search parts),
-  λ e. or-else (not (eqb (taken (w .memories i) frame output .answer .number) 0)) (any (isFrame frame) (w .underWay)) (search parts) (rw (eq-eqb _ 0 e)),
+  λ e. let k = rw (eq-eqb _ _ e) at h in search parts,
 )
 allowed-by n w (starts i output) h = ltb-true i n h
 allowed-by n w (commits i output) h = ltb-true i n h
-allowed-by n w (setsUp i opening list) h = (ltb-true i n (search parts), eqb-false _ 0 (not-true _ (search parts)))
+allowed-by n w (setsUp i opening list) h = (
+  ltb-true i n (search parts),
+  λ e. absurd (false≢true (and-right (ltb i n) false (rw (eq-eqb _ _ e) at h))),
+)
 
 is-after : (n : ℕ) (w : World) (c : Call) → examined n w c .1 ≡ afterCall n w c
 unfolding examined afterCall
