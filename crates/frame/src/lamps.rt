@@ -1,4 +1,4 @@
-// The bytes of a lamp.
+// The bytes of a lamp, and the lengths of the frames that have one.
 use crate::tables::ORIGIN_PLACE;
 use crate::tables::WIDTHS;
 ghost use mathlib.Core.Path.{_≡_};
@@ -10,6 +10,11 @@ ghost use Rattle.buffer.specs.Slice.{part};
 pub const LAMP_PLACE: usize = ORIGIN_PLACE + WIDTHS.origin;
 
 pub const LAMP_END: usize = LAMP_PLACE + WIDTHS.lamp;
+
+// The whole lengths of the frames with a lamp: a plain message, and one with a sense, which follows the lamp.
+pub const PLAIN_LENGTH: usize = LAMP_END;
+
+pub const SENSE_LENGTH: usize = LAMP_END + WIDTHS.sense;
 
 // The eighteen bytes from a position on.
 pub fn read_lamp(bytes: &[u8], at: usize) -> [u8; 18]

@@ -45,6 +45,13 @@ pub const QUANTITY_PLACE: usize = HOUR_PLACE + WIDTHS.hour;
 
 pub const QUANTITY_END: usize = QUANTITY_PLACE + WIDTHS.quantity;
 
+// The whole lengths of the plain messages without a lamp: a Start; an Lvt, and an Update, which has the same fields; a Restock.
+pub const START_LENGTH: usize = HOUR_PLACE;
+
+pub const LVT_LENGTH: usize = HOUR_PLACE + WIDTHS.hour;
+
+pub const RESTOCK_LENGTH: usize = QUANTITY_END;
+
 // The map of the kind with that number; there is none past 6.
 pub fn map_of_kind(kind: u8) -> u8
     ensures { λ r. ⌜ r ≡ mapOfKind kind ⌝ }

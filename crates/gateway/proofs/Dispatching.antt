@@ -14,11 +14,14 @@ use Rattle.model.proofs.Ordered.{kind-again}
 use Rattle.model.specs.declared.Kind.{Kind}
 use Rattle.model.specs.declared.Kind.the-variants.{Failure, Request, Delivery, Restock, Start, Lvt, Update}
 use Rattle.frame.specs.Limits.{refusal}
+use Rattle.frame.specs.Writing.{wellFormed}
 use Rattle.frame.specs.Reasons.{reading, formIn, formNumber}
 use Rattle.frame.specs.declared.Frame.{Frame}
 use Rattle.frame.specs.declared.Reading.{Reading}
 use Rattle.frame.specs.declared.Form.the-variants.{NotTaken}
 use Rattle.frame.specs.declared.Sense.the-variants.{Plain, Cancel, Acknowledgment, CancelAcknowledgment}
+use Rattle.frame.proofs.FormNumbers.{form-passed}
+use Rattle.frame.proofs.Laws.{one-to-one}
 use Rattle.memory.specs.Codec.{decode}
 use Rattle.memory.specs.inside.Fits.{MessageFits}
 use Rattle.memory.specs.Records.{Gateway}
@@ -158,3 +161,10 @@ take-call m bytes output = refl
 -- a message that was read fits its fields
 pub read-fits : (bytes : List ℕ) → Bytes bytes → {r : Reading} → r ≡ reading bytes → MessageFits (r .frame .message)
 read-fits bytes b e = rw e (reading-fits bytes b)
+
+-- and one that is taken is well formed
+pub read-formed : (bytes : List ℕ) → Bytes bytes → {r : Reading} → r ≡ reading bytes → {number : ℕ} → number ≡ formNumber (formIn byCarrier r) → number ≡ 0
+    → wellFormed (r .frame) ≡ true
+read-formed bytes b {r} e {number} u n =
+    let good = form-passed byCarrier r (rw (← u) (eq-eqb number 0 n)) .0 in
+    rw e (one-to-one .readWellFormed bytes b (rw e at good))

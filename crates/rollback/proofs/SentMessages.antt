@@ -1,5 +1,5 @@
 -- What an event had sent: at most one message, whose numbers fit their fields, and whose cancel is a frame of twenty-eight bytes.
-use mathlib.Core.Path.{_≡_, refl, _∙_}
+use mathlib.Core.Path.{_≡_, refl}
 use mathlib.Core.Bool.{Bool, true, false, cond}
 use mathlib.Core.List.{List, [], _∷_}
 use Prim.Native.Nat.{ℕ, suc, _+_, _*_, _≤_, _<_}
@@ -16,10 +16,8 @@ use Rattle.model.specs.declared.Kind.the-variants.{Failure, Request, Delivery, 
 use Rattle.model.specs.declared.Message.{Message}
 use Rattle.model.specs.declared.State.{State}
 use Rattle.model.specs.declared.Site.{Site}
-use Rattle.frame.specs.Layout.{wholeLength}
-use Rattle.frame.specs.Kinds.{mapOf, mapOfKind}
 use Rattle.frame.specs.Writing.{written}
-use Rattle.frame.proofs.Output.{whole-size}
+use Rattle.frame.proofs.Sizes.{sense-size}
 use Rattle.memory.specs.Records.{siteOf}
 use Rattle.memory.specs.Validity.{isProcessed, frameIf}
 use Rattle.memory.specs.inside.Fits.{MessageFits, EntryFits, SettingsFit}
@@ -32,20 +30,6 @@ use Rattle.gateway.specs.Undoing.{processedOf, sentBack}
 pub record Cancelled (m : Message) : Type 0 where
   pub fits : MessageFits m
   pub size : length (written (frameIf true m)) ≡ 28
-
-sense-size : (kind : Kind) → kindNumber kind ≤ 2 → wholeLength (mapOfKind (kindNumber kind) + 128) ≡ 28
-unfolding wholeLength mapOfKind
-sense-size (Failure origin) h = refl
-sense-size (Request origin) h = refl
-sense-size (Delivery origin) h = refl
-sense-size (Restock quantity) h = absurd (omega arith)
-sense-size Start h = absurd (omega arith)
-sense-size Lvt h = absurd (omega arith)
-sense-size Update h = absurd (omega arith)
-
-cancel-size : (m : Message) → length (m .lamp) ≡ 18 → kindNumber (m .kind) ≤ 2 → length (written (frameIf true m)) ≡ 28
-unfolding mapOf
-cancel-size m lamp k = whole-size (frameIf true m) lamp ∙ sense-size (m .kind) k
 
 module _ (s : Settings) (fit : SettingsFit s) (m : Message) (fits : MessageFits m) where
   reply-fits : (hours to : ℕ) (kind : Kind) → kindNumber kind ≤ 2 → to < 256 → originOf kind < 256 → quantityOf kind ≡ 0
@@ -61,7 +45,7 @@ module _ (s : Settings) (fit : SettingsFit s) (m : Message) (fits : MessageFits 
           cons {a = r}
           (record {
             fits = record { hour = omega (arith, fit .last); from = fit .own; to = t; origin = o; quantity = omega arith; lamp = fits .lamp };
-            size = cancel-size r (fits .lamp) k;
+            size = sense-size (frameIf true r) (fits .lamp) k (omega arith);
           })
           nil
       by false e = nil
