@@ -35,12 +35,19 @@ use Rattle.gateway.specs.inside.Premises.{Changed, withHeader}
 use Rattle.announce.specs.inside.Receivers.{listed}
 use Rattle.announce.specs.declared.receivers.Few.{Few}
 use Rattle.gateway.specs.declared.Answer.{Answer}
-use Rattle.frame.proofs.Sizes.{kind-small}
+use Rattle.frame.proofs.Sizes.{start-length, lvt-length, kind-small}
 
-pub two-small : (kind : Kind) (count : ℕ) {n map one : ℕ} → count ≤ 2 → n ≡ kindNumber kind → map ≡ mapOfKind n → one ≡ wholeLength map → count * one < 2 ^ 64
-two-small kind count {n} {map} {one} h a b d =
-    let e : one ≡ wholeLength (mapOfKind (kindNumber kind)) = cc in
-    omega (arith, mul-le-mul-right one h, kind-small kind)
+module _ (kind : Kind) where
+  -- a Start, or else an Lvt or an Update
+  module _ {n : ℕ} (is : n ≡ kindNumber kind) where
+    pub length-of-start : n ≡ 4 → 4 ≡ wholeLength (mapOfKind (kindNumber kind))
+    length-of-start e = sym (start-length kind (sym is ∙ e))
+
+    pub length-of-others : 3 < kindNumber kind → (n ≡ 4 → ⊥) → 8 ≡ wholeLength (mapOfKind (kindNumber kind))
+    length-of-others h o = sym (lvt-length kind (omega (arith, h)))
+
+  pub two-small : (count : ℕ) {one : ℕ} → count ≤ 2 → one ≡ wholeLength (mapOfKind (kindNumber kind)) → count * one < 2 ^ 64
+  two-small count {one} h e = omega (arith, mul-le-mul-right one h, kind-small kind)
 
 module _ (kind : Kind) (hour own : ℕ) where
   -- every frame of a round has its kind's length
@@ -167,10 +174,9 @@ module _ (m : List ℕ) (h : Header) (c : Changed m h) (bytes : Bytes m) where
       entryBytes (decode m .queue)) (write 6 (headerBack x) (write 0 (headerFront x) m)))) header-kept
       ∙ (w .header-last ∙ rw (queue, sent)))
 
-  module _ (kind : Kind) (hour : ℕ) (to : Few) (few : to .count ≤ 2) (output : List ℕ) {n map one : ℕ} (a : n ≡ kindNumber kind) (b : map ≡
-      mapOfKind n) (d : one ≡ wholeLength map) where
+  module _ (kind : Kind) (hour : ℕ) (to : Few) (few : to .count ≤ 2) (output : List ℕ) {one : ℕ} (d : one ≡ wholeLength (mapOfKind (kindNumber kind))) where
     size : to .count * one ≡ length (bytesOfFrames (framesInRound kind hour (h .settings .own) (listed to)))
-    size = rw (d, b, a) (sym (frames-size kind hour (h .settings .own) to few))
+    size = rw d (sym (frames-size kind hour (h .settings .own) to few))
 
     pub announce-room : to .count * one ≤ length output → length (bytesOfFrames (framesInRound kind hour (h .settings .own) (listed to))) ≤ length output
     announce-room l = rw size at l

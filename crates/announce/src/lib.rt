@@ -4,8 +4,8 @@ pub mod receivers; // receivers.rt: whom a gateway hears and tells
 use crate::receivers::Few;
 use frame::Frame;
 use frame::Sense;
-use frame::tables::map_of_kind;
-use frame::tables::whole_length;
+use frame::tables::LVT_LENGTH;
+use frame::tables::START_LENGTH;
 use gateway::Answer;
 use gateway::refused;
 use header::write_header;
@@ -16,9 +16,12 @@ use model::kind_number;
 use writer::outgoing::put_frame;
 use writer::outgoing::put_two;
 ghost use mathlib.Core.Path.{_≡_};
-ghost use Prim.Native.Nat.{_≤_};
+ghost use Prim.Native.Nat.{_≤_, _<_};
 ghost use lib.ListN.{length};
 ghost use Rattle.buffer.specs.Slice.{write};
+ghost use Rattle.model.specs.Messages.{kindNumber};
+ghost use Rattle.frame.specs.Layout.{wholeLength};
+ghost use Rattle.frame.specs.Kinds.{mapOfKind};
 ghost use Rattle.gateway.specs.Effects.{bytesOfFrames, settling};
 ghost use Rattle.gateway.specs.Rounds.{frameInRound, framesInRound};
 ghost use Rattle.gateway.specs.inside.Premises.{Changed, announced, Leaves};
@@ -33,19 +36,29 @@ pub fn announce(
     hour: u32,
     to: Few,
 ) -> Answer
-    requires { ⌜ Changed (now memory) header × (to .count ≤ 2) ⌝ }
+    requires { ⌜ Changed (now memory) header × (to .count ≤ 2) × (3 < kindNumber kind) ⌝ }
     ensures { λ r. ⌜ Leaves r memory output (settling (announced header kind hour (listed to))) ⌝ }
 {
     let settings = header.settings;
     let own = settings.own;
-    let one = whole_length(map_of_kind(kind_number(kind)));
-    let written = to.count as usize * one;
+    let written = to.count as usize * length_in_round(kind);
     if output.len() < written {
         return refused(5);
     }
     put_each(output, kind, hour, own, to);
     write_header(memory, header);
     Answer { number: 0, written }
+}
+
+// How long a frame of that kind is: a Start, or else an Lvt or an Update.
+fn length_in_round(kind: Kind) -> usize
+    requires { ⌜ 3 < kindNumber kind ⌝ }
+    ensures { λ r. ⌜ r ≡ wholeLength (mapOfKind (kindNumber kind)) ⌝ }
+{
+    if kind_number(kind) == 4 {
+        return START_LENGTH;
+    }
+    LVT_LENGTH
 }
 
 // Puts a frame to each of these gateways, one behind the other.

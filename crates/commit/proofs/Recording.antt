@@ -1,7 +1,7 @@
 -- A law for each branch of commit.
-use mathlib.Core.Path.{_≡_, refl, sym, _∙_}
+use mathlib.Core.Path.{_≡_, refl, sym, _∙_, subst}
 use mathlib.Core.Bool.{Bool, true, false, cond}
-use mathlib.Core.List.{List, [], _∷_}
+use mathlib.Core.List.{List, [], _∷_, List·Memᴰ·head as member-first}
 use Prim.Native.Nat.{ℕ, suc, _+_, _-_, _≤_, _<_}
 use native.Mathlib.Nat.{zero-add, sub-zero}
 use native.Mathlib.Omega.{arith}
@@ -11,12 +11,13 @@ use Rattle.lists.specs.inside.Positions.{firstWhere, without}
 use Rattle.lists.proofs.PositionLaws.{first-bound, without-first}
 use Rattle.buffer.specs.Slice.{part, write, Puts}
 use Rattle.buffer.proofs.Writes.{write-join, length-write, length-part}
-use Rattle.lists.specs.Lists.{tally}
-use Rattle.model.specs.Messages.{quantityOf}
+use Rattle.lists.specs.Lists.{_∈_, tally}
+use Rattle.model.specs.Messages.{kindNumber, quantityOf}
 use Rattle.model.specs.Doing.{mostStock, after}
+use Rattle.model.specs.declared.Kind.{Kind}
 use Rattle.model.specs.declared.State.{State}
 use Rattle.frame.specs.Layout.{wholeLength}
-use Rattle.frame.specs.Kinds.{mapOf}
+use Rattle.frame.specs.Kinds.{mapOf, mapOfKind}
 use Rattle.frame.specs.Writing.{written}
 use Rattle.frame.specs.declared.Frame.{Frame}
 use Rattle.frame.proofs.Output.{whole-size}
@@ -36,8 +37,9 @@ use Rattle.gateway.specs.Calls.{CallResult, leaving, onSound, committed}
 use Rattle.gateway.specs.inside.Premises.{Known}
 use Rattle.places.specs.inside.Searching.{hasMark}
 use Rattle.gateway.specs.declared.Answer.{Answer}
-use Rattle.frame.proofs.Sizes.{kind-small}
+use Rattle.frame.proofs.Sizes.{plain-length, restock-length}
 use Rattle.memory.proofs.Places.{place-at}
+use Rattle.gateway.proofs.Searches.{processed-member}
 use Rattle.gateway.proofs.Knowing.{queue-count, queue-places, sizes}
 
 -- the oldest processed event
@@ -137,6 +139,12 @@ module _ (m : List ℕ) (h : Header) (known : Known m h) (k : ℕ)
         let stocks = valid-facts (decode m) (sound-facts m (known .soundness) .held) .stocks in
         rw here at (oldest-stock (decode m .queue) entry (stocks .saved) (omega (arith, position, queue-count m h known)))
 
+    -- a queue holds no message of the round
+    pub kind-whole : kindNumber (entry .message .kind) ≤ 3
+    kind-whole =
+        let member : entry ∈ processedOf (decode m .queue) = subst (λ (es : List Entry). entry ∈ es) (sym (oldest .1)) (member-first refl) in
+        valid-facts (decode m) (sound-facts m (known .soundness) .held) .entries entry (processed-member (decode m .queue) entry member) .message .kind
+
     pub commits : (output : List ℕ) {l : CallResult Answer} → entry .message .hour < h .agreed → l ≡ leaving (recorded (length output) entry
         (without k (decode m .queue)) (decode m)) m output
         → l ≡ leaving (commit (length output) (decode m)) m output
@@ -144,18 +152,20 @@ module _ (m : List ℕ) (h : Header) (known : Known m h) (k : ℕ)
     commits output t p =
         p ∙ rw (oldest .1, ← agreed-here, lt-ltb (entry .message .hour) (h .agreed) t, without-first isProcessed (decode m .queue), ← position)
 
--- every kind's frame is short
-pub record-size-small : (e : Entry) → length (e .message .lamp) ≡ 18 → {f : Frame} {map one : ℕ} → f ≡ frameIf false (e .message) → map ≡
-    mapOf f → one ≡ wholeLength map → one ≤ 28
-unfolding mapOf
-record-size-small e lamp {f} {map} {one} a b d = rw (d, b, a) (kind-small (e .message .kind))
+-- the length of an event's frame: a Restock's, or else that of a message with a lamp
+module _ (kind : Kind) {n : ℕ} (is : n ≡ kindNumber kind) where
+  pub length-of-restock : n ≡ 3 → 10 ≡ wholeLength (mapOfKind (kindNumber kind))
+  length-of-restock e = sym (restock-length kind (sym is ∙ e))
+
+  pub length-of-others : kindNumber kind ≤ 3 → (n ≡ 3 → ⊥) → 27 ≡ wholeLength (mapOfKind (kindNumber kind))
+  length-of-others h o = sym (plain-length kind (omega (arith, h)))
 
 -- the record of an event
-module _ (e : Entry) (lamp : length (e .message .lamp) ≡ 18) (m output : List ℕ) (k : ℕ) {f : Frame} {map one : ℕ}
-    (frame-is : f ≡ frameIf false (e .message)) (map-is : map ≡ mapOf f) (one-is : one ≡ wholeLength map) where
+module _ (e : Entry) (lamp : length (e .message .lamp) ≡ 18) (m output : List ℕ) (k : ℕ) {one : ℕ}
+    (one-is : one ≡ wholeLength (mapOfKind (kindNumber (e .message .kind)))) where
   size : one + stateSize ≡ length (recordOf e)
-  unfolding recordFor
-  size = rw (length-append, length-state, one-is, map-is, frame-is, ← whole-size (frameIf false (e .message)) lamp)
+  unfolding recordFor mapOf
+  size = rw (length-append, length-state, one-is, whole-size (frameIf false (e .message)) lamp)
 
   pub record-room : one + stateSize ≤ length output → length (recordOf e) ≤ length output
   record-room h = rw size at h

@@ -3,8 +3,8 @@ use decoding::read_entry;
 use doing::state_after;
 use encoding::write_state;
 use entries::frame_if;
-use frame::tables::map_of;
-use frame::tables::whole_length;
+use frame::lamps::PLAIN_LENGTH;
+use frame::tables::RESTOCK_LENGTH;
 use gateway::Answer;
 use gateway::refused;
 use memory::Entry;
@@ -13,17 +13,21 @@ use memory::Header;
 use memory::Mark;
 use memory::QUEUE_SIZE;
 use memory::STATE_SIZE;
+use model::Kind;
+use model::kind_number;
 use places::changes::remove_entry;
 use places::search::next_marked;
 use soundness::checked;
 use writer::outgoing::put_frame;
 ghost use mathlib.Core.Path.{_≡_};
 ghost use Prim.Native.Nat.{_+_, _≤_, _<_};
-ghost use Rattle.model.specs.Messages.{quantityOf};
+ghost use Rattle.model.specs.Messages.{kindNumber, quantityOf};
 ghost use Rattle.model.specs.Doing.{mostStock};
 ghost use lib.ListN.{length};
 ghost use Rattle.lists.specs.inside.Positions.{without};
 ghost use Rattle.buffer.specs.Slice.{write};
+ghost use Rattle.frame.specs.Layout.{wholeLength};
+ghost use Rattle.frame.specs.Kinds.{mapOfKind};
 ghost use Rattle.gateway.specs.Committing.{recordOf, recorded, commit};
 ghost use Rattle.gateway.specs.Calls.{left, committed};
 ghost use Rattle.gateway.specs.inside.Premises.{Known, Leaves};
@@ -67,11 +71,13 @@ fn commit_place(
     requires { ⌜ Known (now memory) header
         × (k < header .queued)
         × (length (entry .message .lamp) ≡ 18)
+        × (kindNumber (entry .message .kind) ≤ 3)
         × (entry .before .stock + quantityOf (entry .message .kind) ≤ mostStock) ⌝ }
     ensures { λ r. ⌜ Leaves r memory output (λ room g. recorded room entry (without k (g .queue)) g) ⌝ }
 {
     let message = entry.message;
-    let size = whole_length(map_of(frame_if(false, message))) + STATE_SIZE;
+    let kind = message.kind;
+    let size = event_length(kind) + STATE_SIZE;
     if output.len() < size {
         return refused(5);
     }
@@ -81,6 +87,17 @@ fn commit_place(
         number: 0,
         written: size,
     }
+}
+
+// How long the frame of an event of that kind is: a Restock, or else a message with a lamp.
+fn event_length(kind: Kind) -> usize
+    requires { ⌜ kindNumber kind ≤ 3 ⌝ }
+    ensures { λ r. ⌜ r ≡ wholeLength (mapOfKind (kindNumber kind)) ⌝ }
+{
+    if kind_number(kind) == 3 {
+        return RESTOCK_LENGTH;
+    }
+    PLAIN_LENGTH
 }
 
 // Puts an event's record: its frame, then the state after it.

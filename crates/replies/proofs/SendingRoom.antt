@@ -11,12 +11,13 @@ use borrow.Author.Tests.{le-leb, lt-leb, not-true, not-false}
 use Rattle.lists.specs.Lists.{All, cons, joined}
 use Rattle.lists.proofs.ListLaws.{all-right}
 use Rattle.buffer.specs.Slice.{write}
+use Rattle.model.specs.Messages.{kindNumber}
 use Rattle.model.specs.declared.event.Reply.{Reply}
-use Rattle.frame.specs.Layout.{wholeLength}
 use Rattle.frame.specs.Kinds.{mapOf}
 use Rattle.frame.specs.Writing.{written}
 use Rattle.frame.specs.declared.Frame.{Frame}
 use Rattle.frame.proofs.Output.{whole-size}
+use Rattle.frame.proofs.Sizes.{plain-length}
 use Rattle.memory.specs.Layout.{outstandingAt, outstandingSize}
 use Rattle.memory.specs.Codec.{sentBytes}
 use Rattle.memory.specs.inside.Fits.{MessageFits, SentFits, GatewayFits}
@@ -40,9 +41,12 @@ module _ (reply : Reply) where
   no-bytes n = rw (not-true (reply .sends) n)
 
   -- one message is
-  pub bytes-of-one : not (reply .sends) ≡ false → {f : Frame} {map size : ℕ} → length (reply .sent .lamp) ≡ 18 → f ≡ frameIf false (reply .sent)
-      → map ≡ mapOf f → size ≡ wholeLength map → size ≡ replyBytes reply
-  bytes-of-one n lamp a b d = rw (not-false (reply .sends) n, bytes-one, whole-size (frameIf false (reply .sent)) lamp, d, b, a)
+  pub bytes-of-one : not (reply .sends) ≡ false → length (reply .sent .lamp) ≡ 18 → (reply .sends ≡ true → kindNumber (reply .sent .kind) ≤ 2)
+      → 27 ≡ replyBytes reply
+  unfolding mapOf
+  bytes-of-one n lamp few =
+      let sends = not-false (reply .sends) n in
+      rw (sends, bytes-one, whole-size (frameIf false (reply .sent)) lamp, plain-length (reply .sent .kind) (few sends))
 
 module _ (h : Header) (room : ℕ) (reply : Reply) where
   -- nothing is sent

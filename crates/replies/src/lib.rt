@@ -2,14 +2,14 @@
 use effects::send::header_sent;
 use effects::send::outstanding_at;
 use encoding::write_sent;
-use entries::frame_if;
-use frame::tables::map_of;
-use frame::tables::whole_length;
+use frame::lamps::PLAIN_LENGTH;
 use memory::Header;
 use memory::Sent;
 use model::event::Reply;
 ghost use mathlib.Core.Path.{_≡_};
+ghost use mathlib.Core.Bool.{true};
 ghost use Prim.Native.Nat.{_≤_};
+ghost use Rattle.model.specs.Messages.{kindNumber};
 ghost use Rattle.replies.specs.inside.Turns.{replyBytes, roomFor, MaySendReply, SendsReply};
 
 // Where work stands between two events: the header so far, which is written last, the bytes of output that the replies so far take,
@@ -21,15 +21,15 @@ pub struct Turn {
     pub why: u8,
 }
 
-// How many bytes of output what doing a message sends takes.
+// How many bytes of output what doing a message sends takes: nothing, or a plain message with a lamp.
 pub fn reply_bytes(reply: Reply) -> usize
+    requires { ⌜ (reply .sends ≡ true → kindNumber (reply .sent .kind) ≤ 2) ⌝ }
     ensures { λ r. ⌜ r ≡ replyBytes reply ⌝ }
 {
     if !reply.sends {
         return 0;
     }
-    let message = reply.sent;
-    whole_length(map_of(frame_if(false, message)))
+    PLAIN_LENGTH
 }
 
 // Whether there are outstanding places and bytes of output for what doing a message sends.

@@ -6,6 +6,7 @@ use entries::is_processed;
 use entries::site_of;
 use frame::Frame;
 use frame::Sense;
+use frame::lamps::SENSE_LENGTH;
 use header::write_header;
 use memory::Entry;
 use memory::HEADER_SIZE;
@@ -13,17 +14,15 @@ use memory::Header;
 use memory::QUEUE_SIZE;
 use model::Message;
 ghost use mathlib.Core.Path.{_≡_};
-ghost use mathlib.Core.Bool.{_&&_};
 ghost use mathlib.Core.List.{[], _∷_};
-ghost use Prim.Native.Nat.{_+_, _-_, _≤_};
-ghost use lib.Dec.{leb};
+ghost use Prim.Native.Nat.{_-_, _≤_};
 ghost use lib.ListN.{length};
 ghost use Rattle.memory.specs.Layout.{queueAt};
 ghost use Rattle.memory.specs.Records.{siteOf};
 ghost use Rattle.gateway.specs.Undoing.{processedOf, sentBack};
 ghost use Rattle.gateway.specs.Taking.{acknowledgment};
 ghost use Rattle.places.specs.inside.Searching.{entriesFrom};
-ghost use Rattle.rollback.specs.inside.Entering.{CanEnter, Enters};
+ghost use Rattle.rollback.specs.inside.Entering.{CanEnter, Enters, enough};
 
 // The acknowledgment of a message, or of a cancel.
 pub fn acknowledgment(cancel: bool, message: Message) -> Frame
@@ -41,10 +40,11 @@ pub fn acknowledgment(cancel: bool, message: Message) -> Frame
     }
 }
 
-// Whether so many used queue places, so many more outstanding ones and so many bytes of output are enough.
-pub fn has_room(header: Header, queued: usize, sent: usize, bytes: usize, room: usize) -> bool
+// Whether there is room for so many used queue places, so many more outstanding ones, and the acknowledgment and the cancels that stand
+// in those: each is a frame with a sense.
+pub fn has_room(header: Header, queued: usize, sent: usize, room: usize) -> bool
     requires { ⌜ sent ≤ 65535 ⌝ }
-    ensures { λ r. ⌜ r ≡ (leb queued (header .settings .q) && leb (header .outstanding + sent) (header .settings .u) && leb bytes room) ⌝ }
+    ensures { λ r. ⌜ r ≡ enough header queued sent room ⌝ }
 {
     let settings = header.settings;
     if (settings.q as usize) < queued {
@@ -53,7 +53,7 @@ pub fn has_room(header: Header, queued: usize, sent: usize, bytes: usize, room: 
     if (settings.u as usize) < header.outstanding as usize + sent {
         return false;
     }
-    bytes <= room
+    SENSE_LENGTH * (sent + 1) <= room
 }
 
 // How many messages the processed events from queue place k on had sent.

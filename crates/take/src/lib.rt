@@ -20,9 +20,11 @@ use take_plain::take_plain;
 use take_start::take_start;
 use take_update::take_update;
 ghost use mathlib.Core.Path.{_≡_};
+ghost use mathlib.Core.Bool.{true};
 ghost use Prim.Native.Nat.{_<_};
 ghost use Rattle.model.specs.Messages.{kindNumber};
 ghost use Rattle.memory.specs.inside.Fits.{MessageFits};
+ghost use Rattle.frame.specs.Writing.{wellFormed};
 ghost use Rattle.frame.specs.Reasons.{formIn, formNumber};
 ghost use Rattle.gateway.specs.Calls.{left, byCarrier, takeByKind, takeFor, takeFrame, takeBytes, taken};
 ghost use Rattle.gateway.specs.inside.Premises.{Known, Leaves};
@@ -63,7 +65,7 @@ fn form_refusal(reading: Reading) -> u8
 
 // Numbers and hour are looked at before the rest: 2, then 3.
 fn take_checked(memory: &mut [u8], output: &mut [u8], header: Header, frame: Frame) -> Answer
-    requires { ⌜ Known (now memory) header × MessageFits (frame .message) ⌝ }
+    requires { ⌜ Known (now memory) header × MessageFits (frame .message) × (wellFormed frame ≡ true) ⌝ }
     ensures { λ r. ⌜ Leaves r memory output (takeFor (header .settings) frame) ⌝ }
 {
     let settings = header.settings;
@@ -75,7 +77,7 @@ fn take_checked(memory: &mut [u8], output: &mut [u8], header: Header, frame: Fra
 }
 
 fn take_frame(memory: &mut [u8], output: &mut [u8], header: Header, frame: Frame) -> Answer
-    requires { ⌜ Known (now memory) header × MessageFits (frame .message) ⌝ }
+    requires { ⌜ Known (now memory) header × MessageFits (frame .message) × (wellFormed frame ≡ true) ⌝ }
     ensures { λ r. ⌜ Leaves r memory output (λ room g. takeFrame room frame g) ⌝ }
 {
     let message = frame.message;

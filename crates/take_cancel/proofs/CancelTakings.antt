@@ -13,9 +13,8 @@ use Rattle.lists.specs.Lists.{any, joined}
 use Rattle.lists.proofs.PositionLaws.{first-bound, before-first, from-first}
 use Rattle.lists.proofs.ListLaws.{all-right}
 use Rattle.buffer.specs.Slice.{Bytes, write, Puts}
+use Rattle.model.specs.Messages.{kindNumber}
 use Rattle.model.specs.declared.Message.{Message}
-use Rattle.frame.specs.Layout.{wholeLength}
-use Rattle.frame.specs.Kinds.{mapOf}
 use Rattle.frame.specs.Writing.{written}
 use Rattle.frame.specs.declared.Frame.{Frame}
 use Rattle.memory.specs.Layout.{queueAt, queueSize, outstandingAt, outstandingSize}
@@ -37,7 +36,7 @@ use Rattle.effects.specs.inside.Placed.{Placed}
 use Rattle.effects.specs.inside.Sending.{storedFrames}
 use Rattle.effects.proofs.PlacedLaws.{placed-first, placed-rest, placed-last}
 use Rattle.rollback.specs.inside.Undone.{sentByEntries, MaySendBack, takenOut}
-use Rattle.rollback.specs.inside.Entering.{MayEnter, struckOut}
+use Rattle.rollback.specs.inside.Entering.{MayEnter, struckOut, enough}
 use Rattle.rollback.proofs.SentMessages.{back-cancelled, cancels-size}
 use Rattle.rollback.proofs.RollbackLaws.{rolled-settings, rolled-outstanding}
 use Rattle.effects.proofs.StoredSent.{Stored}
@@ -76,9 +75,8 @@ module _ (m output : List ℕ) (h : Header) (known : Known m h) (x : Message) (p
         )
 
 -- a cancel waits in queue place k: what the code looks at is what it comes to
-module _ (m output : List ℕ) (h : Header) (known : Known m h) (bytes : Bytes m) (x : Message) (fits-x : MessageFits x) (k : ℕ) (found : k ≡
-    firstWhere (passes Later x) (entriesIn m (h .queued)))
-    {reply : Frame} {map′ size : ℕ} (r : reply ≡ acknowledgment true x) (e : map′ ≡ mapOf reply) (s : size ≡ wholeLength map′) where
+module _ (m output : List ℕ) (h : Header) (known : Known m h) (bytes : Bytes m) (x : Message) (fits-x : MessageFits x) (few : kindNumber (x .kind) ≤ 2)
+    (k : ℕ) (found : k ≡ firstWhere (passes Later x) (entriesIn m (h .queued))) where
   abbrev g : Gateway
   g = decode m
 
@@ -105,25 +103,22 @@ module _ (m output : List ℕ) (h : Header) (known : Known m h) (bytes : Bytes m
   places-enough = leb (h .outstanding + 0) (h .settings .u)
 
   abbrev bytes-enough : Bool
-  bytes-enough = leb size (length output)
+  bytes-enough = leb 28 (length output)
 
-  abbrev enough : Bool
-  enough = queue-enough && places-enough && bytes-enough
-
-  needs : fits (length output) (waits x g) ≡ enough
+  needs : fits (length output) (waits x g) ≡ enough h (h .queued + 1) 0 (length output)
   unfolding joined
   needs =
       rw waits-is
       (fits-by (length output) waiting
       {a = h .queued + 1}
       {b = h .outstanding + 0}
-      {d = size}
+      {d = 28}
       (rw (length-append, length-take, length-drop) (omega (arith, place-bound, queue-count m h known)))
       (outstanding-count m h known ∙ sym (add-zero (h .outstanding)))
-      (rw append-nil (sym (reply-size true x (fits-x .lamp) r e s)))
+      (rw append-nil (reply-size true x (fits-x .lamp) few))
       ∙ rw (← settings-are m h known))
 
-  pub waits-without-room : {ok : Bool} → ok ≡ enough → not ok ≡ true → {a : Answer} → (a .number ≡ 5) × (a .written ≡ 0) → record {
+  pub waits-without-room : {ok : Bool} → ok ≡ enough h (h .queued + 1) 0 (length output) → not ok ≡ true → {a : Answer} → (a .number ≡ 5) × (a .written ≡ 0) → record {
     answer =
         a;
     memory = m;
@@ -131,12 +126,12 @@ module _ (m output : List ℕ) (h : Header) (known : Known m h) (bytes : Bytes m
   } ≡ leaving (settled (length output) g (waits x g)) m output
   waits-without-room {ok} p n q = no-room m output g (waits x g) (needs ∙ sym p ∙ not-true ok n) q
 
-  module _ {ok : Bool} (p : ok ≡ enough) (n : not ok ≡ false) where
-    room : enough ≡ true
+  module _ {ok : Bool} (p : ok ≡ enough h (h .queued + 1) 0 (length output)) (n : not ok ≡ false) where
+    room : enough h (h .queued + 1) 0 (length output) ≡ true
     room = sym p ∙ not-false ok n
 
-    pub waits-bytes : 0 + length (written reply) ≤ length output
-    waits-bytes = reply-room true x (fits-x .lamp) r e s (leb-true size (length output) (and-right (queue-enough && places-enough) bytes-enough room))
+    pub waits-bytes : {reply : Frame} → reply ≡ acknowledgment true x → 0 + length (written reply) ≤ length output
+    waits-bytes r = reply-room true x (fits-x .lamp) few r (leb-true 28 (length output) (and-right (queue-enough && places-enough) bytes-enough room))
 
     queue-room : h .queued + 1 ≤ h .settings .q
     queue-room = leb-true (h .queued + 1) (h .settings .q) (and-left queue-enough places-enough (and-left (queue-enough && places-enough) bytes-enough room))
@@ -151,20 +146,20 @@ module _ (m output : List ℕ) (h : Header) (known : Known m h) (bytes : Bytes m
           room = rw (← settings-are m h known) (omega (arith, queue-room, queue-count m h known));
         })
 
-    pub waits-done : {out after : List ℕ} {next : ℕ} {w : Entry} → w ≡ waitingEntry x → Puts 0 (written reply) output out next
+    pub waits-done : {reply : Frame} → reply ≡ acknowledgment true x → {out after : List ℕ} {next : ℕ} {w : Entry} → w ≡ waitingEntry x → Puts 0 (written reply) output out next
         → after ≡ encode (withQueue (take k (g .queue) ++ (w ∷ drop k (g .queue))) g) m
         → record { answer = record { number = 0; written = next }; memory = after; output = out } ≡ leaving (settled (length output) g (waits x g)) m output
     unfolding joined
-    waits-done is put q =
+    waits-done r is put q =
         with-room m output g (waits x g) (needs ∙ room)
         (q ∙ rw (is, before-first (isLater x) (g .queue), from-first (isLater x) (g .queue), ← place))
         (put .output ∙ rw (r, append-nil))
         (put .position ∙ rw (r, append-nil) (omega arith))
 
 -- the plain message in queue place k is struck out: what the code counts is what it comes to
-module _ (m output : List ℕ) (h : Header) (known : Known m h) (bytes : Bytes m) (x : Message) (fits-x : MessageFits x) (k : ℕ) (below : k < h .queued)
-    (sent : ℕ) (counted : sent ≡ length (sentBack (siteOf (h .settings)) (processedOf (placesAt entryOf queueSize m (queueAt k) (h .queued - k)))))
-    {reply : Frame} {map′ size : ℕ} (r : reply ≡ acknowledgment true x) (e : map′ ≡ mapOf reply) (s : size ≡ wholeLength map′) where
+module _ (m output : List ℕ) (h : Header) (known : Known m h) (bytes : Bytes m) (x : Message) (fits-x : MessageFits x) (few : kindNumber (x .kind) ≤ 2)
+    (k : ℕ) (below : k < h .queued)
+    (sent : ℕ) (counted : sent ≡ length (sentBack (siteOf (h .settings)) (processedOf (placesAt entryOf queueSize m (queueAt k) (h .queued - k))))) where
   abbrev held : Gateway
   held = decode m
 
@@ -195,22 +190,19 @@ module _ (m output : List ℕ) (h : Header) (known : Known m h) (bytes : Bytes m
   sent-enough = leb (h .outstanding + sent) (h .settings .u)
 
   abbrev output-enough : Bool
-  output-enough = leb (size + 28 * sent) (length output)
+  output-enough = leb (28 * (sent + 1)) (length output)
 
-  abbrev all-enough : Bool
-  all-enough = used-enough && sent-enough && output-enough
-
-  needs-struck : fits (length output) (struckOut k x held) ≡ all-enough
+  needs-struck : fits (length output) (struckOut k x held) ≡ enough h 0 sent (length output)
   unfolding struckOut takenOut joined
   needs-struck =
       let z = sizes m h known in
       fits-by (length output) (struckOut k x held)
       {a = h .queued - 1}
       {b = h .outstanding + sent}
-      {d = size + 28 * sent}
+      {d = 28 * (sent + 1)}
       (rw (length-append, length-take, length-map, length-drop) (omega (arith, queue-count m h known)))
       (rolled-outstanding (processedOf (drop k (held .queue))) held ∙ rw (outstanding-count m h known, ← sent-is))
-      (rw (length-append, ← reply-size true x (fits-x .lamp) r e s, cancels))
+      (rw length-append (omega (arith, reply-size true x (fits-x .lamp) few, cancels)))
       ∙ rw (
         rolled-settings (processedOf (drop k (held .queue))) held,
         ← settings-are m h known,
@@ -219,16 +211,16 @@ module _ (m output : List ℕ) (h : Header) (known : Known m h) (bytes : Bytes m
         le-leb 0 (h .settings .q) (omega arith),
       )
 
-  pub struck-without-room : {ok : Bool} → ok ≡ all-enough → not ok ≡ true → {a : Answer} → (a .number ≡ 5) × (a .written ≡ 0)
+  pub struck-without-room : {ok : Bool} → ok ≡ enough h 0 sent (length output) → not ok ≡ true → {a : Answer} → (a .number ≡ 5) × (a .written ≡ 0)
       → record { answer = a; memory = m; output = output } ≡ leaving (settled (length output) held (struckOut k x held)) m output
   struck-without-room {ok} p n q = no-room m output held (struckOut k x held) (needs-struck ∙ sym p ∙ not-true ok n) q
 
-  module _ {ok : Bool} (p : ok ≡ all-enough) (n : not ok ≡ false) where
-    all-room : all-enough ≡ true
+  module _ {ok : Bool} (p : ok ≡ enough h 0 sent (length output)) (n : not ok ≡ false) where
+    all-room : enough h 0 sent (length output) ≡ true
     all-room = sym p ∙ not-false ok n
 
-    output-room : size + 28 * sent ≤ length output
-    output-room = leb-true (size + 28 * sent) (length output) (and-right (used-enough && sent-enough) output-enough all-room)
+    output-room : 28 * (sent + 1) ≤ length output
+    output-room = leb-true (28 * (sent + 1)) (length output) (and-right (used-enough && sent-enough) output-enough all-room)
 
     sent-room : h .outstanding + sent ≤ h .settings .u
     sent-room = leb-true (h .outstanding + sent) (h .settings .u) (and-right used-enough sent-enough (and-left (used-enough && sent-enough)
@@ -238,14 +230,14 @@ module _ (m output : List ℕ) (h : Header) (known : Known m h) (bytes : Bytes m
     may-strike = record { placed = as-found; places = rw (outstanding-count m h known, ← sent-is, ← settings-are m h known) sent-room }
 
     -- it is taken out
-    module _ {memory : List ℕ} {next : Header} (taking : Placed m memory next (takenOut k held)) {free : ℕ} (at : free ≡ outstandingAt (h .settings .q)
-        (h .outstanding)) where
+    module _ {memory : List ℕ} {next : Header} (taking : Placed m memory next (takenOut k held)) {reply : Frame} (r : reply ≡ acknowledgment true x)
+        {free : ℕ} (at : free ≡ outstandingAt (h .settings .q) (h .outstanding)) where
       stored : Stored memory free sent (framesFor true ms)
       unfolding takenOut
       stored = cancels-stored as-found (processedOf (drop k (held .queue))) taking refl refl at sent-is
 
       pub may-put-all : (free + outstandingSize * sent ≤ length memory) × (length (bytesOfFrames (reply ∷ storedFrames memory free sent)) ≤ length output)
-      may-put-all = may-put stored reply (rw (r, ← reply-size true x (fits-x .lamp) r e s, cancels) output-room)
+      may-put-all = may-put stored reply (rw r (omega (arith, reply-size true x (fits-x .lamp) few, cancels, output-room)))
 
       pub struck-done : {out after : List ℕ} {n : ℕ} → Puts 0 (bytesOfFrames (reply ∷ storedFrames memory free sent)) output out n
           → after ≡ write 6 (headerBack next) (write 0 (headerFront next) memory)

@@ -6,8 +6,6 @@ use effects::insert::insert_place;
 use effects::insert::waiting;
 use effects::send::outstanding_at;
 use effects::send::put_frames;
-use frame::tables::map_of;
-use frame::tables::whole_length;
 use gateway::Answer;
 use gateway::refused;
 use header::write_header;
@@ -25,7 +23,8 @@ use rollback::room::has_room;
 use rollback::undo::undo;
 use rollback::undo::undo_entry;
 use writer::outgoing::put_frame;
-ghost use Prim.Native.Nat.{_<_};
+ghost use Prim.Native.Nat.{_≤_, _<_};
+ghost use Rattle.model.specs.Messages.{kindNumber};
 ghost use Rattle.memory.specs.inside.Fits.{MessageFits};
 ghost use Rattle.gateway.specs.Effects.{settled, settling};
 ghost use Rattle.gateway.specs.Taking.{waits, takeCancel};
@@ -35,7 +34,7 @@ ghost use Rattle.rollback.specs.inside.Entering.{struckOut};
 ghost use Rattle.rollback.specs.inside.Undone.{CanTakeOut, TakesOut};
 
 pub fn take_cancel(memory: &mut [u8], output: &mut [u8], header: Header, message: Message) -> Answer
-    requires { ⌜ Known (now memory) header × MessageFits message ⌝ }
+    requires { ⌜ Known (now memory) header × MessageFits message × (kindNumber (message .kind) ≤ 2) ⌝ }
     ensures { λ r. ⌜ Leaves r memory output (λ room g. unlessBelow (message .hour) g (settled room g (takeCancel message g))) ⌝ }
 {
     if message.hour < header.agreed {
@@ -50,22 +49,15 @@ pub fn take_cancel(memory: &mut [u8], output: &mut [u8], header: Header, message
 
 // The cancel waits in a queue place, after its equals. Of the header the count alone is written: nothing else of it changes.
 fn enter_cancel(memory: &mut [u8], output: &mut [u8], header: Header, message: Message) -> Answer
-    requires { ⌜ Known (now memory) header × MessageFits message ⌝ }
+    requires { ⌜ Known (now memory) header × MessageFits message × (kindNumber (message .kind) ≤ 2) ⌝ }
     ensures { λ r. ⌜ Leaves r memory output (settling (waits message)) ⌝ }
 {
     let queued = header.queued as usize;
     let k = find(memory, queued, Search::Later, message);
-    let reply = acknowledgment(true, message);
-    if !has_room(
-        header,
-        queued + 1,
-        0,
-        whole_length(map_of(reply)),
-        output.len(),
-    ) {
+    if !has_room(header, queued + 1, 0, output.len()) {
         return refused(5);
     }
-    let written = put_frame(output, 0, reply);
+    let written = put_frame(output, 0, acknowledgment(true, message));
     insert_place(memory, queued, k, waiting(message));
     write16(memory, QUEUED_AT, header.queued + 1);
     Answer { number: 0, written }
@@ -79,16 +71,15 @@ fn strike_out(
     k: usize,
     message: Message,
 ) -> Answer
-    requires { ⌜ Known (now memory) header × (k < header .queued) × MessageFits message ⌝ }
+    requires { ⌜ Known (now memory) header × (k < header .queued) × MessageFits message × (kindNumber (message .kind) ≤ 2) ⌝ }
     ensures { λ r. ⌜ Leaves r memory output (settling (struckOut k message)) ⌝ }
 {
     let sent = count_sent(memory, header, k);
-    let reply = acknowledgment(true, message);
-    let bytes = whole_length(map_of(reply)) + 28 * sent;
-    if !has_room(header, 0, sent, bytes, output.len()) {
+    if !has_room(header, 0, sent, output.len()) {
         return refused(5);
     }
     let next = take_out(memory, header, k);
+    let reply = acknowledgment(true, message);
     let written = put_frames(memory, output, reply, outstanding_at(header), sent);
     write_header(memory, next);
     Answer { number: 0, written }

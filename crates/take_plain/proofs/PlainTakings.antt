@@ -1,8 +1,8 @@
 -- A law for each branch of taking a plain message.
 use mathlib.Core.Path.{_≡_, refl, sym, _∙_}
-use mathlib.Core.Bool.{Bool, true, false, cond, not, _&&_}
+use mathlib.Core.Bool.{Bool, true, false, not, _&&_}
 use mathlib.Core.List.{List, [], _∷_, _++_, map, append-nil}
-use Prim.Native.Nat.{ℕ, _+_, _-_, _*_, _^_, _≤_, _<_}
+use Prim.Native.Nat.{ℕ, _+_, _-_, _*_, _≤_, _<_}
 use native.Mathlib.Omega.{arith}
 use lib.Dec.{leb, lit<}
 use lib.ListN.{length, take, drop, length-append, length-take, length-drop, length-map, take-append-drop}
@@ -13,14 +13,10 @@ use Rattle.lists.specs.inside.Positions.{firstWhere, without}
 use Rattle.lists.proofs.PositionLaws.{first-bound, any-found, any-none, without-first, before-first, from-first}
 use Rattle.lists.proofs.ListLaws.{all-right}
 use Rattle.buffer.specs.Slice.{Bytes, Puts}
-use Rattle.model.specs.declared.Kind.{Kind}
+use Rattle.model.specs.Messages.{kindNumber}
 use Rattle.model.specs.declared.Message.{Message}
-use Rattle.frame.specs.Layout.{wholeLength}
-use Rattle.frame.specs.Kinds.{mapOf}
 use Rattle.frame.specs.Writing.{written}
 use Rattle.frame.specs.declared.Frame.{Frame}
-use Rattle.frame.specs.declared.Sense.the-variants.{Acknowledgment, CancelAcknowledgment}
-use Rattle.frame.proofs.Output.{whole-size}
 use Rattle.memory.specs.Layout.{queueAt, queueSize, outstandingAt, outstandingSize}
 use Rattle.memory.specs.Records.{Gateway, siteOf}
 use Rattle.memory.specs.Codec.{placesAt, entryOf, decode, encode}
@@ -41,14 +37,14 @@ use Rattle.effects.specs.inside.Placed.{Placed}
 use Rattle.effects.proofs.PlacedLaws.{placed-first, placed-rest}
 use Rattle.effects.specs.inside.Sending.{storedFrames}
 use Rattle.rollback.specs.inside.Undone.{sentByEntries, MaySendBack, undoneFrom}
-use Rattle.rollback.specs.inside.Entering.{MayEnter}
+use Rattle.rollback.specs.inside.Entering.{MayEnter, enough}
 use Rattle.rollback.proofs.SentMessages.{back-cancelled, cancels-size}
-use Rattle.frame.proofs.Sizes.{sense-small}
+use Rattle.frame.proofs.Sizes.{sense-size}
 use Rattle.rollback.proofs.RollbackLaws.{rolled-settings, rolled-outstanding}
 use Rattle.effects.proofs.StoredSent.{Stored}
 use Rattle.rollback.proofs.StoredCancels.{cancels-stored, may-put, all-put}
 use Rattle.rollback.proofs.Settling.{fits-by, no-room, with-room}
-use Rattle.gateway.proofs.Knowing.{Sizes, outstanding-count, queue-count, queue-places, settings-are, sizes}
+use Rattle.gateway.proofs.Knowing.{outstanding-count, queue-count, queue-places, settings-are, sizes}
 
 -- whether an equal cancel waits
 module _ (m output : List ℕ) (h : Header) (known : Known m h) (x : Message) (k : ℕ) (found : k ≡ firstWhere (passes CancelOf x) (entriesIn m (h .queued))) where
@@ -76,34 +72,14 @@ module _ (m output : List ℕ) (h : Header) (known : Known m h) (x : Message) (k
   unfolding takePlain
   enters b p = p ∙ rw (any-none (isCancelOf x) (decode m .queue) (omega (arith, position, queue-count m h known)))
 
--- the acknowledgment and its size as the code finds it
-module _ (cancel : Bool) (x : Message) (lamp : length (x .lamp) ≡ 18) {reply : Frame} {map size : ℕ} (r : reply ≡ acknowledgment cancel x)
-    (e : map ≡ mapOf reply) (s : size ≡ wholeLength map) where
-  pub reply-size : size ≡ length (written (acknowledgment cancel x))
-  reply-size = s ∙ rw (e, r) (sym (whole-size (acknowledgment cancel x) lamp))
+-- an acknowledgment has a sense
+pub reply-size : (cancel : Bool) (x : Message) → length (x .lamp) ≡ 18 → kindNumber (x .kind) ≤ 2 → length (written (acknowledgment cancel x)) ≡ 28
+reply-size true x lamp few = sense-size (acknowledgment true x) lamp few (omega arith)
+reply-size false x lamp few = sense-size (acknowledgment false x) lamp few (omega arith)
 
-  pub reply-room : {n : ℕ} → size ≤ n → 0 + length (written reply) ≤ n
-  reply-room l = rw (r, ← reply-size) (omega arith)
-
-  -- with so many cancels of 28 bytes it is still small
-  pub reply-small : (sent queued : ℕ) → {m : List ℕ} {h : Header} → sent ≤ h .queued - queued → Sizes m h → size + 28 * sent < 2 ^ 64
-  unfolding mapOf
-  reply-small sent queued l z =
-      let b : size ≤ 28 = rw (reply-size, whole-size (acknowledgment cancel x) lamp) (small cancel (x .kind)) in
-      omega (arith, z .queued, z .settings .q, b, l)
-    where
-      small : (cancel : Bool) (kind : Kind) → wholeLength (mapOf (record {
-        message = record {
-          hour = x .hour;
-          from = x .from;
-          to = x .to;
-          kind = kind;
-          lamp = x .lamp;
-        };
-        sense = cond cancel CancelAcknowledgment Acknowledgment;
-      })) ≤ 28
-      small true kind = sense-small kind
-      small false kind = sense-small kind
+pub reply-room : (cancel : Bool) (x : Message) → length (x .lamp) ≡ 18 → kindNumber (x .kind) ≤ 2 → {reply : Frame} → reply ≡ acknowledgment cancel x
+    → {n : ℕ} → 28 ≤ n → 0 + length (written reply) ≤ n
+reply-room cancel x lamp few r l = rw (r, reply-size cancel x lamp few) (omega arith)
 
 -- where a message enters
 pub later-bound : (m : List ℕ) (h : Header) (known : Known m h) (x : Message) (k : ℕ) → k ≡ firstWhere (passes Later x) (entriesIn m
@@ -114,15 +90,15 @@ later-bound m h known x k found =
 
 -- the message and its cancel vanish
 module _ (m output : List ℕ) (h : Header) (known : Known m h) (k : ℕ) (below : k < h .queued) (x : Message) (lamp : length (x .lamp) ≡ 18)
-    {reply : Frame} {map size : ℕ} (r : reply ≡ acknowledgment false x) (e : map ≡ mapOf reply) (s : size ≡ wholeLength map) where
+    (few : kindNumber (x .kind) ≤ 2) where
   abbrev met : Effect
   met = record { gateway = withQueue (without k (decode m .queue)) (decode m); frames = acknowledgment false x ∷ [] }
 
-  bytes-met : length (bytesOfFrames (met .frames)) ≡ size
+  bytes-met : length (bytesOfFrames (met .frames)) ≡ 28
   unfolding joined
-  bytes-met = rw append-nil (sym (reply-size false x lamp r e s))
+  bytes-met = rw append-nil (reply-size false x lamp few)
 
-  needs-met : fits (length output) met ≡ leb size (length output)
+  needs-met : fits (length output) met ≡ leb 28 (length output)
   needs-met =
       let z = sizes m h known in
       fits-by (length output) met (length-without (decode m .queue) k (omega (arith, queue-count m h known))) (outstanding-count m h known) bytes-met
@@ -134,27 +110,27 @@ module _ (m output : List ℕ) (h : Header) (known : Known m h) (k : ℕ) (below
             (h .outstanding) (h .settings .u) (z .outstanding),
       )
 
-  pub met-without-room : length output < size → {a : Answer} → (a .number ≡ 5) × (a .written ≡ 0) → record {
+  pub met-without-room : length output < 28 → {a : Answer} → (a .number ≡ 5) × (a .written ≡ 0) → record {
     answer = a;
     memory = m;
     output
         = output;
   } ≡ leaving (settled (length output) (decode m) met) m output
-  met-without-room l p = no-room m output (decode m) met (needs-met ∙ lt-leb size (length output) l) p
+  met-without-room l p = no-room m output (decode m) met (needs-met ∙ lt-leb 28 (length output) l) p
 
-  pub met-done : size ≤ length output → {out after : List ℕ} {next : ℕ} → Puts 0 (written reply) output out next → after ≡ encode (met .gateway) m
+  pub met-done : 28 ≤ length output → {reply : Frame} → reply ≡ acknowledgment false x → {out after : List ℕ} {next : ℕ}
+      → Puts 0 (written reply) output out next → after ≡ encode (met .gateway) m
       → record { answer = record { number = 0; written = next }; memory = after; output = out } ≡ leaving (settled (length output) (decode m) met) m output
   unfolding joined
-  met-done l p q =
-      with-room m output (decode m) met (needs-met ∙ le-leb size (length output) l) q
+  met-done l r p q =
+      with-room m output (decode m) met (needs-met ∙ le-leb 28 (length output) l) q
       (p .output ∙ rw (r, append-nil))
       (p .position ∙ rw (r, append-nil) (omega arith))
 
 -- a plain message enters the queue before place k: what the code counts is what it comes to
-module _ (m output : List ℕ) (h : Header) (known : Known m h) (bytes : Bytes m) (x : Message) (fits-x : MessageFits x) (k : ℕ) (found : k ≡
-    firstWhere (passes Later x) (entriesIn m (h .queued)))
-    (sent : ℕ) (counted : sent ≡ length (sentBack (siteOf (h .settings)) (processedOf (placesAt entryOf queueSize m (queueAt k) (h .queued - k)))))
-    {reply : Frame} {map′ size : ℕ} (r : reply ≡ acknowledgment false x) (e : map′ ≡ mapOf reply) (s : size ≡ wholeLength map′) where
+module _ (m output : List ℕ) (h : Header) (known : Known m h) (bytes : Bytes m) (x : Message) (fits-x : MessageFits x) (few : kindNumber (x .kind) ≤ 2)
+    (k : ℕ) (found : k ≡ firstWhere (passes Later x) (entriesIn m (h .queued)))
+    (sent : ℕ) (counted : sent ≡ length (sentBack (siteOf (h .settings)) (processedOf (placesAt entryOf queueSize m (queueAt k) (h .queued - k))))) where
   abbrev g : Gateway
   g = decode m
 
@@ -188,16 +164,13 @@ module _ (m output : List ℕ) (h : Header) (known : Known m h) (bytes : Bytes m
   places-enough = leb (h .outstanding + sent) (h .settings .u)
 
   abbrev bytes-enough : Bool
-  bytes-enough = leb (size + 28 * sent) (length output)
-
-  abbrev enough : Bool
-  enough = queue-enough && places-enough && bytes-enough
+  bytes-enough = leb (28 * (sent + 1)) (length output)
 
   cancels : length (bytesOfFrames (framesFor true ms)) ≡ 28 * sent
   cancels = cancels-size (back-cancelled (g .settings) (first .fits .header .settings) (all-right (take k (g .queue)) (drop k (g .queue))
       (rw (take-append-drop k (g .queue)) (first .fits .queue)))) ∙ rw (← sent-is)
 
-  pub needs : fits (length output) (entered x g) ≡ enough
+  pub needs : fits (length output) (entered x g) ≡ enough h (h .queued + 1) sent (length output)
   unfolding joined
   needs =
       rw entered-is
@@ -208,13 +181,13 @@ module _ (m output : List ℕ) (h : Header) (known : Known m h) (bytes : Bytes m
       })
       {a = h .queued + 1}
       {b = h .outstanding + sent}
-      {d = size + 28 * sent}
+      {d = 28 * (sent + 1)}
       (rw (length-append, length-take, length-map, length-drop) (omega (arith, place-bound, queue-count m h known)))
       (rolled-outstanding (processedOf (drop k (g .queue))) g ∙ rw (outstanding-count m h known, ← sent-is))
-      (rw (length-append, ← reply-size false x (fits-x .lamp) r e s, cancels))
+      (rw length-append (omega (arith, reply-size false x (fits-x .lamp) few, cancels)))
       ∙ rw (rolled-settings (processedOf (drop k (g .queue))) g, ← settings-are m h known))
 
-  pub entered-without-room : {ok : Bool} → ok ≡ enough → not ok ≡ true → {a : Answer} → (a .number ≡ 5) × (a .written ≡ 0) → record {
+  pub entered-without-room : {ok : Bool} → ok ≡ enough h (h .queued + 1) sent (length output) → not ok ≡ true → {a : Answer} → (a .number ≡ 5) × (a .written ≡ 0) → record {
     answer
         = a;
     memory = m;
@@ -222,12 +195,12 @@ module _ (m output : List ℕ) (h : Header) (known : Known m h) (bytes : Bytes m
   } ≡ leaving (settled (length output) g (entered x g)) m output
   entered-without-room {ok} p n q = no-room m output g (entered x g) (needs ∙ sym p ∙ not-true ok n) q
 
-  module _ {ok : Bool} (p : ok ≡ enough) (n : not ok ≡ false) where
-    room : enough ≡ true
+  module _ {ok : Bool} (p : ok ≡ enough h (h .queued + 1) sent (length output)) (n : not ok ≡ false) where
+    room : enough h (h .queued + 1) sent (length output) ≡ true
     room = sym p ∙ not-false ok n
 
-    pub bytes-room : size + 28 * sent ≤ length output
-    bytes-room = leb-true (size + 28 * sent) (length output) (and-right (queue-enough && places-enough) bytes-enough room)
+    bytes-room : 28 * (sent + 1) ≤ length output
+    bytes-room = leb-true (28 * (sent + 1)) (length output) (and-right (queue-enough && places-enough) bytes-enough room)
 
     places-room : h .outstanding + sent ≤ h .settings .u
     places-room = leb-true (h .outstanding + sent) (h .settings .u) (and-right queue-enough places-enough (and-left (queue-enough &&
@@ -252,13 +225,13 @@ module _ (m output : List ℕ) (h : Header) (known : Known m h) (bytes : Bytes m
             (omega (arith, place-bound, queue-count m h known, queue-room));
       })
 
-      module _ {free : ℕ} (at : free ≡ outstandingAt (h .settings .q) (h .outstanding)) where
+      module _ {reply : Frame} (r : reply ≡ acknowledgment false x) {free : ℕ} (at : free ≡ outstandingAt (h .settings .q) (h .outstanding)) where
         stored : Stored memory free sent (framesFor true ms)
         unfolding undoneFrom
         stored = cancels-stored first (processedOf (drop k (g .queue))) undoing refl refl at sent-is
 
         pub may-put-all : (free + outstandingSize * sent ≤ length memory) × (length (bytesOfFrames (reply ∷ storedFrames memory free sent)) ≤ length output)
-        may-put-all = may-put stored reply (rw (r, ← reply-size false x (fits-x .lamp) r e s, cancels) bytes-room)
+        may-put-all = may-put stored reply (rw r (omega (arith, reply-size false x (fits-x .lamp) few, cancels, bytes-room)))
 
         pub entered-done : {out : List ℕ} {n : ℕ} → Puts 0 (bytesOfFrames (reply ∷ storedFrames memory free sent)) output out n → {entry : Entry}
             {after : List ℕ} → entry ≡ pendingEntry x → after ≡ encode (withQueue (take k (undoneFrom k g .queue) ++ (entry ∷ drop k (undoneFrom k

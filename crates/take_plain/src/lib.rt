@@ -2,8 +2,7 @@
 use effects::insert::pending;
 use effects::send::outstanding_at;
 use effects::send::put_frames;
-use frame::tables::map_of;
-use frame::tables::whole_length;
+use frame::lamps::SENSE_LENGTH;
 use gateway::Answer;
 use gateway::refused;
 use memory::Header;
@@ -18,9 +17,10 @@ use rollback::room::has_room;
 use rollback::undo::undo;
 use writer::outgoing::put_frame;
 ghost use mathlib.Core.Path.{_≡_};
-ghost use Prim.Native.Nat.{_<_};
+ghost use Prim.Native.Nat.{_≤_, _<_};
 ghost use lib.ListN.{length};
 ghost use Rattle.lists.specs.inside.Positions.{without};
+ghost use Rattle.model.specs.Messages.{kindNumber};
 ghost use Rattle.memory.specs.inside.Fits.{MessageFits};
 ghost use Rattle.gateway.specs.Effects.{settled, settling};
 ghost use Rattle.gateway.specs.Taking.{entered, vanished, takePlain};
@@ -28,7 +28,7 @@ ghost use Rattle.gateway.specs.Calls.{unlessBelow};
 ghost use Rattle.gateway.specs.inside.Premises.{Known, Leaves};
 
 pub fn take_plain(memory: &mut [u8], output: &mut [u8], header: Header, message: Message) -> Answer
-    requires { ⌜ Known (now memory) header × MessageFits message ⌝ }
+    requires { ⌜ Known (now memory) header × MessageFits message × (kindNumber (message .kind) ≤ 2) ⌝ }
     ensures { λ r. ⌜ Leaves r memory output (λ room g. unlessBelow (message .hour) g (settled room g (takePlain message g))) ⌝ }
 {
     if message.hour < header.agreed {
@@ -50,32 +50,30 @@ fn meet_cancel(
     k: usize,
     message: Message,
 ) -> Answer
-    requires { ⌜ Known (now memory) header × (k < header .queued) × (length (message .lamp) ≡ 18) ⌝ }
+    requires { ⌜ Known (now memory) header × (k < header .queued) × (length (message .lamp) ≡ 18) × (kindNumber (message .kind) ≤ 2) ⌝ }
     ensures { λ r. ⌜ Leaves r memory output (settling (λ g. vanished message (without k (g .queue)) g)) ⌝ }
 {
-    let reply = acknowledgment(false, message);
-    if output.len() < whole_length(map_of(reply)) {
+    if output.len() < SENSE_LENGTH {
         return refused(5);
     }
-    let written = put_frame(output, 0, reply);
+    let written = put_frame(output, 0, acknowledgment(false, message));
     remove_entry(memory, header, k);
     Answer { number: 0, written }
 }
 
 // The message enters the queue, and the processed messages behind it are undone.
 fn enter_plain(memory: &mut [u8], output: &mut [u8], header: Header, message: Message) -> Answer
-    requires { ⌜ Known (now memory) header × MessageFits message ⌝ }
+    requires { ⌜ Known (now memory) header × MessageFits message × (kindNumber (message .kind) ≤ 2) ⌝ }
     ensures { λ r. ⌜ Leaves r memory output (settling (entered message)) ⌝ }
 {
     let queued = header.queued as usize;
     let k = find(memory, queued, Search::Later, message);
     let sent = count_sent(memory, header, k);
-    let reply = acknowledgment(false, message);
-    let bytes = whole_length(map_of(reply)) + 28 * sent;
-    if !has_room(header, queued + 1, sent, bytes, output.len()) {
+    if !has_room(header, queued + 1, sent, output.len()) {
         return refused(5);
     }
     let next = undo(memory, header, k);
+    let reply = acknowledgment(false, message);
     let end = put_frames(memory, output, reply, outstanding_at(header), sent);
     enter(memory, next, k, pending(message));
     Answer {

@@ -1,34 +1,21 @@
 -- `announce::announce` meets its contract.
 use native.Mathlib.Omega.{arith}
 use Rattle.buffer.proofs.Lent.{bytes-known}
-use Rattle.model.proofs.KindNumbers.{kind-below}
 use Rattle.announce.proofs.Announcing.{two-small, announce-room, changed-long, announce-none, announce-done}
 use borrow.Author.Needs.{needs}
 use Rattle.announce.proofs.announce.Statement.{statement}
 use Rattle.announce.proofs.announce.Tie as tie
 
-kind-number-requires : tie.Need-kind-number-requires
-kind-number-requires c κs = search needs
-
-map-of-kind-requires : tie.Need-map-of-kind-requires
-map-of-kind-requires c κs = omega (arith, c .kind-number .ensures, kind-below (c .before .before .before .before .args .kind))
-
-whole-length-requires : tie.Need-whole-length-requires
-whole-length-requires c κs = search needs
-
 cast-written : tie.Need-cast-written
 cast-written c = search needs
 
+length-in-round-requires : tie.Need-length-in-round-requires
+length-in-round-requires c κs = c .before .before .before .before .pre .2
+
 mul-written : tie.Need-mul-written
 mul-written c =
-    let at-whole-length = c .before in
-    let at-map-of-kind = at-whole-length .before in
-    let at-kind-number = at-map-of-kind .before in
-    let start = at-kind-number .before .before .before .before in
-    record {
-      fits = two-small (start .args .kind) _ (start .pre .1) (at-kind-number .kind-number .ensures)
-          (at-map-of-kind .map-of-kind .ensures) (at-whole-length .whole-length .ensures);
-    }
+    let start = c .before .before .before .before .before in
+    record { fits = two-small (start .args .kind) _ (start .pre .1) (c .length-in-round .ensures) }
 
 refused-requires : tie.Need-refused-requires
 refused-requires c κs = search needs
@@ -36,30 +23,24 @@ refused-requires c κs = search needs
 returns : tie.Need-returns
 returns c =
     let at-if1 = c .before in
-    let at-whole-length = at-if1 .before .before in
-    let at-map-of-kind = at-whole-length .before in
-    let at-kind-number = at-map-of-kind .before in
-    let at-slice-known = at-kind-number .before .before .before in
+    let at-length-in-round = at-if1 .before in
+    let at-slice-known = at-length-in-round .before .before .before .before in
     let start = at-slice-known .before in
     announce-none _ _ (start .pre .0) (bytes-known (start .args .memory .now) (at-slice-known .slice-known .given)) _ _ _ (start .pre .1) _
-    (at-kind-number .kind-number .ensures) (at-map-of-kind .map-of-kind .ensures) (at-whole-length .whole-length .ensures)
-    (at-if1 .if1 .taken) (c .refused .ensures)
+    (at-length-in-round .length-in-round .ensures) (at-if1 .if1 .taken) (c .refused .ensures)
 
 put-each-requires : tie.Need-put-each-requires
 put-each-requires c κs =
     let at-if1 = c .before in
-    let at-whole-length = at-if1 .before .before in
-    let at-map-of-kind = at-whole-length .before in
-    let at-kind-number = at-map-of-kind .before in
-    let at-slice-known = at-kind-number .before .before .before in
+    let at-length-in-round = at-if1 .before in
+    let at-slice-known = at-length-in-round .before .before .before .before in
     let start = at-slice-known .before in
     announce-room _ _ (start .pre .0) (bytes-known (start .args .memory .now) (at-slice-known .slice-known .given)) _ _ _ (start .pre .1)
-    (start .args .output .now) (at-kind-number .kind-number .ensures) (at-map-of-kind .map-of-kind .ensures)
-    (at-whole-length .whole-length .ensures) (at-if1 .if1 .left)
+    (start .args .output .now) (at-length-in-round .length-in-round .ensures) (at-if1 .if1 .left)
 
 write-header-requires : tie.Need-write-header-requires
 write-header-requires c κs =
-    let start = c .before .before .before .before .before .before .before .before .before .before .before .before .before in
+    let start = c .before .before .before .before .before .before .before .before .before .before .before in
     let z = changed-long _ _ (start .pre .0) in omega arith
 
 same-length : tie.Need-same-length
@@ -73,23 +54,19 @@ returns-2 c =
     let at-write-header = c .before .before in
     let at-put-each = at-write-header .before .before .before .before in
     let at-if1 = at-put-each .before .before in
-    let at-whole-length = at-if1 .before .before in
-    let at-map-of-kind = at-whole-length .before in
-    let at-kind-number = at-map-of-kind .before in
-    let at-slice-known = at-kind-number .before .before .before in
+    let at-length-in-round = at-if1 .before in
+    let at-slice-known = at-length-in-round .before .before .before .before in
     let start = at-slice-known .before in
     announce-done _ _ (start .pre .0) (bytes-known (start .args .memory .now) (at-slice-known .slice-known .given)) _ _ _ (start .pre .1) _
-    (at-kind-number .kind-number .ensures) (at-map-of-kind .map-of-kind .ensures) (at-whole-length .whole-length .ensures)
-    (at-if1 .if1 .left) (at-write-header .write-header .ensures) (at-put-each .put-each .ensures)
+    (at-length-in-round .length-in-round .ensures) (at-if1 .if1 .left) (at-write-header .write-header .ensures)
+    (at-put-each .put-each .ensures)
 
 pub announce-spec : {M : Type 1} → statement M
 announce-spec =
     tie.close
     (tie.spec
-    kind-number-requires
-    map-of-kind-requires
-    whole-length-requires
     cast-written
+    length-in-round-requires
     mul-written
     refused-requires
     returns

@@ -1,6 +1,6 @@
 -- `commit::commit_oldest` meets its contract.
 use native.Mathlib.Omega.{arith}
-use Rattle.commit.proofs.Recording.{nothing-to-commit, place-below, not-yet, lamp-whole, stock-whole, commits}
+use Rattle.commit.proofs.Recording.{nothing-to-commit, place-below, not-yet, lamp-whole, kind-whole, stock-whole, commits}
 use borrow.Author.Needs.{needs}
 use Rattle.gateway.proofs.Knowing.{sizes}
 use Rattle.commit.proofs.commit_oldest.Statement.{statement}
@@ -75,6 +75,7 @@ commit-place-requires c κs =
       place-below _ _ (start .pre) _ (at-next-marked .next-marked .ensures) (at-if1 .if1 .left),
       lamp-whole _ _ (start .pre) _
           (at-next-marked .next-marked .ensures) (at-if1 .if1 .left) _ (at-read-entry .read-entry .ensures),
+      kind-whole _ _ (start .pre) _ (at-next-marked .next-marked .ensures) (at-if1 .if1 .left) _ (at-read-entry .read-entry .ensures),
       stock-whole _ _ (start .pre) _ (at-next-marked .next-marked .ensures) (at-if1 .if1 .left) _ (at-read-entry .read-entry .ensures),
     )
 

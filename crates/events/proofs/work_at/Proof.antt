@@ -1,6 +1,7 @@
 -- `events::work_at` meets its contract.
 use mathlib.Core.Path.{refl}
 use native.Mathlib.Omega.{arith}
+use Rattle.model.proofs.Sending.{reply-kind}
 use Rattle.events.proofs.EventDone.{no-room, event-done, bytes-inside, may-send}
 use borrow.Author.Needs.{needs}
 use Rattle.events.proofs.work_at.Statement.{statement}
@@ -22,7 +23,7 @@ reply-to-requires : tie.Need-reply-to-requires
 reply-to-requires c κs = search needs
 
 reply-bytes-requires : tie.Need-reply-bytes-requires
-reply-bytes-requires c κs = search needs
+reply-bytes-requires c κs = reply-kind _ _ _ (c .reply-to .ensures)
 
 sub-has-room : tie.Need-sub-has-room
 sub-has-room c = let start = c .before .before .before .before .before .before .before .before .before .before .before in start .pre .0 .written

@@ -1,8 +1,9 @@
--- Entering a queue place, and what a cancel does that meets an equal plain message in a known place.
-use Prim.Native.Nat.{ℕ, suc, _≤_}
-use mathlib.Core.Bool.{true}
+-- Entering a queue place, the room for it, and what a cancel does that meets an equal plain message in a known place.
+use Prim.Native.Nat.{ℕ, suc, _+_, _*_, _≤_}
+use mathlib.Core.Bool.{Bool, true, _&&_}
 use mathlib.Core.Path.{_≡_}
 use mathlib.Core.List.{List, _∷_, _++_}
+use lib.Dec.{leb}
 use lib.ListN.{length, take, drop}
 use Rattle.model.specs.declared.Message.{Message}
 use Rattle.memory.specs.Records.{Gateway}
@@ -34,3 +35,7 @@ CanEnter memory h k e = (before : List ℕ) × (g : Gateway) × MayEnter before 
 abbrev pub Enters : List ℕ → List ℕ → Header → ℕ → Entry → Type 0
 Enters memory memory′ h k e =
     (before : List ℕ) (g : Gateway) → MayEnter before g memory h k e → memory′ ≡ encode (withQueue (take k (g .queue) ++ (e ∷ drop k (g .queue))) g) before
+
+-- so many used queue places, so many more outstanding ones, and as many cancels and an acknowledgment, of 28 bytes each, in so many bytes
+abbrev pub enough : Header → ℕ → ℕ → ℕ → Bool
+enough h queued sent room = leb queued (h .settings .q) && leb (h .outstanding + sent) (h .settings .u) && leb (28 * (sent + 1)) room

@@ -1,6 +1,6 @@
 -- `take::take_bytes` meets its contract.
 use Rattle.buffer.proofs.Lent.{bytes-known}
-use Rattle.gateway.proofs.Dispatching.{form-refused, form-taken, read-fits}
+use Rattle.gateway.proofs.Dispatching.{form-refused, form-taken, read-fits, read-formed}
 use borrow.Author.Needs.{needs}
 use Rattle.take.proofs.take_bytes.Statement.{statement}
 use Rattle.take.proofs.take_bytes.Tie as tie
@@ -19,13 +19,14 @@ returns c = search form-refused
 
 take-checked-requires : tie.Need-take-checked-requires
 take-checked-requires c κs =
-    let at-read = c .before .before .before .before in
+    let at-if1 = c .before .before in
+    let at-form-refusal = at-if1 .before in
+    let at-read = at-form-refusal .before in
     let at-shared-slice-known = at-read .before .before in
-    let start = at-shared-slice-known .before .before in (
-      start .pre,
-      read-fits _ (bytes-known (start .args .frame .now) (at-shared-slice-known .shared-slice-known .given))
-          (at-read .read .ensures .0),
-    )
+    let start = at-shared-slice-known .before .before in
+    let b = bytes-known (start .args .frame .now) (at-shared-slice-known .shared-slice-known .given) in
+    let r = at-read .read .ensures .0 in
+    (start .pre, read-fits _ b r, read-formed _ b r (at-form-refusal .form-refusal .ensures) (at-if1 .if1 .left))
 
 same-length : tie.Need-same-length
 same-length c = search needs

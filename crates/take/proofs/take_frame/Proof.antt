@@ -1,8 +1,21 @@
 -- `take::take_frame` meets its contract.
+use mathlib.Core.Path.{_≡_, sym, _∙_, ap}
+use mathlib.Core.Bool.{true}
+use Prim.Native.Nat.{_≤_}
+use Rattle.model.specs.Messages.{kindNumber}
+use Rattle.frame.specs.Writing.{wellFormed}
+use Rattle.frame.specs.declared.Frame.{Frame}
+use Rattle.frame.specs.declared.Sense.{Sense}
+use Rattle.frame.specs.declared.Sense.the-variants.{Cancel}
 use Rattle.gateway.proofs.Dispatching.{sense-plain, sense-cancel, sense-acknowledgment, sense-cancel-acknowledgment}
+use Rattle.gateway.proofs.Accepting.{cancel-kind}
 use borrow.Author.Needs.{needs}
 use Rattle.take.proofs.take_frame.Statement.{statement}
 use Rattle.take.proofs.take_frame.Tie as tie
+
+-- a cancel has a lamp
+cancelled : (f : Frame) → f .sense ≡ Cancel → wellFormed f ≡ true → kindNumber (f .message .kind) ≤ 2
+cancelled f e h = cancel-kind (f .message) (ap (λ (t : Sense). wellFormed (record { message = f .message; sense = t })) (sym e) ∙ h)
 
 enum-told : tie.Need-enum-told
 enum-told c = search needs
@@ -14,7 +27,9 @@ enum-told-2 : tie.Need-enum-told-2
 enum-told-2 c = search needs
 
 take-cancel-requires : tie.Need-take-cancel-requires
-take-cancel-requires c κs = search needs
+take-cancel-requires c κs =
+    let start = c .before .before .before .before .before .before .before in
+    (start .pre .0, start .pre .1, search cancelled)
 
 enum-told-3 : tie.Need-enum-told-3
 enum-told-3 c = search needs

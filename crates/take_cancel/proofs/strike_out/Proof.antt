@@ -1,8 +1,6 @@
 -- `take_cancel::strike_out` meets its contract.
-use mathlib.Core.Bool.{true}
 use native.Mathlib.Omega.{arith}
 use Rattle.buffer.proofs.Lent.{bytes-known}
-use Rattle.take_plain.proofs.PlainTakings.{reply-small}
 use Rattle.take_cancel.proofs.CancelTakings.{struck-below, struck-without-room, may-strike, may-put-all, struck-done}
 use borrow.Author.Needs.{needs}
 use Rattle.gateway.proofs.Knowing.{sizes}
@@ -14,37 +12,10 @@ count-sent-requires c κs =
     let start = c .before .before .before in
     let z = sizes _ _ (start .pre .0) in (omega (arith, start .pre .1), omega (arith, z .long, z .queued))
 
-acknowledgment-requires : tie.Need-acknowledgment-requires
-acknowledgment-requires c κs = search needs
-
-map-of-requires : tie.Need-map-of-requires
-map-of-requires c κs = search needs
-
-whole-length-requires : tie.Need-whole-length-requires
-whole-length-requires c κs = search needs
-
-mul-bytes : tie.Need-mul-bytes
-mul-bytes c =
-    let at-count-sent = c .before .before .before in
-    let start = at-count-sent .before .before .before .before in
-    let z = sizes _ _ (start .pre .0) in record { fits = omega (arith, z .queued, z .settings .q, at-count-sent .count-sent .ensures .1) }
-
-add-bytes : tie.Need-add-bytes
-add-bytes c =
-    let at-map-of = c .before in
-    let at-acknowledgment = at-map-of .before in
-    let at-count-sent = at-acknowledgment .before in
-    let start = at-count-sent .before .before .before .before in
-    record {
-      fits = reply-small true _ (start .pre .2 .lamp) (at-acknowledgment .acknowledgment .ensures) (at-map-of .map-of .ensures)
-          (c .whole-length .ensures) _ _ (at-count-sent .count-sent .ensures .1) (sizes _ _ (start .pre .0));
-    }
-
 has-room-requires : tie.Need-has-room-requires
 has-room-requires c κs =
-    let at-count-sent = c .before .before .before in
-    let start = at-count-sent .before .before .before .before in
-    let z = sizes _ _ (start .pre .0) in omega (arith, z .queued, z .settings .q, at-count-sent .count-sent .ensures .1)
+    let start = c .before .before .before .before in
+    let z = sizes _ _ (start .pre .0) in omega (arith, z .queued, z .settings .q, c .count-sent .ensures .1)
 
 refused-requires : tie.Need-refused-requires
 refused-requires c κs = search needs
@@ -56,65 +27,54 @@ returns : tie.Need-returns
 returns c =
     let at-if1 = c .before in
     let at-has-room = at-if1 .before in
-    let at-whole-length = at-has-room .before in
-    let at-map-of = at-whole-length .before in
-    let at-acknowledgment = at-map-of .before in
-    let at-count-sent = at-acknowledgment .before in
+    let at-count-sent = at-has-room .before in
     let at-slice-known = at-count-sent .before .before .before in
     let start = at-slice-known .before in
     let b = bytes-known (start .args .memory .now) (at-slice-known .slice-known .given) in
-    struck-without-room (start .args .memory .now) (start .args .output .now) _ (start .pre .0) b _ (start .pre .2) _ (start .pre .1) _
-    (at-count-sent .count-sent .ensures .0) (at-acknowledgment .acknowledgment .ensures) (at-map-of .map-of .ensures)
-    (at-whole-length .whole-length .ensures) (at-has-room .has-room .ensures) (at-if1 .if1 .taken) (c .refused .ensures)
+    struck-without-room (start .args .memory .now) (start .args .output .now) _ (start .pre .0) b _ (start .pre .2) (start .pre .3) _ (start .pre .1) _
+    (at-count-sent .count-sent .ensures .0) (at-has-room .has-room .ensures) (at-if1 .if1 .taken) (c .refused .ensures)
 
 take-out-requires : tie.Need-take-out-requires
 take-out-requires c κs =
     let at-if1 = c .before in
     let at-has-room = at-if1 .before in
-    let at-whole-length = at-has-room .before in
-    let at-map-of = at-whole-length .before in
-    let at-acknowledgment = at-map-of .before in
-    let at-count-sent = at-acknowledgment .before in
+    let at-count-sent = at-has-room .before in
     let at-slice-known = at-count-sent .before .before .before in
     let start = at-slice-known .before in
-    let b = bytes-known (start .args .memory .now) (at-slice-known .slice-known .given) in (
-      _,
-      struck-below (start .args .memory .now) (start .args .output .now) _ (start .pre .0) b _ (start .pre .2) _ (start .pre .1) _
-          (at-count-sent .count-sent .ensures .0) (at-acknowledgment .acknowledgment .ensures) (at-map-of .map-of .ensures)
-          (at-whole-length .whole-length .ensures),
-      may-strike (start .args .memory .now) (start .args .output .now) _ (start .pre .0) b _ (start .pre .2) _ (start .pre .1) _
-          (at-count-sent .count-sent .ensures .0) (at-acknowledgment .acknowledgment .ensures) (at-map-of .map-of .ensures)
-          (at-whole-length .whole-length .ensures) (at-has-room .has-room .ensures) (at-if1 .if1 .left),
-    )
+    let b = bytes-known (start .args .memory .now) (at-slice-known .slice-known .given) in
+    let low = struck-below (start .args .memory .now) (start .args .output .now) _ (start .pre .0) b _ (start .pre .2) (start .pre .3) _ (start .pre .1) _
+    (at-count-sent .count-sent .ensures .0) in
+    let may = may-strike (start .args .memory .now) (start .args .output .now) _ (start .pre .0) b _ (start .pre .2) (start .pre .3) _ (start .pre .1) _
+    (at-count-sent .count-sent .ensures .0) (at-has-room .has-room .ensures) (at-if1 .if1 .left) in
+    (_, low, may)
+
+acknowledgment-requires : tie.Need-acknowledgment-requires
+acknowledgment-requires c κs = search needs
 
 outstanding-at-requires : tie.Need-outstanding-at-requires
 outstanding-at-requires c κs = search needs
 
 put-frames-requires : tie.Need-put-frames-requires
 put-frames-requires c κs =
-    let at-take-out = c .before .before .before .before .before in
+    let at-acknowledgment = c .before .before .before in
+    let at-take-out = at-acknowledgment .before .before .before in
     let at-if1 = at-take-out .before .before in
     let at-has-room = at-if1 .before in
-    let at-whole-length = at-has-room .before in
-    let at-map-of = at-whole-length .before in
-    let at-acknowledgment = at-map-of .before in
-    let at-count-sent = at-acknowledgment .before in
+    let at-count-sent = at-has-room .before in
     let at-slice-known = at-count-sent .before .before .before in
     let start = at-slice-known .before in
     let b = bytes-known (start .args .memory .now) (at-slice-known .slice-known .given) in
-    let t = at-take-out .take-out .ensures _ (struck-below (start .args .memory .now) (start .args .output .now) _ (start .pre .0) b _ (start .pre .2) _ (start .pre .1) _
-    (at-count-sent .count-sent .ensures .0) (at-acknowledgment .acknowledgment .ensures) (at-map-of .map-of .ensures)
-    (at-whole-length .whole-length .ensures)) (may-strike (start .args .memory .now) (start .args .output .now) _ (start .pre .0) b _ (start .pre .2) _ (start .pre .1) _
-    (at-count-sent .count-sent .ensures .0) (at-acknowledgment .acknowledgment .ensures) (at-map-of .map-of .ensures)
-    (at-whole-length .whole-length .ensures) (at-has-room .has-room .ensures) (at-if1 .if1 .left)) in
-    may-put-all (start .args .memory .now) (start .args .output .now) _ (start .pre .0) b _ (start .pre .2) _ (start .pre .1) _
-    (at-count-sent .count-sent .ensures .0) (at-acknowledgment .acknowledgment .ensures) (at-map-of .map-of .ensures)
-    (at-whole-length .whole-length .ensures) (at-has-room .has-room .ensures) (at-if1 .if1 .left) t (c .outstanding-at .ensures)
+    let low = struck-below (start .args .memory .now) (start .args .output .now) _ (start .pre .0) b _ (start .pre .2) (start .pre .3) _ (start .pre .1) _
+    (at-count-sent .count-sent .ensures .0) in
+    let may = may-strike (start .args .memory .now) (start .args .output .now) _ (start .pre .0) b _ (start .pre .2) (start .pre .3) _ (start .pre .1) _
+    (at-count-sent .count-sent .ensures .0) (at-has-room .has-room .ensures) (at-if1 .if1 .left) in
+    may-put-all (start .args .memory .now) (start .args .output .now) _ (start .pre .0) b _ (start .pre .2) (start .pre .3) _ (start .pre .1) _
+    (at-count-sent .count-sent .ensures .0) (at-has-room .has-room .ensures) (at-if1 .if1 .left)
+    (at-take-out .take-out .ensures _ low may) (at-acknowledgment .acknowledgment .ensures) (c .outstanding-at .ensures)
 
 write-header-requires : tie.Need-write-header-requires
 write-header-requires c κs =
-    let start =
-    c .before .before .before .before .before .before .before .before .before .before .before .before .before .before .before .before .before .before .before .before in
+    let start = c .before .before .before .before .before .before .before .before .before .before .before .before .before .before .before .before .before .before in
     let z = sizes _ _ (start .pre .0) in omega arith
 
 same-length-2 : tie.Need-same-length-2
@@ -128,40 +88,34 @@ returns-2 c =
     let at-write-header = c .before .before in
     let at-put-frames = at-write-header .before .before .before .before in
     let at-outstanding-at = at-put-frames .before in
-    let at-take-out = at-outstanding-at .before .before .before .before .before in
+    let at-acknowledgment = at-outstanding-at .before .before .before in
+    let at-take-out = at-acknowledgment .before .before .before in
     let at-if1 = at-take-out .before .before in
     let at-has-room = at-if1 .before in
-    let at-whole-length = at-has-room .before in
-    let at-map-of = at-whole-length .before in
-    let at-acknowledgment = at-map-of .before in
-    let at-count-sent = at-acknowledgment .before in
+    let at-count-sent = at-has-room .before in
     let at-slice-known = at-count-sent .before .before .before in
     let start = at-slice-known .before in
     let b = bytes-known (start .args .memory .now) (at-slice-known .slice-known .given) in
-    let t = at-take-out .take-out .ensures _ (struck-below (start .args .memory .now) (start .args .output .now) _ (start .pre .0) b _ (start .pre .2) _ (start .pre .1) _
-    (at-count-sent .count-sent .ensures .0) (at-acknowledgment .acknowledgment .ensures) (at-map-of .map-of .ensures)
-    (at-whole-length .whole-length .ensures)) (may-strike (start .args .memory .now) (start .args .output .now) _ (start .pre .0) b _ (start .pre .2) _ (start .pre .1) _
-    (at-count-sent .count-sent .ensures .0) (at-acknowledgment .acknowledgment .ensures) (at-map-of .map-of .ensures)
-    (at-whole-length .whole-length .ensures) (at-has-room .has-room .ensures) (at-if1 .if1 .left)) in
-    struck-done (start .args .memory .now) (start .args .output .now) _ (start .pre .0) b _ (start .pre .2) _ (start .pre .1) _
-    (at-count-sent .count-sent .ensures .0) (at-acknowledgment .acknowledgment .ensures) (at-map-of .map-of .ensures)
-    (at-whole-length .whole-length .ensures) (at-has-room .has-room .ensures) (at-if1 .if1 .left) t (at-outstanding-at .outstanding-at .ensures) (at-put-frames .put-frames .ensures) (at-write-header .write-header .ensures)
+    let low = struck-below (start .args .memory .now) (start .args .output .now) _ (start .pre .0) b _ (start .pre .2) (start .pre .3) _ (start .pre .1) _
+    (at-count-sent .count-sent .ensures .0) in
+    let may = may-strike (start .args .memory .now) (start .args .output .now) _ (start .pre .0) b _ (start .pre .2) (start .pre .3) _ (start .pre .1) _
+    (at-count-sent .count-sent .ensures .0) (at-has-room .has-room .ensures) (at-if1 .if1 .left) in
+    struck-done (start .args .memory .now) (start .args .output .now) _ (start .pre .0) b _ (start .pre .2) (start .pre .3) _ (start .pre .1) _
+    (at-count-sent .count-sent .ensures .0) (at-has-room .has-room .ensures) (at-if1 .if1 .left)
+    (at-take-out .take-out .ensures _ low may) (at-acknowledgment .acknowledgment .ensures) (at-outstanding-at .outstanding-at .ensures)
+    (at-put-frames .put-frames .ensures) (at-write-header .write-header .ensures)
 
 pub strike-out-spec : {M : Type 1} → statement M
 strike-out-spec =
     tie.close
     (tie.spec
     count-sent-requires
-    acknowledgment-requires
-    map-of-requires
-    whole-length-requires
-    mul-bytes
-    add-bytes
     has-room-requires
     refused-requires
     same-length
     returns
     take-out-requires
+    acknowledgment-requires
     outstanding-at-requires
     put-frames-requires
     write-header-requires

@@ -51,6 +51,7 @@ strike-out-requires c κs =
       last-below (start .args .memory .now) (start .args .output .now) _ (start .pre .0) _ _
           (at-past-last-equal .past-last-equal .ensures) (at-if2 .if2 .left),
       start .pre .1,
+      start .pre .2,
     )
 
 same-length-3 : tie.Need-same-length-3

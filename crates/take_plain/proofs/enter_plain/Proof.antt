@@ -1,9 +1,7 @@
 -- `take_plain::enter_plain` meets its contract.
-use mathlib.Core.Bool.{false}
 use native.Mathlib.Omega.{arith}
 use Rattle.buffer.proofs.Lent.{bytes-known}
-use Rattle.take_plain.proofs.PlainTakings.{later-bound, reply-small, place-bound, entered-without-room, may-send, may-put-all}
-use Rattle.take_plain.proofs.PlainTakings.{may-enter, entered-done}
+use Rattle.take_plain.proofs.PlainTakings.{later-bound, place-bound, entered-without-room, may-send, may-put-all, may-enter, entered-done}
 use borrow.Author.Needs.{needs}
 use Rattle.gateway.proofs.Knowing.{sizes}
 use Rattle.take_plain.proofs.enter_plain.Statement.{statement}
@@ -21,35 +19,12 @@ count-sent-requires c κs =
     let start = at-find .before .before .before .before .before in
     let z = sizes _ _ (start .pre .0) in (later-bound _ _ (start .pre .0) _ _ (at-find .find .ensures), omega (arith, z .long, z .queued))
 
-acknowledgment-requires : tie.Need-acknowledgment-requires
-acknowledgment-requires c κs = search needs
-
-map-of-requires : tie.Need-map-of-requires
-map-of-requires c κs = search needs
-
-whole-length-requires : tie.Need-whole-length-requires
-whole-length-requires c κs = search needs
-
-mul-bytes : tie.Need-mul-bytes
-mul-bytes c = search needs
-
-add-bytes : tie.Need-add-bytes
-add-bytes c =
-    let at-map-of = c .before in
-    let at-acknowledgment = at-map-of .before in
-    let at-count-sent = at-acknowledgment .before in
-    let start = at-count-sent .before .before .before .before .before .before .before in
-    record {
-      fits = reply-small false _ (start .pre .1 .lamp) (at-acknowledgment .acknowledgment .ensures) (at-map-of .map-of .ensures)
-          (c .whole-length .ensures) _ _ (at-count-sent .count-sent .ensures .1) (sizes _ _ (start .pre .0));
-    }
-
 add-has-room : tie.Need-add-has-room
 add-has-room c = search needs
 
 has-room-requires : tie.Need-has-room-requires
 has-room-requires c κs =
-    let at-count-sent = c .before .before .before in
+    let at-count-sent = c in
     let start = at-count-sent .before .before .before .before .before .before .before in
     let z = sizes _ _ (start .pre .0) in omega (arith, z .queued, z .settings .q, at-count-sent .count-sent .ensures .1)
 
@@ -63,94 +38,77 @@ returns : tie.Need-returns
 returns c =
     let at-if1 = c .before in
     let at-has-room = at-if1 .before in
-    let at-whole-length = at-has-room .before in
-    let at-map-of = at-whole-length .before in
-    let at-acknowledgment = at-map-of .before in
-    let at-count-sent = at-acknowledgment .before in
+    let at-count-sent = at-has-room .before in
     let at-find = at-count-sent .before .before in
     let at-slice-known = at-find .before .before .before .before in
     let start = at-slice-known .before in
     let b = bytes-known (start .args .memory .now) (at-slice-known .slice-known .given) in
-    entered-without-room (start .args .memory .now) (start .args .output .now) _ (start .pre .0) b _ (start .pre .1) _
-    (at-find .find .ensures) _ (at-count-sent .count-sent .ensures .0) (at-acknowledgment .acknowledgment .ensures)
-    (at-map-of .map-of .ensures) (at-whole-length .whole-length .ensures) (at-has-room .has-room .ensures) (at-if1 .if1 .taken)
-    (c .refused .ensures)
+    entered-without-room (start .args .memory .now) (start .args .output .now) _ (start .pre .0) b _ (start .pre .1) (start .pre .2) _ (at-find .find .ensures) _
+    (at-count-sent .count-sent .ensures .0)
+    (at-has-room .has-room .ensures) (at-if1 .if1 .taken) (c .refused .ensures)
 
 undo-requires : tie.Need-undo-requires
 undo-requires c κs =
     let at-if1 = c .before in
     let at-has-room = at-if1 .before in
-    let at-whole-length = at-has-room .before in
-    let at-map-of = at-whole-length .before in
-    let at-acknowledgment = at-map-of .before in
-    let at-count-sent = at-acknowledgment .before in
+    let at-count-sent = at-has-room .before in
     let at-find = at-count-sent .before .before in
     let at-slice-known = at-find .before .before .before .before in
     let start = at-slice-known .before in
-    let b = bytes-known (start .args .memory .now) (at-slice-known .slice-known .given) in (
-      _,
-      _,
-      place-bound (start .args .memory .now) (start .args .output .now) _ (start .pre .0) b _ (start .pre .1) _ (at-find .find .ensures) _
-          (at-count-sent .count-sent .ensures .0) (at-acknowledgment .acknowledgment .ensures) (at-map-of .map-of .ensures)
-          (at-whole-length .whole-length .ensures),
-      may-send (start .args .memory .now) (start .args .output .now) _ (start .pre .0) b _ (start .pre .1) _ (at-find .find .ensures) _
-          (at-count-sent .count-sent .ensures .0) (at-acknowledgment .acknowledgment .ensures) (at-map-of .map-of .ensures)
-          (at-whole-length .whole-length .ensures) (at-has-room .has-room .ensures) (at-if1 .if1 .left),
-    )
+    let b = bytes-known (start .args .memory .now) (at-slice-known .slice-known .given) in
+    let low = place-bound (start .args .memory .now) (start .args .output .now) _ (start .pre .0) b _ (start .pre .1) (start .pre .2) _ (at-find .find .ensures) _
+    (at-count-sent .count-sent .ensures .0) in
+    let may = may-send (start .args .memory .now) (start .args .output .now) _ (start .pre .0) b _ (start .pre .1) (start .pre .2) _ (at-find .find .ensures) _
+    (at-count-sent .count-sent .ensures .0) (at-has-room .has-room .ensures) (at-if1 .if1 .left) in
+    (_, _, low, may)
+
+acknowledgment-requires : tie.Need-acknowledgment-requires
+acknowledgment-requires c κs = search needs
 
 outstanding-at-requires : tie.Need-outstanding-at-requires
 outstanding-at-requires c κs = search needs
 
 put-frames-requires : tie.Need-put-frames-requires
 put-frames-requires c κs =
-    let at-undo = c .before .before .before .before .before in
+    let at-acknowledgment = c .before .before .before in
+    let at-undo = at-acknowledgment .before .before .before in
     let at-if1 = at-undo .before .before in
     let at-has-room = at-if1 .before in
-    let at-whole-length = at-has-room .before in
-    let at-map-of = at-whole-length .before in
-    let at-acknowledgment = at-map-of .before in
-    let at-count-sent = at-acknowledgment .before in
+    let at-count-sent = at-has-room .before in
     let at-find = at-count-sent .before .before in
     let at-slice-known = at-find .before .before .before .before in
     let start = at-slice-known .before in
     let b = bytes-known (start .args .memory .now) (at-slice-known .slice-known .given) in
-    let low = place-bound (start .args .memory .now) (start .args .output .now) _ (start .pre .0) b _ (start .pre .1) _ (at-find .find .ensures) _
-    (at-count-sent .count-sent .ensures .0) (at-acknowledgment .acknowledgment .ensures) (at-map-of .map-of .ensures)
-    (at-whole-length .whole-length .ensures) in
-    let may = may-send (start .args .memory .now) (start .args .output .now) _ (start .pre .0) b _ (start .pre .1) _ (at-find .find .ensures) _
-    (at-count-sent .count-sent .ensures .0) (at-acknowledgment .acknowledgment .ensures) (at-map-of .map-of .ensures)
-    (at-whole-length .whole-length .ensures) (at-has-room .has-room .ensures) (at-if1 .if1 .left) in
-    may-put-all (start .args .memory .now) (start .args .output .now) _ (start .pre .0) b _ (start .pre .1) _ (at-find .find .ensures) _
-    (at-count-sent .count-sent .ensures .0) (at-acknowledgment .acknowledgment .ensures) (at-map-of .map-of .ensures)
-    (at-whole-length .whole-length .ensures) (at-has-room .has-room .ensures) (at-if1 .if1 .left) (at-undo .undo .ensures _ _ low may) (c .outstanding-at .ensures)
+    let low = place-bound (start .args .memory .now) (start .args .output .now) _ (start .pre .0) b _ (start .pre .1) (start .pre .2) _ (at-find .find .ensures) _
+    (at-count-sent .count-sent .ensures .0) in
+    let may = may-send (start .args .memory .now) (start .args .output .now) _ (start .pre .0) b _ (start .pre .1) (start .pre .2) _ (at-find .find .ensures) _
+    (at-count-sent .count-sent .ensures .0) (at-has-room .has-room .ensures) (at-if1 .if1 .left) in
+    may-put-all (start .args .memory .now) (start .args .output .now) _ (start .pre .0) b _ (start .pre .1) (start .pre .2) _ (at-find .find .ensures) _
+    (at-count-sent .count-sent .ensures .0) (at-has-room .has-room .ensures) (at-if1 .if1 .left)
+    (at-undo .undo .ensures _ _ low may) (at-acknowledgment .acknowledgment .ensures) (c .outstanding-at .ensures)
 
 pending-requires : tie.Need-pending-requires
 pending-requires c κs = search needs
 
 enter-requires : tie.Need-enter-requires
 enter-requires c κs =
-    let at-undo = c .before .before .before .before .before .before .before .before .before .before in
+    let at-undo = c .before .before .before .before .before .before .before .before .before .before .before in
     let at-if1 = at-undo .before .before in
     let at-has-room = at-if1 .before in
-    let at-whole-length = at-has-room .before in
-    let at-map-of = at-whole-length .before in
-    let at-acknowledgment = at-map-of .before in
-    let at-count-sent = at-acknowledgment .before in
+    let at-count-sent = at-has-room .before in
     let at-find = at-count-sent .before .before in
     let at-slice-known = at-find .before .before .before .before in
     let start = at-slice-known .before in
     let b = bytes-known (start .args .memory .now) (at-slice-known .slice-known .given) in
-    let low = place-bound (start .args .memory .now) (start .args .output .now) _ (start .pre .0) b _ (start .pre .1) _ (at-find .find .ensures) _
-    (at-count-sent .count-sent .ensures .0) (at-acknowledgment .acknowledgment .ensures) (at-map-of .map-of .ensures)
-    (at-whole-length .whole-length .ensures) in
-    let may = may-send (start .args .memory .now) (start .args .output .now) _ (start .pre .0) b _ (start .pre .1) _ (at-find .find .ensures) _
-    (at-count-sent .count-sent .ensures .0) (at-acknowledgment .acknowledgment .ensures) (at-map-of .map-of .ensures)
-    (at-whole-length .whole-length .ensures) (at-has-room .has-room .ensures) (at-if1 .if1 .left) in (
+    let low = place-bound (start .args .memory .now) (start .args .output .now) _ (start .pre .0) b _ (start .pre .1) (start .pre .2) _ (at-find .find .ensures) _
+    (at-count-sent .count-sent .ensures .0) in
+    let may = may-send (start .args .memory .now) (start .args .output .now) _ (start .pre .0) b _ (start .pre .1) (start .pre .2) _ (at-find .find .ensures) _
+    (at-count-sent .count-sent .ensures .0) (at-has-room .has-room .ensures) (at-if1 .if1 .left) in (
       _,
       _,
-      may-enter (start .args .memory .now) (start .args .output .now) _ (start .pre .0) b _ (start .pre .1) _ (at-find .find .ensures) _
-          (at-count-sent .count-sent .ensures .0) (at-acknowledgment .acknowledgment .ensures) (at-map-of .map-of .ensures)
-          (at-whole-length .whole-length .ensures) (at-has-room .has-room .ensures) (at-if1 .if1 .left) (at-undo .undo .ensures _ _ low may) (c .pending .ensures),
+      may-enter (start .args .memory .now) (start .args .output .now) _ (start .pre .0) b _ (start .pre .1) (start .pre .2) _ (at-find .find .ensures) _
+          (at-count-sent .count-sent .ensures .0) (at-has-room .has-room .ensures) (at-if1 .if1 .left)
+          (at-undo .undo .ensures _ _ low may) (c .pending .ensures),
     )
 
 same-length-2 : tie.Need-same-length-2
@@ -165,30 +123,27 @@ returns-2 c =
     let at-pending = at-enter .before in
     let at-put-frames = at-pending .before .before .before .before in
     let at-outstanding-at = at-put-frames .before in
-    let at-undo = at-outstanding-at .before .before .before .before .before in
+    let at-acknowledgment = at-outstanding-at .before .before .before in
+    let at-undo = at-acknowledgment .before .before .before in
     let at-if1 = at-undo .before .before in
     let at-has-room = at-if1 .before in
-    let at-whole-length = at-has-room .before in
-    let at-map-of = at-whole-length .before in
-    let at-acknowledgment = at-map-of .before in
-    let at-count-sent = at-acknowledgment .before in
+    let at-count-sent = at-has-room .before in
     let at-find = at-count-sent .before .before in
     let at-slice-known = at-find .before .before .before .before in
     let start = at-slice-known .before in
     let b = bytes-known (start .args .memory .now) (at-slice-known .slice-known .given) in
-    let low = place-bound (start .args .memory .now) (start .args .output .now) _ (start .pre .0) b _ (start .pre .1) _ (at-find .find .ensures) _
-    (at-count-sent .count-sent .ensures .0) (at-acknowledgment .acknowledgment .ensures) (at-map-of .map-of .ensures)
-    (at-whole-length .whole-length .ensures) in
-    let may = may-send (start .args .memory .now) (start .args .output .now) _ (start .pre .0) b _ (start .pre .1) _ (at-find .find .ensures) _
-    (at-count-sent .count-sent .ensures .0) (at-acknowledgment .acknowledgment .ensures) (at-map-of .map-of .ensures)
-    (at-whole-length .whole-length .ensures) (at-has-room .has-room .ensures) (at-if1 .if1 .left) in
+    let low = place-bound (start .args .memory .now) (start .args .output .now) _ (start .pre .0) b _ (start .pre .1) (start .pre .2) _ (at-find .find .ensures) _
+    (at-count-sent .count-sent .ensures .0) in
+    let may = may-send (start .args .memory .now) (start .args .output .now) _ (start .pre .0) b _ (start .pre .1) (start .pre .2) _ (at-find .find .ensures) _
+    (at-count-sent .count-sent .ensures .0) (at-has-room .has-room .ensures) (at-if1 .if1 .left) in
     let u = at-undo .undo .ensures _ _ low may in
-    entered-done (start .args .memory .now) (start .args .output .now) _ (start .pre .0) b _ (start .pre .1) _ (at-find .find .ensures) _
-    (at-count-sent .count-sent .ensures .0) (at-acknowledgment .acknowledgment .ensures) (at-map-of .map-of .ensures)
-    (at-whole-length .whole-length .ensures) (at-has-room .has-room .ensures) (at-if1 .if1 .left) u (at-outstanding-at .outstanding-at .ensures) (at-put-frames .put-frames .ensures) (at-pending .pending .ensures)
-    (at-enter .enter .ensures _ _ (may-enter (start .args .memory .now) (start .args .output .now) _ (start .pre .0) b _ (start .pre .1) _ (at-find .find .ensures) _
-    (at-count-sent .count-sent .ensures .0) (at-acknowledgment .acknowledgment .ensures) (at-map-of .map-of .ensures)
-    (at-whole-length .whole-length .ensures) (at-has-room .has-room .ensures) (at-if1 .if1 .left) u (at-pending .pending .ensures)))
+    let there = may-enter (start .args .memory .now) (start .args .output .now) _ (start .pre .0) b _ (start .pre .1) (start .pre .2) _ (at-find .find .ensures) _
+    (at-count-sent .count-sent .ensures .0) (at-has-room .has-room .ensures) (at-if1 .if1 .left)
+    u (at-pending .pending .ensures) in
+    entered-done (start .args .memory .now) (start .args .output .now) _ (start .pre .0) b _ (start .pre .1) (start .pre .2) _ (at-find .find .ensures) _
+    (at-count-sent .count-sent .ensures .0) (at-has-room .has-room .ensures) (at-if1 .if1 .left)
+    u (at-acknowledgment .acknowledgment .ensures) (at-outstanding-at .outstanding-at .ensures) (at-put-frames .put-frames .ensures)
+    (at-pending .pending .ensures) (at-enter .enter .ensures _ _ there)
 
 pub enter-plain-spec : {M : Type 1} → statement M
 enter-plain-spec =
@@ -197,17 +152,13 @@ enter-plain-spec =
     cast-queued
     find-requires
     count-sent-requires
-    acknowledgment-requires
-    map-of-requires
-    whole-length-requires
-    mul-bytes
-    add-bytes
     add-has-room
     has-room-requires
     refused-requires
     same-length
     returns
     undo-requires
+    acknowledgment-requires
     outstanding-at-requires
     put-frames-requires
     pending-requires

@@ -23,7 +23,7 @@ meet-cancel-requires : tie.Need-meet-cancel-requires
 meet-cancel-requires c κs =
     let at-if2 = c .before .before in
     let start = at-if2 .before .before .before .before .before .before .before .before .before in
-    (start .pre .0, at-if2 .if2 .taken, start .pre .1 .lamp)
+    (start .pre .0, at-if2 .if2 .taken, start .pre .1 .lamp, start .pre .2)
 
 same-length : tie.Need-same-length
 same-length c = search needs

@@ -1,4 +1,5 @@
 -- `take_start::start_in` meets its contract.
+use native.Mathlib.Omega.{arith}
 use Rattle.phases.proofs.Changing.{as-effect, still}
 use Rattle.take_start.proofs.Starting.{all-starts, more-starts}
 use borrow.Author.Needs.{needs}
@@ -35,7 +36,7 @@ announce-requires : tie.Need-announce-requires
 announce-requires c κs =
     let at-changed = c .before .before .before in
     let start = at-changed .before .before .before .before .before .before in
-    (still _ _ (start .pre) (at-changed .changed .ensures), c .nobody .ensures .two)
+    (still _ _ (start .pre) (at-changed .changed .ensures), c .nobody .ensures .two, omega arith)
 
 same-length-3 : tie.Need-same-length-3
 same-length-3 c = search needs

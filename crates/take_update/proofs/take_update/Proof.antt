@@ -1,4 +1,5 @@
 -- `take_update::take_update` meets its contract.
+use native.Mathlib.Omega.{arith}
 use Rattle.phases.proofs.Changing.{still}
 use Rattle.take_update.proofs.Updating.{update-at-root, update-elsewhere, update-taken}
 use borrow.Author.Needs.{needs}
@@ -37,7 +38,7 @@ announce-requires : tie.Need-announce-requires
 announce-requires c κs =
     let at-changed = c .before .before .before in
     let start = at-changed .before .before .before .before .before .before .before .before .before .before in
-    (still _ _ (start .pre) (at-changed .changed .ensures), c .children .ensures .two)
+    (still _ _ (start .pre) (at-changed .changed .ensures), c .children .ensures .two, omega arith)
 
 same-length : tie.Need-same-length
 same-length c = search needs

@@ -69,7 +69,7 @@ announce-requires : tie.Need-announce-requires
 announce-requires c κs =
     let at-changed = c .before .before .before in
     let start = at-changed .before .before .before .before .before .before .before .before .before .before .before .before in
-    (still _ _ (start .pre) (at-changed .changed .ensures), c .told .ensures .two)
+    (still _ _ (start .pre) (at-changed .changed .ensures), c .told .ensures .two, omega arith)
 
 same-length-3 : tie.Need-same-length-3
 same-length-3 c = search needs

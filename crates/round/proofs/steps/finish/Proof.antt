@@ -21,7 +21,7 @@ announce-requires : tie.Need-announce-requires
 announce-requires c κs =
     let at-changed = c .before .before .before in
     let start = at-changed .before .before .before .before .before .before .before in
-    (still _ _ (start .pre) (at-changed .changed .ensures), c .children .ensures .two)
+    (still _ _ (start .pre) (at-changed .changed .ensures), c .children .ensures .two, omega arith)
 
 same-length : tie.Need-same-length
 same-length c = search needs
@@ -53,7 +53,7 @@ announce-requires-2 : tie.Need-announce-requires-2
 announce-requires-2 c κs =
     let at-changed2 = c .before .before .before in
     let start = at-changed2 .before .before .before .before .before .before .before in
-    (still _ _ (start .pre) (at-changed2 .changed2 .ensures), c .heard .ensures .two)
+    (still _ _ (start .pre) (at-changed2 .changed2 .ensures), c .heard .ensures .two, omega arith)
 
 same-length-3 : tie.Need-same-length-3
 same-length-3 c = search needs
