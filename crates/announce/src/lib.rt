@@ -45,8 +45,8 @@ pub fn announce(
     if output.len() < written {
         return refused(5);
     }
-    put_each(output, kind, hour, own, to);
     write_header(memory, header);
+    put_each(output, kind, hour, own, to);
     Answer { number: 0, written }
 }
 

@@ -29,19 +29,19 @@ returns c =
     announce-none _ _ (start .pre .0) (bytes-known (start .args .memory .now) (at-slice-known .slice-known .given)) _ _ _ (start .pre .1) _
     (at-length-in-round .length-in-round .ensures) (at-if1 .if1 .taken) (c .refused .ensures)
 
+write-header-requires : tie.Need-write-header-requires
+write-header-requires c κs =
+    let start = c .before .before .before .before .before .before .before in
+    let z = changed-long _ _ (start .pre .0) in omega arith
+
 put-each-requires : tie.Need-put-each-requires
 put-each-requires c κs =
-    let at-if1 = c .before in
+    let at-if1 = c .before .before .before .before .before in
     let at-length-in-round = at-if1 .before in
     let at-slice-known = at-length-in-round .before .before .before .before in
     let start = at-slice-known .before in
     announce-room _ _ (start .pre .0) (bytes-known (start .args .memory .now) (at-slice-known .slice-known .given)) _ _ _ (start .pre .1)
     (start .args .output .now) (at-length-in-round .length-in-round .ensures) (at-if1 .if1 .left)
-
-write-header-requires : tie.Need-write-header-requires
-write-header-requires c κs =
-    let start = c .before .before .before .before .before .before .before .before .before .before .before in
-    let z = changed-long _ _ (start .pre .0) in omega arith
 
 same-length : tie.Need-same-length
 same-length c = search needs
@@ -51,9 +51,9 @@ same-length-2 c = search needs
 
 returns-2 : tie.Need-returns-2
 returns-2 c =
-    let at-write-header = c .before .before in
-    let at-put-each = at-write-header .before .before .before .before in
-    let at-if1 = at-put-each .before .before in
+    let at-put-each = c .before .before in
+    let at-write-header = at-put-each .before .before .before .before in
+    let at-if1 = at-write-header .before .before in
     let at-length-in-round = at-if1 .before in
     let at-slice-known = at-length-in-round .before .before .before .before in
     let start = at-slice-known .before in
@@ -70,8 +70,8 @@ announce-spec =
     mul-written
     refused-requires
     returns
-    put-each-requires
     write-header-requires
+    put-each-requires
     same-length
     same-length-2
     returns-2)
