@@ -14,6 +14,8 @@ pub mod LaterMessages
 pub mod Table
 pub mod ReasonTable
 pub mod StockTable
+pub mod SoundnessTable
+pub mod TakingTable
 pub mod Calling
 pub mod Replies
 pub mod Knowing

@@ -38,12 +38,16 @@ abbrev noGateways : Opening → Opening
 noGateways o = record { n = 0; own = o .own; supplier = o .supplier; stock = o .stock; last = o .last; q = o .q; u = o .u; hours = o .hours }
 
 -- lamps alike in sixteen characters: L and fifteen zeros, then one character twice
-abbrev lampWith : ℕ → List ℕ
+abbrev pub lampWith : ℕ → List ℕ
 lampWith character = 76 ∷ (replicate 15 48 ++ (character ∷ character ∷ []))
 
 -- a Failure of that lamp at that gateway and hour
-abbrev failure : ℕ → ℕ → ℕ → Message
+abbrev pub failure : ℕ → ℕ → ℕ → Message
 failure own hour character = record { hour = hour; from = own; to = own; kind = Failure own; lamp = lampWith character }
+
+-- a Request from that gateway to another, of that origin and lamp, at that hour
+abbrev pub request : (from to hour origin character : ℕ) → Message
+request from to hour origin character = record { hour = hour; from = from; to = to; kind = Request origin; lamp = lampWith character }
 
 -- one of two gateways, with its agreed time and what is queued and outstanding
 abbrev pub amongTwo : ℕ → ℕ → List Entry → List Sent → Gateway
@@ -65,7 +69,7 @@ due9 = amongTwo 1 0 (pendingEntry (failure 1 9 50) ∷ []) []
 
 abbrev due9sent5 : Gateway
 due9sent5 = amongTwo 1 0 (pendingEntry (failure 1 9 50) ∷ [])
-    (record { message = record { hour = 5; from = 1; to = 0; kind = Request 1; lamp = lampWith 50 }; cancel = false } ∷ [])
+    (record { message = request 1 0 5 1 50; cancel = false } ∷ [])
 
 -- a round of two gateways, each frame taken as it was written: 0 starts, 1 answers the Start with its Lvt, 0 closes the round,
 -- 1 takes the Update. What the close comes to at 0, and what the Update comes to at 1
@@ -85,7 +89,7 @@ Agreed (closed, updated) hour =
 abbrev processedAt : ℕ → Entry
 processedAt hour = record { message = failure 0 hour 49; mark = Processed; before = noState }
 
-abbrev agreed12 : ℕ → Gateway
+abbrev pub agreed12 : ℕ → Gateway
 agreed12 hour = amongTwo 0 12 (processedAt hour ∷ []) []
 
 -- the record of the event at 11: the frame's map, kind, from, to, hour, origin and lamp, then stock, failed, fitted and short

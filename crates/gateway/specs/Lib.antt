@@ -11,5 +11,7 @@ pub mod Calls
 pub mod Examples
 pub mod ReasonExamples
 pub mod StockExamples
+pub mod SoundnessExamples
+pub mod TakingExamples
 pub mod Claims
 pub mod inside
