@@ -62,7 +62,7 @@ kind-small Lvt = omega arith
 kind-small Update = omega arith
 
 -- every frame with a sense is short
-pub sense-small : (kind : Kind) → wholeLength (mapOfKind (kindNumber kind) + 128) ≤ 28
+sense-small : (kind : Kind) → wholeLength (mapOfKind (kindNumber kind) + 128) ≤ 28
 unfolding wholeLength mapOfKind
 sense-small (Failure origin) = omega arith
 sense-small (Request origin) = omega arith
