@@ -12,7 +12,7 @@ use Rattle.frame.specs.Kinds.{mapOfKind, hasHour, hasLamp, mapOf}
 use Rattle.frame.specs.Writing.{contents, written, allBetween, lampFits, wellFormed}
 use Rattle.frame.specs.Reasons.{valuesOf, fieldsOf, mapFits, fieldsForm, formOf, reading}
 use Rattle.frame.specs.Limits.{refusal, refusalWhere}
-use Rattle.memory.specs.Codec.{stateBytes}
+use Rattle.memory.specs.Codec.{entryBytes, entryOf, sentBytes, sentOf, stateBytes, stateWith, decode, encode}
 use Rattle.memory.specs.Validity.{settingsValid, roundPossible, equal, later, ordered, processedFirst, noneMeet, storable, entryValid, sentValid}
 use Rattle.memory.specs.Validity.{savedStocksBounded, heldStockBounded, valid}
 use Rattle.memory.specs.Soundness.{sound}
@@ -22,7 +22,7 @@ use Rattle.gateway.specs.Taking.{takePlain, takeCancel, takeAcknowledgme
 use Rattle.gateway.specs.Working.{pendingOf, processedNext, done, worked}
 use Rattle.gateway.specs.Rounds.{leastOutstanding, leastQueued, finished, begun, start, bitOf, allBits, oneStart, takeStart, oneLvt, takeLvt, takeUpdate}
 use Rattle.gateway.specs.Committing.{recordFor, commit}
-use Rattle.gateway.specs.Calls.{onSound, takeFrame, takeBytes, started, committed, workedOff}
+use Rattle.gateway.specs.Calls.{leaving, onSound, takeFrame, takeBytes, taken, started, committed, workedOff}
 use Rattle.gateway.specs.TakingExamples.{TakingExamples}
 
 pub taking-examples : TakingExamples
@@ -33,6 +33,7 @@ unfolding
     processedFirst noneMeet storable entryValid sentValid savedStocksBounded heldStockBounded valid sound fits settled noted sentOne sentAll processedOf
     undone restored sentBack rolledBack takePlain takeCancel takeAcknowledgment pendingOf processedNext done worked leastOutstanding leastQueued finished
     begun start bitOf allBits oneStart takeStart oneLvt takeLvt takeUpdate recordFor commit onSound takeFrame takeBytes started committed workedOff
+    entryBytes entryOf sentBytes sentOf stateWith decode encode leaving taken
 taking-examples =
     record {
       unsound = (refl, refl, refl);
@@ -64,5 +65,7 @@ taking-examples =
       firstStruckOut = refl;
       secondUndone = refl;
       noneUndone = refl;
+      bytesStay = (refl, refl);
+      bytesWritten = refl;
       proper = refl;
     }

@@ -4,6 +4,7 @@ use mathlib.Core.Path.{_≡_}
 use Prim.Native.Nat.{ℕ}
 use mathlib.Core.Bool.{true, false}
 use mathlib.Core.List.{List, [], _∷_, _++_}
+use lib.ListN.{take, replicate}
 use Rattle.lists.specs.Lists.{every}
 use Rattle.model.specs.EventOrder.{key, compared}
 use Rattle.model.specs.declared.Kind.{Kind}
@@ -14,6 +15,7 @@ use Rattle.model.specs.declared.order.Comparison.the-variants.{Before}
 use Rattle.frame.specs.Writing.{written}
 use Rattle.frame.specs.declared.Frame.{Frame}
 use Rattle.memory.specs.Records.{Gateway}
+use Rattle.memory.specs.Codec.{encode}
 use Rattle.memory.specs.Validity.{noState, frameIf, valid}
 use Rattle.memory.specs.declared.Entry.{Entry}
 use Rattle.memory.specs.declared.Sent.{Sent}
@@ -26,7 +28,7 @@ use Rattle.gateway.specs.Taking.{acknowledgment, waitingEntry}
 use Rattle.gateway.specs.Working.{worked}
 use Rattle.gateway.specs.Committing.{commit}
 use Rattle.gateway.specs.Rounds.{frameInRound, start}
-use Rattle.gateway.specs.Calls.{takeBytes, started, committed, workedOff}
+use Rattle.gateway.specs.Calls.{refusedWith, takeBytes, taken, started, committed, workedOff}
 use Rattle.gateway.specs.Examples.{townHours, lampWith, failure, request, amongTwo, agreed12}
 
 -- what taking a frame comes to, with so many bytes for output
@@ -122,6 +124,14 @@ bothDone =
 abbrev late : ℕ → Message
 late hour = request 1 0 hour 1 51
 
+-- the memory of gateway 0 between rounds
+abbrev memory : List ℕ
+memory = encode betweenRounds (replicate 640 0)
+
+-- an output of so many bytes, each 9
+abbrev room : ℕ → List ℕ
+room n = replicate n 9
+
 pub record TakingExamples : Type 0 where
   -- 10 first of all: there is no memory, no frame and no room
   pub unsound : (started [] [] .answer .number ≡ 10) × (committed [] [] .answer .number ≡ 10) × (workedOff 1 [] [] .answer .why ≡ 10)
@@ -197,5 +207,13 @@ pub record TakingExamples : Type 0 where
   }
   -- with a byte too few nothing is done
   pub noneUndone : taking (frameIf false (late 15)) 83 bothDone ≡ refused 5 bothDone
+  -- and no byte of memory or output changes, nor where the memory is not sound; with room the acknowledgment is written, and a place
+  pub bytesStay : (taken memory (written (frameIf false (late 15))) (room 27) ≡ refusedWith 5 memory (room 27))
+      × (taken (take 639 memory) (written (frameIf false (late 15))) (room 27) ≡ refusedWith 10 (take 639 memory) (room 27))
+  pub bytesWritten : taken memory (written (frameIf false (late 15))) (room 29) ≡ record {
+    answer = record { number = 0; written = 28 };
+    memory = encode (amongTwo 0 12 (pendingEntry (late 15) ∷ []) []) memory;
+    output = written (acknowledgment false (late 15)) ++ (9 ∷ []);
+  }
   -- and these gateways are valid
   pub proper : every valid (betweenRounds ∷ inRound ∷ bothDone ∷ []) ≡ true
