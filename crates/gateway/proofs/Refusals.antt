@@ -81,7 +81,8 @@ pub record LeavesAll (memory output : List ℕ) (r : CallResult Worked) : Type 0
   pub same : r .memory ≡ memory
   pub as-it-was : r .output ≡ output
 
-pub work-idle : (b : ℕ) (memory output : List ℕ) → Bytes memory → workedOff b memory output .answer .count ≡ 0 → LeavesAll memory output (workedOff b memory output)
+pub work-idle : (b : ℕ) (memory output : List ℕ) → Bytes memory → workedOff b memory output .answer .count ≡ 0
+    → LeavesAll memory output (workedOff b memory output)
 unfolding workedOff
 work-idle b memory output bytes = by-case (sound memory) refl
   where
