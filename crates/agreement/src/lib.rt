@@ -1,4 +1,6 @@
 // Whether the single queue gives the records that the two gateways of the last example committed.
+#![tactic(auto)]
+
 ghost use Rattle.std.specs.Prelude.{◌≤◌, length};
 
 use check::same;

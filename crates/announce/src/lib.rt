@@ -1,4 +1,6 @@
 // Telling other gateways of the round: the header is written, and a frame for each of them is put out.
+#![tactic(auto)]
+
 pub mod receivers; // receivers.rt: whom a gateway hears and tells
 
 ghost use Rattle.std.specs.Prelude.{◌≡◌, ◌≤◌, ◌<◌, length};

@@ -8,7 +8,7 @@ use neighbours::neighbours_of;
 use routing::Gateways;
 
 // At most two gateways: their count, and their numbers with zeros behind.
-#[derive(Drop)]
+#[derive(Clone, Copy)]
 pub struct Few {
     pub count: u8,
     pub first: u8,

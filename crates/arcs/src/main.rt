@@ -1,4 +1,6 @@
 // The program arcs: reads N from standard input, and prints its arcs.
+#![tactic(auto)]
+
 ghost use Rattle.std.specs.Prelude.{◌≡◌};
 ghost use Rattle.buffer.specs.Slice.{write};
 ghost use Rattle.listing.specs.Output.{printed, rendering};

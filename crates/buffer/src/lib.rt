@@ -1,5 +1,7 @@
 // Bytes and numbers in a lent slice: what the frames and a gateway's memory are read and written with.
 // Every function here asks its caller for the room; the calls that a host makes check it first.
+#![tactic(auto)]
+
 ghost use Rattle.std.specs.Prelude.{◌≡◌, ◌+◌, ◌≤◌, length};
 ghost use Rattle.buffer.specs.Slice.{part, write};
 ghost use Rattle.buffer.specs.Number.{bytes_of, number_of};

@@ -1,5 +1,7 @@
 // A carrier between two gateways that brings the oldest frame first, for the last example. The frames under way stand one behind the
 // other in a lent line.
+#![tactic(auto)]
+
 ghost use Rattle.std.specs.Prelude.{◌+◌, ◌≤◌, length};
 
 use gateway::Answer;
@@ -9,7 +11,7 @@ use reader::read;
 use take::take;
 
 // The frames under way: where the oldest begins, and where the last ends.
-#[derive(Drop)]
+#[derive(Clone, Copy)]
 pub struct UnderWay {
     pub oldest: usize,
     pub end: usize,

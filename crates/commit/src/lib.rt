@@ -1,4 +1,6 @@
 // Commit: the oldest processed event leaves the queue if its hour is below the agreed time, and its record is written.
+#![tactic(auto)]
+
 ghost use Rattle.std.specs.Prelude.{◌≡◌, ◌+◌, ◌≤◌, ◌<◌, length};
 ghost use Rattle.model.specs.Messages.{kind_number, quantity_of};
 ghost use Rattle.model.specs.Doing.{most_stock};

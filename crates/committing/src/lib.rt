@@ -1,4 +1,6 @@
 // The two gateways of the last example commit what they can.
+#![tactic(auto)]
+
 ghost use Rattle.std.specs.Prelude.{◌≤◌, length};
 
 use commit::commit;

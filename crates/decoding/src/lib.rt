@@ -1,4 +1,6 @@
 // What the bytes of a queue place and of an outstanding place hold.
+#![tactic(auto)]
+
 ghost use Rattle.std.specs.Prelude.{◌≡◌, ◌+◌, ◌≤◌, length};
 ghost use Rattle.memory.specs.Layout.{queue_size, outstanding_size, message_size, state_size};
 ghost use Rattle.buffer.specs.Slice.{part};

@@ -1,4 +1,6 @@
 // Doing a message: the state after it, and what it sends.
+#![tactic(auto)]
+
 ghost use Rattle.std.specs.Prelude.{◌≡◌, [], ◌+◌, ◌≤◌};
 ghost use Rattle.model.specs.Messages.{quantity_of};
 ghost use Rattle.model.specs.Doing.{after, counted, most_stock, not_past, reply, reply_with, reply_to};

@@ -1,4 +1,6 @@
 // A queue place and an outstanding place written into the memory, byte for byte.
+#![tactic(auto)]
+
 ghost use Rattle.std.specs.Prelude.{◌≡◌, ◌++◌, ◌+◌, ◌≤◌, length};
 ghost use Rattle.memory.specs.Layout.{queue_size, outstanding_size, message_size, state_size};
 ghost use Rattle.buffer.specs.Slice.{write};

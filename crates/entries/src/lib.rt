@@ -1,4 +1,6 @@
 // What is asked of a stored message: its mark, whether it equals another or is later, the frame that it is, and where it is done.
+#![tactic(auto)]
+
 ghost use Rattle.std.specs.Prelude.{◌≡◌, not};
 ghost use Rattle.model.specs.EventOrder.{different};
 ghost use Rattle.memory.specs.Records.{site_of};

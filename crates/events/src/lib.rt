@@ -1,5 +1,7 @@
 // One event of work: 6 where no plain message is unprocessed, 5 where there is no room for what the next one sends, else it is done. It
 // changes the memory alone: what it sends is put out later, from its outstanding place.
+#![tactic(auto)]
+
 ghost use Rattle.std.specs.Prelude.{◌≡◌, ◌+◌, ◌<◌, ◌≤◌};
 ghost use Rattle.buffer.specs.Slice.{part};
 ghost use Rattle.model.specs.Messages.{quantity_of};

@@ -1,4 +1,6 @@
 // Whether a place's bytes are just those of what it is read as.
+#![tactic(auto)]
+
 ghost use Rattle.std.specs.Prelude.{◌≡◌, ◌≤◌, length, drop, replicate};
 ghost use Rattle.memory.specs.Layout.{queue_size, outstanding_size, message_size, zeros_at, zeros_size};
 ghost use Rattle.memory.specs.Codec.{entry_bytes, entry_of, sent_bytes, sent_of};

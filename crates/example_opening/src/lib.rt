@@ -1,4 +1,6 @@
 // How the last example begins: two gateways, and the opening list of gateway 0 with two Failures.
+#![tactic(auto)]
+
 ghost use Rattle.std.specs.Prelude.{◌≡◌, []};
 ghost use Rattle.gateway.specs.Calls.{set_up};
 ghost use Rattle.example_opening.specs.Inside.Settings.{example_opening};

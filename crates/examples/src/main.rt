@@ -1,5 +1,7 @@
 // The program examples: prints document 01's examples that are compared with a second program. Which of 22 and 23 gateways share
 // a bottom row; then the records of the last example's two gateways, a line an event, and whether the single queue gives the same.
+#![tactic(auto)]
+
 ghost use Rattle.std.specs.Prelude.{◌≤◌};
 
 use agreement::compare;

@@ -1,4 +1,6 @@
 // Whether a queue entry may stand behind the one before it.
+#![tactic(auto)]
+
 ghost use Rattle.std.specs.Prelude.{◌≡◌, true, ◌&&◌, ◌||◌};
 ghost use Rattle.memory.specs.Validity.{pending_mark, processed_mark};
 ghost use Rattle.following.specs.Inside.Follows.{entry_follows, compared_follows};

@@ -1,5 +1,7 @@
 // Frames: how a message and its sense stand as bytes. The tables, what each kind keeps to, and the checks of a frame's numbers
 // and hour; the crates reader and writer read and write them.
+#![tactic(auto)]
+
 use model::Message;
 
 pub mod forms; // forms.rt: the reasons for which a byte string is refused
@@ -8,7 +10,7 @@ pub mod pieces; // pieces.rt: frames one behind the other
 pub mod tables; // tables.rt: the table of kinds, the widths of the fields and the whole length
 
 // What a frame says of its message. A plain message has no sense.
-#[derive(Drop)]
+#[derive(Clone, Copy)]
 pub enum Sense {
     Plain,
     Cancel,
@@ -16,14 +18,14 @@ pub enum Sense {
     CancelAcknowledgment,
 }
 
-#[derive(Drop)]
+#[derive(Clone, Copy)]
 pub struct Frame {
     pub message: Message,
     pub sense: Sense,
 }
 
 // The fields of a frame as numbers. A field whose bit does not stand in the map is zero.
-#[derive(Drop)]
+#[derive(Clone, Copy)]
 pub struct Fields {
     pub kind: u8,
     pub from: u8,
@@ -36,7 +38,7 @@ pub struct Fields {
 }
 
 // Whether a byte string is a frame that a call takes, or the first reason why not. Reading knows of no call: the last reason is the call's.
-#[derive(Drop)]
+#[derive(Clone, Copy)]
 pub enum Form {
     Good,
     TooShort,
@@ -49,14 +51,14 @@ pub enum Form {
 }
 
 // What reading a byte string gives. The frame counts only where the form is good.
-#[derive(Drop)]
+#[derive(Clone, Copy)]
 pub struct Reading {
     pub form: Form,
     pub frame: Frame,
 }
 
 // What writing a frame gives: how many bytes were written, or why nothing was.
-#[derive(Drop)]
+#[derive(Clone, Copy)]
 pub enum WriteAnswer {
     Written(usize),
     NoFrame,

@@ -10,7 +10,7 @@ use model::kind_number;
 const MAPS: [u8; 7] = [63, 63, 63, 79, 7, 15, 15];
 
 // The widths of the fields, in bytes.
-#[derive(Drop)]
+#[derive(Clone, Copy)]
 pub struct Widths {
     pub kind: usize,
     pub from: usize,

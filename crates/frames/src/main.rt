@@ -1,11 +1,13 @@
 // The program frames: reads byte strings from standard input, each a length byte and then so many bytes, and prints a line
 // for each: the fields of the frame that it is, or the number with which it is refused and why. An item that the input cuts is refused with 11.
+#![tactic(auto)]
+
 ghost use Rattle.std.specs.Prelude.{◌≡◌, ◌+◌, ◌≤◌, length};
 
 use libc::{STDIN_FILENO, STDOUT_FILENO};
 
 // One item of the input: whether there is one, whether it is whole, and how many bytes it has.
-#[derive(Drop)]
+#[derive(Clone, Copy)]
 struct Item {
     some: bool,
     whole: bool,

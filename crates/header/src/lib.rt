@@ -1,4 +1,6 @@
 // The memory's first bytes: settings, counts, state, agreed time and round, read into a value and written from it.
+#![tactic(auto)]
+
 ghost use Rattle.std.specs.Prelude.{◌≡◌, ◌≤◌, length};
 ghost use Rattle.memory.specs.Layout.{header_used, back_at};
 ghost use Rattle.buffer.specs.Slice.{write};

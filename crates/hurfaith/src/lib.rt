@@ -1,5 +1,7 @@
 // The calls for programs in C and other languages. Each promises what the call below it promises; an answer of several numbers
 // comes packed into one. include/hurfaith.h is their C side.
+#![tactic(auto)]
+
 ghost use Rattle.std.specs.Prelude.{◌≡◌, []};
 ghost use Rattle.views.specs.Viewing.{viewed};
 ghost use Rattle.gateway.specs.Calls.{left, worked_off, started, committed, agreed_time, taken, set_up};

@@ -1,4 +1,6 @@
 // The lamp of a frame: the part that holds it, and beside it the number that says why there is none.
+#![tactic(auto)]
+
 ghost use Rattle.std.specs.Prelude.{◌≡◌};
 ghost use Rattle.frame.specs.Reasons.{form_number};
 ghost use Rattle.frame.specs.Lamps.{lamp_form, IsLamp, lamp_refusal};

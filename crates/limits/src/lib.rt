@@ -1,4 +1,6 @@
 // Which frames a gateway turns down for their numbers (2) and their hour (3).
+#![tactic(auto)]
+
 ghost use Rattle.std.specs.Prelude.{◌≡◌};
 ghost use Rattle.frame.specs.Limits.{refusal, refusal_where, numbers_below, addressee, hour_allowed};
 

@@ -1,5 +1,7 @@
 // Frames, records and messages in lent buffers, for the last example: what a buffer has no room for is left out, and the program's
 // buffers have room for all.
+#![tactic(auto)]
+
 ghost use Rattle.std.specs.Prelude.{◌≡◌, ◌+◌, ◌≤◌, ◌<◌, length};
 ghost use Rattle.buffer.specs.Slice.{part};
 ghost use Rattle.memory.specs.Layout.{header_size, queue_at};
@@ -19,7 +21,7 @@ use reader::read;
 use writer::write;
 
 // Where the records of the two gateways end.
-#[derive(Drop)]
+#[derive(Clone, Copy)]
 pub struct Ends {
     pub first: usize,
     pub second: usize,

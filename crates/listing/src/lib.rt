@@ -1,4 +1,6 @@
 // The listing of the arcs, as the program arcs prints it: counted first, and then put whole into the lent output.
+#![tactic(auto)]
+
 ghost use Rattle.std.specs.Prelude.{◌≡◌, ◌++◌, ◌+◌, ◌*◌, ◌≤◌, length, take};
 ghost use Rattle.lists.specs.Lists.{joined};
 ghost use Rattle.buffer.specs.Slice.{write, Puts};
@@ -11,7 +13,7 @@ use neighbours::to_of;
 use routing::{Gateways, Middles};
 
 // The answer, 0 or 5 where the output is too short, and how many bytes were put.
-#[derive(Drop)]
+#[derive(Clone, Copy)]
 pub struct Rendered {
     pub answer: u8,
     pub length: usize,

@@ -1,5 +1,7 @@
 // A gateway's lent memory: what stands where in its bytes, and when it is sound. The crates decoding, encoding and header read and
 // write the bytes, soundness tests them.
+#![tactic(auto)]
+
 use model::{LeadTimes, Message, State};
 
 // The sizes in the memory, in bytes, as the definitions of its layout have them: the header; a queue place
@@ -24,7 +26,7 @@ pub const OUTSTANDING_COUNT_AT: usize = 12;
 pub const STATE_AT: usize = 38;
 
 // What set up was told. The letters are document 01's: n gateways, last hour H, q queue places, u outstanding places; then the lead times.
-#[derive(Drop)]
+#[derive(Clone, Copy)]
 pub struct Settings {
     pub n: u8,
     pub own: u8,
@@ -36,7 +38,7 @@ pub struct Settings {
 }
 
 // What a queue place holds: a plain message not processed, one that is, or a waiting cancel.
-#[derive(Drop)]
+#[derive(Clone, Copy)]
 pub enum Mark {
     Pending,
     Processed,
@@ -44,7 +46,7 @@ pub enum Mark {
 }
 
 // A queue place: the message, what it is there as, and for a processed one the state before it, its checkpoint.
-#[derive(Drop)]
+#[derive(Clone, Copy)]
 pub struct Entry {
     pub message: Message,
     pub mark: Mark,
@@ -52,14 +54,14 @@ pub struct Entry {
 }
 
 // An outstanding place: a message that was sent and not yet acknowledged, or the cancel of one.
-#[derive(Drop)]
+#[derive(Clone, Copy)]
 pub struct Sent {
     pub message: Message,
     pub cancel: bool,
 }
 
 // Where a gateway stands in a round: it waits for its Starts, it has sent its Starts and counts, it has stopped.
-#[derive(Drop)]
+#[derive(Clone, Copy)]
 pub enum Phase {
     Idle,
     Counting,
@@ -68,7 +70,7 @@ pub enum Phase {
 
 // A round at a gateway: which Starts (idle) or Lvts (stopped) have come, bit by bit in the order of from or to, and the
 // note (the running minimum of hours) until the stop, the value after it.
-#[derive(Drop)]
+#[derive(Clone, Copy)]
 pub struct Round {
     pub phase: Phase,
     pub arrived: u8,
@@ -76,7 +78,7 @@ pub struct Round {
 }
 
 // The header of the memory, with the number of used places of both kinds.
-#[derive(Drop)]
+#[derive(Clone, Copy)]
 pub struct Header {
     pub settings: Settings,
     pub state: State,
@@ -87,7 +89,7 @@ pub struct Header {
 }
 
 // What is found in lent memory: whether it is sound, and its header, of zeros where the memory is too short for one.
-#[derive(Drop)]
+#[derive(Clone, Copy)]
 pub struct Checked {
     pub sound: bool,
     pub header: Header,

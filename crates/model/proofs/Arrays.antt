@@ -1,7 +1,7 @@
 -- The length of a message's lamp, from what a function is told of a message that it is passed.
-use mathlib.Core.Path.{◌≡◌, sym, ◌∙◌}
+use mathlib.Core.Path.{◌≡◌}
 use mathlib.Core.List.{List}
-use lib.ListN.{length, length-map}
+use lib.ListN.{length}
 use mir.Val.{Val}
 use denote.Laws.{Is}
 use denote.Struct.Declared
@@ -9,4 +9,4 @@ use Rattle.model.specs.declared.Message.{Message}
 use Rattle.model.specs.contracts.Message.{the_type}
 
 pub lamp-length : (m : Message) (vs : List Val) → Is (Declared.row the_type) m vs → length m.lamp ≡ 18
-lamp-length m vs told = sym (length-map m.lamp (λ v. v)) ∙ told.1.1.1.1.1.1.0.1.0.1
+lamp-length m vs told = told.1.1.1.1.1.1.0.1.0.1

@@ -2,7 +2,7 @@
 use crate::Message;
 
 // The message that doing one sends, if it sends one; else the message that was done.
-#[derive(Drop)]
+#[derive(Clone, Copy)]
 pub struct Reply {
     pub sends: bool,
     pub sent: Message,

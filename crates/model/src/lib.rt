@@ -1,4 +1,6 @@
 // The lamp model: messages, a gateway's state, the event order, and what doing a message changes and sends.
+#![tactic(auto)]
+
 pub mod event; // event.rt: what doing a message sends
 pub mod order; // order.rt: how two messages compare
 
@@ -8,7 +10,7 @@ ghost use Rattle.model.specs.Doing.{hours_in_range, lead_times_valid};
 
 // A message's kind, with the kind's own fields. The first four are events of the forecast. The last three are the
 // round's: no queue holds them, and doing one would change nothing.
-#[derive(Drop)]
+#[derive(Clone, Copy)]
 pub enum Kind {
     Failure { origin: u8 },
     Request { origin: u8 },
@@ -20,7 +22,7 @@ pub enum Kind {
 }
 
 // A message: its hour, its two gateways, its kind, and beside the kind the lamp. What a kind lacks is zero.
-#[derive(Drop)]
+#[derive(Clone, Copy)]
 pub struct Message {
     pub hour: u32,
     pub from: u8,
@@ -30,7 +32,7 @@ pub struct Message {
 }
 
 // A gateway's state.
-#[derive(Drop)]
+#[derive(Clone, Copy)]
 pub struct State {
     pub stock: u32,
     pub failed: u32,
@@ -39,7 +41,7 @@ pub struct State {
 }
 
 // The lead times of a gateway: the hours from a message that it does to the Request, the Delivery or the next Failure that it sends.
-#[derive(Drop)]
+#[derive(Clone, Copy)]
 pub struct LeadTimes {
     pub request: u32,
     pub delivery: u32,
@@ -47,7 +49,7 @@ pub struct LeadTimes {
 }
 
 // Where a message is done: the gateway's own number, its supplier, the forecast's last hour and the gateway's lead times.
-#[derive(Drop)]
+#[derive(Clone, Copy)]
 pub struct Site {
     pub own: u8,
     pub supplier: u8,

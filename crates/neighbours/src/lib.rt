@@ -1,6 +1,8 @@
 // The neighbours of a gateway, and the arcs and messages of a round. Figure 2's signed tests are rearranged so that no value is
 // below 0. neighbours_of and totals_of take any numbers; the functions between them ask their callers, in this repository, for
 // numbers in range.
+#![tactic(auto)]
+
 ghost use Rattle.std.specs.Prelude.{◌≡◌, [], ◌∷◌, ◌≤◌, ◌<◌};
 ghost use Rattle.routing.specs.Arcs.{from, to};
 ghost use Rattle.routing.specs.Answers.{gateways, no_neighbours, neighbours_of, no_totals, totals_of, mids_of};

@@ -1,4 +1,6 @@
 // The opening list: frames one behind the other, each the part of the list that its map makes it.
+#![tactic(auto)]
+
 ghost use Rattle.std.specs.Prelude.{◌≡◌, [], ◌+◌, ◌≤◌, length};
 ghost use Rattle.memory.specs.Layout.{header_size, queue_size, queue_at};
 ghost use Rattle.lists.specs.Lists.{joined};
@@ -20,7 +22,7 @@ use places::search::{Search, find};
 use reader::read;
 
 // What the pass over the opening list finds: the first refusal, or 0, and how many frames stand before it or in all.
-#[derive(Drop)]
+#[derive(Clone, Copy)]
 pub struct Checked {
     pub number: u8,
     pub count: usize,

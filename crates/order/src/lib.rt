@@ -1,4 +1,6 @@
 // The event order: two messages compared by hour, rank of the kind, origin, lamp, quantity, from and to.
+#![tactic(auto)]
+
 ghost use Rattle.std.specs.Prelude.{◌≡◌, [], ◌∷◌};
 ghost use Rattle.model.specs.Messages.{origin_of, quantity_of};
 ghost use Rattle.model.specs.EventOrder.{rank, key, compared, or_else, numbers, different};

@@ -1,4 +1,6 @@
 // How an answer of several numbers goes to programs in C and other languages: packed into one, or in an array of four.
+#![tactic(auto)]
+
 ghost use Rattle.std.specs.Prelude.{◌≡◌, ◌∷◌, ◌<◌, ◌≤◌, get_or, length, drop};
 ghost use Rattle.packing.specs.Packed as Packed;
 ghost use Rattle.packing.specs.Packed.{number_at};

@@ -1,4 +1,6 @@
 // The round in a gateway's header: its phase, its arrivals and its note. What the steps of a round look at and put there.
+#![tactic(auto)]
+
 ghost use Rattle.std.specs.Prelude.{◌≡◌, not, ◌&&◌, leb};
 ghost use Rattle.gateway.specs.Rounds.{idle, is_idle, stands};
 ghost use Rattle.gateway.specs.Inside.Premises.{changed_to};

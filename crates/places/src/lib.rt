@@ -1,4 +1,6 @@
 // The places of a gateway's memory: looking through them, taking one out, the least hours in them.
+#![tactic(auto)]
+
 pub mod changes; // changes.rt: changes of the memory
 pub mod least; // least.rt: the least hours in the memory
 pub mod search; // search.rt: looking through the places

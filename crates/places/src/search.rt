@@ -11,7 +11,7 @@ use memory::{Entry, HEADER_SIZE, Mark, OUTSTANDING_SIZE, QUEUE_SIZE, Sent};
 use model::Message;
 
 // What a search of the queue looks for: a waiting cancel of a message, or a message later than it.
-#[derive(Drop)]
+#[derive(Clone, Copy)]
 pub enum Search {
     CancelOf,
     Later,

@@ -1,4 +1,6 @@
 // The records of the last example, printed: a line an event.
+#![tactic(auto)]
+
 ghost use Rattle.std.specs.Prelude.{◌≤◌, ◌<◌, length};
 
 use decoding::state_of;

@@ -1,4 +1,6 @@
 // What a byte string is: a frame, or refused for the first reason that holds.
+#![tactic(auto)]
+
 ghost use Rattle.std.specs.Prelude.{◌≡◌, ◌+◌, ◌<◌, ◌≤◌, length, get_or};
 ghost use Rattle.buffer.specs.Slice.{part};
 ghost use Rattle.buffer.specs.Number.{number_of};

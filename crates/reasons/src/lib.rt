@@ -1,4 +1,6 @@
 // Why a byte string is refused, in words: the number of a reason and the reason.
+#![tactic(auto)]
+
 ghost use Rattle.std.specs.Prelude.{◌+◌, ◌≤◌, length};
 ghost use Rattle.buffer.specs.Slice.{Puts};
 ghost use Rattle.reasons.specs.Words.{reason_text, refused_text, cut_text};

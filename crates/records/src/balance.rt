@@ -14,7 +14,7 @@ use frame::lamps::LAMP_END;
 use frame::tables::{QUANTITY_END, QUANTITY_PLACE};
 
 // What the balance answers: 0 and the figures, or what it is refused with.
-#[derive(Drop)]
+#[derive(Clone, Copy)]
 pub struct BalanceAnswer {
     pub number: u8,
     pub received: u64,
@@ -23,7 +23,7 @@ pub struct BalanceAnswer {
 }
 
 // The figures of the events so far, and the stock that the lamp model gives after them from the opening one on.
-#[derive(Drop)]
+#[derive(Clone, Copy)]
 pub struct Book {
     pub received: u64,
     pub served: u64,

@@ -1,4 +1,6 @@
 // A record, read event by event: each is its frame, then the state after it.
+#![tactic(auto)]
+
 pub mod balance; // balance.rt: what the Restocks brought, the Requests that found stock, and the last stock
 
 ghost use Rattle.std.specs.Prelude.{◌≡◌, ◌+◌, ◌<◌, ◌≤◌, length};
@@ -39,14 +41,14 @@ const RESTOCK_MAP: u8 = 79;
 const OLD_STATE_SIZE: usize = 14;
 
 // How wide the stock is in a record's states: four bytes, or two in a record from before.
-#[derive(Drop)]
+#[derive(Clone, Copy)]
 pub enum StockField {
     Present,
     Old,
 }
 
 // What stands at a position of a record: 0, the event's kind and the position behind it, or what the event is refused with.
-#[derive(Drop)]
+#[derive(Clone, Copy)]
 pub struct Found {
     pub number: u8,
     pub kind: u8,
@@ -54,7 +56,7 @@ pub struct Found {
 }
 
 // What a pass over a record finds: the first refusal, or 0, and what the events before it, or all of them, weigh.
-#[derive(Drop)]
+#[derive(Clone, Copy)]
 pub struct Passed {
     pub number: u8,
     pub weight: usize,

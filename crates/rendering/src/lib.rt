@@ -1,4 +1,6 @@
 // The whole output of arcs for an input: the number that it spells, its listing, or 8; 5 where there is too little room.
+#![tactic(auto)]
+
 ghost use Rattle.std.specs.Prelude.{◌≡◌, ◌+◌, ◌≤◌, length, take};
 ghost use Rattle.routing.specs.Arcs.{arcs};
 ghost use Rattle.listing.specs.Output.{listing, without_end, number_in, rendered, rendering};

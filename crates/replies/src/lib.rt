@@ -1,4 +1,6 @@
 // What an event sends: whether there is room for it, and sending it.
+#![tactic(auto)]
+
 ghost use Rattle.std.specs.Prelude.{◌≡◌, true, ◌≤◌};
 ghost use Rattle.model.specs.Messages.{kind_number};
 ghost use Rattle.replies.specs.Inside.Turns.{reply_bytes, room_for, MaySendReply, SendsReply};
@@ -11,7 +13,7 @@ use model::event::Reply;
 
 // Where work stands between two events: the header so far, which is written last, the bytes of output that the replies so far take,
 // the place from which on the next unprocessed plain message stands, and why work stops, 0 while it goes on.
-#[derive(Drop)]
+#[derive(Clone, Copy)]
 pub struct Turn {
     pub header: Header,
     pub written: usize,

@@ -1,4 +1,6 @@
 // A frame as a line of text, for those who run the gateways: its fields, or the number with which it is refused and why.
+#![tactic(auto)]
+
 ghost use Rattle.std.specs.Prelude.{◌≡◌, true, false, ◌++◌, ◌+◌, ◌≤◌, length};
 ghost use Rattle.buffer.specs.Slice.{Puts};
 ghost use Rattle.frame.specs.Writing.{writing};

@@ -1,4 +1,6 @@
 // What a frame of each kind has to keep to, for the reader and the writer.
+#![tactic(auto)]
+
 ghost use Rattle.std.specs.Prelude.{◌≡◌, true, cond, ◌&&◌, ◌||◌, ◌/◌, eqb};
 ghost use Rattle.frame.specs.Layout.{odd};
 ghost use Rattle.frame.specs.Reasons.{map_fits, sense_fits};

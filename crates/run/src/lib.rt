@@ -1,1 +1,2 @@
 // Demand 3: the run of N gateways, as definitions.
+#![tactic(auto)]

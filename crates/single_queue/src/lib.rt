@@ -1,5 +1,7 @@
 // The single queue of document 01 for the last example. Its messages stand in event order in a lent queue, 64 bytes each from position
 // 256 on, as in a gateway's memory. A message that is done stays: what it sends is later, so the next is always the one behind it.
+#![tactic(auto)]
+
 ghost use Rattle.std.specs.Prelude.{◌≡◌, ◌+◌, ◌≤◌, ◌<◌, max, length};
 ghost use Rattle.model.specs.Messages.{quantity_of};
 ghost use Rattle.single_queue.specs.Inside.Shelves.{before_one};
@@ -15,7 +17,7 @@ use model::event::Reply;
 use model::{Message, State};
 
 // The states of the two gateways, where their records end, and the number of messages.
-#[derive(Drop)]
+#[derive(Clone, Copy)]
 struct Machine {
     state0: State,
     state1: State,

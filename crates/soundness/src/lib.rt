@@ -1,4 +1,6 @@
 // Whether lent memory is sound: its header, then one pass over the used queue places and one over the used outstanding places.
+#![tactic(auto)]
+
 ghost use Rattle.std.specs.Prelude.{◌≡◌, ◌+◌, ◌*◌, ◌≤◌, length, cond};
 ghost use Rattle.memory.specs.Layout.{header_size, queue_size, outstanding_size, queue_at};
 ghost use Rattle.memory.specs.Codec.{header_at};
@@ -28,7 +30,7 @@ const MOST_TOGETHER: u64 = 67173375;
 // What the pass over the queue carries from place to place: whether an unprocessed plain message was passed; what the Restocks passed
 // bring, all of them and those that are pending; and of the stocks saved the highest, each more by what 512 Restocks bring at most and
 // less by what the Restocks before it bring.
-#[derive(Drop)]
+#[derive(Clone, Copy)]
 pub struct Passed {
     pub pending: bool,
     pub brought: u32,

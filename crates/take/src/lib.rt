@@ -1,4 +1,6 @@
 // The call take: a byte string that is no frame, or no frame for this gateway, is refused; the others go by sense and kind.
+#![tactic(auto)]
+
 ghost use Rattle.std.specs.Prelude.{◌≡◌, true, ◌<◌};
 ghost use Rattle.model.specs.Messages.{kind_number};
 ghost use Rattle.memory.specs.Inside.Fits.{MessageFits};

@@ -1,4 +1,6 @@
 // Taking an acknowledgment: the message or cancel that was sent first of the equal ones leaves its outstanding place.
+#![tactic(auto)]
+
 ghost use Rattle.gateway.specs.Taking.{take_acknowledgment};
 ghost use Rattle.gateway.specs.Inside.Premises.{Known, LeavesMemory};
 

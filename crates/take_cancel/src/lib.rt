@@ -1,4 +1,6 @@
 // Taking a cancel: the last equal plain message goes, undone first if it was processed; with none the cancel waits.
+#![tactic(auto)]
+
 ghost use Rattle.std.specs.Prelude.{◌≤◌, ◌<◌};
 ghost use Rattle.model.specs.Messages.{kind_number};
 ghost use Rattle.memory.specs.Inside.Fits.{MessageFits};

@@ -1,4 +1,6 @@
 // Taking an Lvt: the first one stops the note, each lowers the value, the last one finishes the gateway's part of the round.
+#![tactic(auto)]
+
 ghost use Rattle.std.specs.Prelude.{◌≡◌};
 ghost use Rattle.memory.specs.Codec.{decode};
 ghost use Rattle.gateway.specs.Effects.{settling};

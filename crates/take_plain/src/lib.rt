@@ -1,4 +1,6 @@
 // Taking a plain message: where an equal cancel waits both vanish, otherwise it enters the queue after its equals.
+#![tactic(auto)]
+
 ghost use Rattle.std.specs.Prelude.{◌≡◌, ◌≤◌, ◌<◌, length};
 ghost use Rattle.lists.specs.Inside.Positions.{without};
 ghost use Rattle.model.specs.Messages.{kind_number};

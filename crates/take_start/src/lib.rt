@@ -1,4 +1,6 @@
 // Taking a Start: with all Starts in, the round begins at this gateway.
+#![tactic(auto)]
+
 ghost use Rattle.gateway.specs.Effects.{settling};
 ghost use Rattle.gateway.specs.Rounds.{one_start, take_start};
 ghost use Rattle.gateway.specs.Inside.Premises.{Known, Leaves};

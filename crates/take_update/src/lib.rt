@@ -1,4 +1,6 @@
 // Taking an Update: the larger agreed time is kept, and the children are told.
+#![tactic(auto)]
+
 ghost use Rattle.std.specs.Prelude.{◌≡◌, max};
 ghost use Rattle.gateway.specs.Rounds.{take_update};
 ghost use Rattle.gateway.specs.Inside.Premises.{Known, Leaves};

@@ -1,11 +1,13 @@
 // Decimal text: numbers put as digits, and the number that a text spells.
 // put_decimal asks its caller for the room; decimal_length says how much that is.
+#![tactic(auto)]
+
 ghost use Rattle.std.specs.Prelude.{◌≡◌, ◌+◌, ◌≤◌, length};
 ghost use Rattle.buffer.specs.Slice.{Puts};
 ghost use Rattle.text.specs.Decimal.{decimal, field, spelled};
 
 // What a text spells.
-#[derive(Drop)]
+#[derive(Clone, Copy)]
 pub enum Spelled {
     Number(u32),
     Nothing,

@@ -1,4 +1,6 @@
 // The turns of two gateways: in each they work, exchange their frames and commit, until nothing is left to do.
+#![tactic(auto)]
+
 ghost use Rattle.std.specs.Prelude.{◌≤◌, ◌<◌, length};
 
 use carrier::{UnderWay, bring_all};
@@ -7,7 +9,7 @@ use lines::Ends;
 use working::{nothing_due, start_if_due, work_both};
 
 // How far the run has come, and whether nothing is left to do.
-#[derive(Drop)]
+#[derive(Clone, Copy)]
 struct Progress {
     frames: UnderWay,
     ends: Ends,

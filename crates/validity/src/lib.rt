@@ -1,4 +1,6 @@
 // What a gateway keeps to: settings, round and stored messages. Each test is one of the definitions of validity.
+#![tactic(auto)]
+
 ghost use Rattle.std.specs.Prelude.{◌≡◌, ◌<◌};
 ghost use Rattle.memory.specs.Layout.{size_for};
 ghost use Rattle.memory.specs.Validity.{settings_valid, one_of_two, arrivals_possible, round_possible};

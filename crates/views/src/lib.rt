@@ -1,5 +1,7 @@
 // The views of a record: each reader gets the fields that it is to see of each event, by a map of the view's own, and nothing else.
 // One pass checks the record and measures the view, one writes it.
+#![tactic(auto)]
+
 ghost use Rattle.std.specs.Prelude.{◌≡◌, ◌+◌, ◌≤◌, ◌∷◌, length};
 ghost use Rattle.buffer.specs.Slice.{part, write, Puts};
 ghost use Rattle.memory.specs.Layout.{state_size};
@@ -18,28 +20,28 @@ use memory::STATE_SIZE;
 use records::{RECORD_LIMIT, StockField, event_length, pass_over};
 
 // Who reads a record.
-#[derive(Drop)]
+#[derive(Clone, Copy)]
 pub enum Reader {
     Purchasing,
     Maintenance,
 }
 
 // What a view's call answers: 0 and the bytes written, or what it is refused with.
-#[derive(Drop)]
+#[derive(Clone, Copy)]
 pub struct ViewAnswer {
     pub number: u8,
     pub written: usize,
 }
 
 // What the pass over a record finds: the first refusal, or 0, and the bytes of the view up to it or in all.
-#[derive(Drop)]
+#[derive(Clone, Copy)]
 pub struct Measured {
     pub number: u8,
     pub length: usize,
 }
 
 // What putting a view's front gives: the position behind it, and where the state stands in the event.
-#[derive(Drop)]
+#[derive(Clone, Copy)]
 pub struct Front {
     pub position: usize,
     pub state: usize,

@@ -1,5 +1,7 @@
 // Work: up to so many events are done, each the earliest unprocessed plain message. What they send stands in outstanding places, and its
 // frames are put out from there at the end, by one writer.
+#![tactic(auto)]
+
 ghost use Rattle.std.specs.Prelude.{◌≡◌};
 ghost use Rattle.gateway.specs.Calls.{left, worked_off};
 ghost use Rattle.gateway.specs.Inside.Premises.{Known};

@@ -1,4 +1,6 @@
 // The two gateways of the last example work, and gateway 0 starts a round unless the agreed time is nothing due.
+#![tactic(auto)]
+
 ghost use Rattle.std.specs.Prelude.{◌≤◌, length};
 
 use lines::append;

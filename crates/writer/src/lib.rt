@@ -1,4 +1,6 @@
 // What a frame is written as, and frames put one behind the other.
+#![tactic(auto)]
+
 pub mod outgoing; // outgoing.rt: frames put one behind the other
 
 ghost use Rattle.std.specs.Prelude.{◌≡◌, ◌+◌, ◌≤◌, ◌<◌, length};
