@@ -11,12 +11,12 @@ loop-bit-init c = (omega arith, none-added c.args.map)
 pub overflow_cast-size : goal.overflow_cast-size
 overflow_cast-size c =
             let fits = width_fits c.loop-bit-test.true c.loop-bit.invariant.1 c.if-rest-eq1.true in
-    omega (arith, c.??width_of_lem.ensures, fits, whole-most c.args.map)
+    omega (arith, c.width_of.ensures, fits, whole-most c.args.map)
 
 pub overflow_add-size : goal.overflow_add-size
 overflow_add-size c =
             let fits = width_fits c.loop-bit-test.true c.loop-bit.invariant.1 c.if-rest-eq1.true in
-    omega (arith, c.??width_of_lem.ensures, fits, whole-most c.args.map)
+    omega (arith, c.width_of.ensures, fits, whole-most c.args.map)
 
 pub loop-bit-preserved : goal.loop-bit-preserved
 loop-bit-preserved c =
