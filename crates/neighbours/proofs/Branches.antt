@@ -8,7 +8,7 @@ use native.Mathlib.Omega.{arith}
 use Rattle.routing.specs.declared.Middles.{Middles}
 use Rattle.routing.specs.declared.Neighbours.{Neighbours}
 use Rattle.routing.specs.Figure2.{Row}
-use Rattle.routing.specs.Arcs.{from, to, mid0, mid1, arc_count, round_messages}
+use Rattle.routing.specs.Arcs.{from, to, mid0, arc_count, round_messages}
 use Rattle.routing.specs.Answers.{in_range, gateways, mids_of, no_neighbours, neighbours_of, no_totals, totals_of}
 use Rattle.routing.proofs.Shape.{From, To}
 use Rattle.routing.proofs.Reading.{RowIs, mids, middles-are, from_is, to_is}

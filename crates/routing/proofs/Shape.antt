@@ -89,6 +89,11 @@ module _ {N A B : ℕ} (s : Split N A B) where
   to-joined (two p q r) (there (here e)) = down (omega arith) (omega arith) (omega arith)
   to-joined (one p q r) (here e) = down (omega arith) (omega arith) (omega arith)
   to-joined (across p q r) (here e) = over q (omega arith) (omega arith) (omega arith)
+  to-joined {i = i} {j = j} (root _) x5 = elim x5 [ ]
+  to-joined {i = i} {j = j} (parent p q) (there x8) = elim x8 [ ]
+  to-joined {i = i} {j = j} (two p q r) (there (there x13)) = elim x13 [ ]
+  to-joined {i = i} {j = j} (one p q r) (there x10) = elim x10 [ ]
+  to-joined {i = i} {j = j} (across p q r) (there x11) = elim x11 [ ]
 
   pub from-joined : {i j : ℕ} {l : List ℕ} → j < N → From N A B j l → i ∈ l → Joined N A B i j
   from-joined h (parent p q) (here e) = down q (omega arith) (omega arith)
@@ -96,6 +101,11 @@ module _ {N A B : ℕ} (s : Split N A B) where
   from-joined h (two o p q) (there (here e)) = up (omega arith) (omega arith) (omega arith) (omega arith)
   from-joined h (one o p q) (here e) = up (omega arith) (omega arith) (omega arith) (omega arith)
   from-joined h (across o p q) (here e) = over (omega arith) p (omega arith) (omega arith)
+  from-joined {i = i} {j = j} h (root _) x6 = elim x6 [ ]
+  from-joined {i = i} {j = j} h (parent p q) (there x9) = elim x9 [ ]
+  from-joined {i = i} {j = j} h (two o p q) (there (there x14)) = elim x14 [ ]
+  from-joined {i = i} {j = j} h (one o p q) (there x11) = elim x11 [ ]
+  from-joined {i = i} {j = j} h (across o p q) (there x12) = elim x12 [ ]
 
   pub joined_to : {i j : ℕ} {l : List ℕ} → To N A B i l → Joined N A B i j → j ∈ l
   joined_to (root p) (down a b c) = absurd (omega arith)

@@ -37,11 +37,13 @@ out-has : (i : ℕ) (l : List ℕ) {a b : ℕ} → b ∈ l → a ≡ i → (a, b
 unfolding out_of
 out-has i (x ∷ l) (here e) f = here (λ k. (f k, e k))
 out-has i (x ∷ l) (there m) f = there (out-has i l m f)
+out-has i [] {a = a} {b = b} x'' f = elim x'' [ ]
 
 out-of : (i : ℕ) (l : List ℕ) {c : Arc} → c ∈ out_of i l → (c.0 ≡ i) × (c.1 ∈ l)
 unfolding out_of
 out-of i (x ∷ l) (here e) = (ap (λ (c : Arc). c.0) e, here (ap (λ (c : Arc). c.1) e))
 out-of i (x ∷ l) (there m) = let r = out-of i l m in (r.0, there r.1)
+out-of i [] {c = c} x' = elim x' [ ]
 
 out-ascends : (i : ℕ) {l : List ℕ} → Ascending ◌<◌ l → Ascending Before (out_of i l)
 unfolding out_of
@@ -58,6 +60,7 @@ module _ (N : ℕ) where
       (λ l. let r = listed n l in (omega arith, r.1))
       (λ l. let r = out-of n (to N n) l in (omega arith, subst (λ (i : ℕ). c.1 ∈ to N i) (sym r.0) r.1))
       (Memᴰ.append_cases (arcs_of_first N n) m)
+  listed zero {c = c} m = elim m [ ]
 
   lists : (n i j : ℕ) → i < n → j ∈ to N i → (i, j) ∈ arcs_of_first N n
   unfolding arcs_of_first out_of
@@ -126,6 +129,7 @@ module _ (N : ℕ) (some : 1 ≤ N) where
   empty [] (Sized.nothing p) = (λ e. p, λ q. refl)
   empty (x ∷ []) (Sized.single p q) = (λ e. absurd (cons-ne-nil x [] e), λ n. absurd (p n))
   empty (x ∷ y ∷ []) (Sized.double p q) = (λ e. absurd (cons-ne-nil x (y ∷ []) e), λ n. absurd (p n))
+  empty {two = two} (x ∷ (y ∷ (_ ∷ _))) x8 = elim x8 [ ]
 
   shared-iff : (k : ℕ) {r : Row} → Fit N (2 ^ k) → RowIs N (2 ^ k) (mid0 N) (mid1 N) r
       → (r.shared ≡ true) ↔ ((j : ℕ) × (2 ^ (j + 1) ≤ N + 1) × (N + 2 ≤ 3 * 2 ^ j))
