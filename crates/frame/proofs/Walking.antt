@@ -30,7 +30,7 @@ none-stand (suc k) n h e =
 length_cut : (at map : ℕ) (ws s : List ℕ) → length (cut at map ws s) ≡ length ws
 unfolding cut
 length_cut at map [] s = refl
-length_cut at map (w ∷ ws) s = ap suc (length_cut _ (map / 2) ws s)
+length_cut at map (w ∷ ws) s = ap suc (length_cut (at + cond (odd map) w 0) (map / 2) ws s)
 
 -- where no bit stands every field is without bytes
 cut-none : (at : ℕ) (ws s : List ℕ) → cut at 0 ws s ≡ replicate (length ws) []

@@ -1,6 +1,5 @@
 -- `buffer::copy` meets its contract.
 use mathlib.Core.Path.{refl}
-use Prim.Native.Nat.{◌-◌}
 use native.Mathlib.Omega.{arith}
 use lib.ListN.{length-set}
 use Rattle.buffer.proofs.Writes.{copy_start, copy-turn, copy-end}

@@ -5,5 +5,5 @@ use Rattle.buffer.proofs.copy_four.Goals as goal
 
 pub returns : goal.returns
 returns c =
-                number-copied c.args.source.now (bytes-known c.args.source.now c.type_inv.source) c.args.at
+    number-copied c.args.source.now (bytes-known c.args.source.now c.type_inv.source) c.args.at
     c.args.from 4 c.args.bytes.now c.requires.1 c.read32.ensures c.write32.ensures

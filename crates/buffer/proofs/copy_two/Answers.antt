@@ -5,5 +5,5 @@ use Rattle.buffer.proofs.copy_two.Goals as goal
 
 pub returns : goal.returns
 returns c =
-                number-copied c.args.source.now (bytes-known c.args.source.now c.type_inv.source) c.args.at
+    number-copied c.args.source.now (bytes-known c.args.source.now c.type_inv.source) c.args.at
     c.args.from 2 c.args.bytes.now c.requires.1 c.read16.ensures c.write16.ensures

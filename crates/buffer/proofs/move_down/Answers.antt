@@ -1,6 +1,5 @@
 -- `buffer::move_down` meets its contract.
 use mathlib.Core.Path.{refl}
-use Prim.Native.Nat.{◌-◌}
 use native.Mathlib.Omega.{arith}
 use lib.ListN.{length-set}
 use Rattle.buffer.proofs.Moves.{down-start, down_turn, down-end}

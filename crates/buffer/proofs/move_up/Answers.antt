@@ -1,6 +1,5 @@
 -- `buffer::move_up` meets its contract.
 use mathlib.Core.Path.{refl}
-use Prim.Native.Nat.{◌-◌}
 use native.Mathlib.Omega.{arith}
 use lib.ListN.{length-set}
 use Rattle.buffer.proofs.Moves.{up_start, up_turn, up-end}

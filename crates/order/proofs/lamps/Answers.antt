@@ -1,6 +1,5 @@
 -- `order::lamps` meets its contract.
 use mathlib.Core.Path.{refl}
-use Prim.Native.Nat.{◌-◌}
 use native.Mathlib.Omega.{arith}
 use Rattle.model.proofs.Comparing.{place-differs, place-equal, place-last}
 use Rattle.order.proofs.lamps.Goals as goal

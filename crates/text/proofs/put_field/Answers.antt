@@ -1,8 +1,6 @@
 -- `text::put_field` meets its contract.
 use native.Mathlib.Omega.{arith}
-use Prim.Native.Nat.{◌≤◌}
-use lib.ListN.{length, length-set}
-use Rattle.text.specs.Decimal.{decimal}
+use lib.ListN.{length-set}
 use Rattle.text.proofs.Putting.{few-digits, field_put}
 use Rattle.text.proofs.put_field.Goals as goal
 

@@ -1,6 +1,5 @@
 -- `spelled_number` finds what the text spells: each of its returns is a law of Reading.
 use mathlib.Core.Path.{refl}
-use Prim.Native.Nat.{◌-◌}
 use native.Mathlib.Omega.{arith}
 use Rattle.text.specs.Decimal.{value, value_from}
 use Rattle.text.proofs.Digits.{none}
@@ -28,19 +27,18 @@ returns-then-byte-gt57 c = no_digit _ _ c.loop-i.i c.loop-i-test.true (λ p q. o
 
 pub returns-then-number-most : goal.returns-then-number-most
 returns-then-number-most c =
-            past-most _ _ c.loop-i.i c.loop-i-test.true c.loop-i.invariant.1 (omega arith)
+    past-most _ _ c.loop-i.i c.loop-i-test.true c.loop-i.invariant.1 (omega arith)
 
 pub loop-i-preserved : goal.loop-i-preserved
-loop-i-preserved c =
-        (
-      omega arith,
-      read-value _ _ c.loop-i-test.true c.loop-i.invariant.1,
-      read-digits _ _ c.loop-i-test.true
-          (omega arith) (omega arith) c.loop-i.invariant.2,
-      omega arith,
-    )
+loop-i-preserved c = (
+  omega arith,
+  read-value _ _ c.loop-i-test.true c.loop-i.invariant.1,
+  read-digits _ _ c.loop-i-test.true
+      (omega arith) (omega arith) c.loop-i.invariant.2,
+  omega arith,
+)
 
 pub returns : goal.returns
 returns c =
-            whole _ _ c.loop-i.i (omega arith) c.loop-i.invariant.1 c.loop-i.invariant.2 (omega arith) c.if-text-eq48.false (omega
+    whole _ _ c.loop-i.i (omega arith) c.loop-i.invariant.1 c.loop-i.invariant.2 (omega arith) c.if-text-eq48.false (omega
     arith)
