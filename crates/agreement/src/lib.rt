@@ -4,28 +4,34 @@
 ghost use Rattle.std.specs.Prelude.{◌≤◌, length};
 
 use check::same;
-use libc::STDOUT_FILENO;
 use lines::Ends;
 use single_queue::run;
+use std::io;
 
 // Prints that the single queue's records are these, if they are.
-pub fn compare(list: &[u8], record0: &[u8], record1: &[u8], ends: Ends)
+pub fn compare(
+    rt: &impl Print,
+    list: &[u8],
+    record0: &[u8],
+    record1: &[u8],
+    ends: Ends,
+) -> io::Result<()>
     requires { (ends.first ≤ length record0.now) × (ends.second ≤ length record1.now) }
 {
-    let mut queue = io::large_buffer();
-    let mut output = io::buffer();
-    let mut first = io::buffer();
-    let mut second = io::buffer();
+    let mut queue = [0u8; 65536];
+    let mut output = [0u8; 4096];
+    let mut first = [0u8; 4096];
+    let mut second = [0u8; 4096];
     let whole = run(list, &mut queue, &mut output, &mut first, &mut second);
     let end0 = ends.first;
     let end1 = ends.second;
     let first_whole = whole.first;
     let second_whole = whole.second;
     if !same(&record0[..end0], &first[..first_whole]) {
-        return;
+        return Ok(());
     }
     if !same(&record1[..end1], &second[..second_whole]) {
-        return;
+        return Ok(());
     }
-    io::write_all(STDOUT_FILENO, b"single queue agrees\n");
+    println!(rt; "single queue agrees")
 }

@@ -2,9 +2,10 @@
 // for each: the fields of the frame that it is, or the number with which it is refused and why. An item that the input cuts is refused with 11.
 #![tactic(auto)]
 
-ghost use Rattle.std.specs.Prelude.{◌≡◌, ◌+◌, ◌≤◌, length};
+ghost use Rattle.std.specs.Prelude.{◌≡◌, ◌+◌, ◌≤◌, length, IfOk};
 
-use libc::{STDIN_FILENO, STDOUT_FILENO};
+use std::io;
+use std::io::{ErrorKind, Read};
 
 // One item of the input: whether there is one, whether it is whole, and how many bytes it has.
 #[derive(Clone, Copy)]
@@ -14,60 +15,75 @@ struct Item {
     size: usize,
 }
 
-fn main() {
-    let mut out = io::large_buffer();
+fn main(rt: HostRuntime) -> io::Result<()> {
+    let mut input = rt.stdin();
+    let mut out = [0u8; 65536];
     let mut item = [0u8; 255];
     let mut at: usize = 0;
     let mut turns: u32 = 4294967295;
     while turns > 0 {
-        let next = next_item(&mut item);
+        let next = next_item(&mut input, &mut item)?;
         if !next.some {
             break;
         }
         at = put_item(&mut out, at, &item, next);
-        at = with_room(&out, at);
+        at = with_room(&rt, &out, at)?;
         turns -= 1;
     }
-    print(&out, at);
+    print(&rt, &out, at)
 }
 
 // Prints the first at bytes.
-fn print(out: &[u8], at: usize)
+fn print(rt: &impl Print, out: &[u8], at: usize) -> io::Result<()>
     requires { at ≤ length out.now }
 {
-    io::write_all(STDOUT_FILENO, &out[..at]);
+    rt.write_all(&out[..at])
 }
 
 // Prints what has been put if there is little room left, and answers where to go on.
-fn with_room(out: &[u8], at: usize) -> usize
+fn with_room(rt: &impl Print, out: &[u8], at: usize) -> io::Result<usize>
     requires { at ≤ length out.now }
-    ensures { result ≤ 65000 }
+    ensures { IfOk result (λ next. next ≤ 65000) }
 {
     if at > 65000 {
-        print(out, at);
-        return 0;
+        print(rt, out, at)?;
+        return Ok(0);
     }
-    at
+    Ok(at)
 }
 
-fn next_item(item: &mut [u8]) -> Item
+fn next_item(input: &mut impl Read, item: &mut [u8]) -> io::Result<Item>
     requires { 255 ≤ length item.old }
-    ensures { result.size ≤ 255 }
+    ensures { IfOk result (λ next. next.size ≤ 255) }
 {
     let mut head = [0u8; 1];
-    if io::read_full(STDIN_FILENO, &mut head) == 0 {
-        return Item {
+    if input.read(&mut head)? == 0 {
+        return Ok(Item {
             some: false,
             whole: false,
             size: 0,
-        };
+        });
     }
     let size = wide(head[0]);
-    let got = io::read_full(STDIN_FILENO, &mut item[..size]);
-    Item {
+    let whole = filled(input, &mut item[..size])?;
+    Ok(Item {
         some: true,
-        whole: got == size,
+        whole,
         size,
+    })
+}
+
+// Reads until the buffer is full, and answers whether the input went so far.
+fn filled(input: &mut impl Read, buf: &mut [u8]) -> io::Result<bool> {
+    match input.read_exact(buf) {
+        Ok(()) => Ok(true),
+        Err(error) => {
+            if error.kind() == ErrorKind::UnexpectedEof {
+                Ok(false)
+            } else {
+                Err(error)
+            }
+        }
     }
 }
 
