@@ -1,0 +1,86 @@
+-- `views::put_for_maintenance` meets its contract.
+use native.Mathlib.Omega.{arith}
+use Rattle.buffer.proofs.Lent.{bytes-known}
+use Rattle.records.proofs.EventParts.{kind-inside}
+use Rattle.records.specs.Events.{event_of}
+use Rattle.views.specs.Bytes.{event_view}
+use Rattle.views.specs.declared.Reader.TheVariants.{Maintenance}
+use Rattle.views.proofs.ViewParts.{restock-long, maintenance-restock, lamp-long, maintenance-lamp, front-room, front-put, lamp-room, lamp-fits, lamp-length, lamp-put}
+use borrow.Author.Rules.{rules}
+use Rattle.views.proofs.put_for_maintenance.Goals as goal
+
+pub bounds-event-1 : goal.bounds-event-1
+bounds-event-1 c =
+    let s = c.args.event.now in
+    let b = bytes-known s c.type_inv.event in
+    let inside = kind-inside c.args.stock s b c.requires.0 in
+    search rules
+
+pub put_head-requires : goal.put_head-requires
+put_head-requires c =
+    let s = c.args.event.now in
+    let b = bytes-known s c.type_inv.event in
+    let k = c.if-event-eq3.true in
+    let long = restock-long c.args.stock s b c.requires.0 k in
+    let room = front-room c.args.at 3 c.args.output.now s (event_view Maintenance (event_of c.args.stock s)) (maintenance-restock c.args.stock s b c.requires.0 k) (omega arith) c.requires.1 in
+    (omega arith, omega arith)
+
+pub returns-then-event-eq3 : goal.returns-then-event-eq3
+returns-then-event-eq3 c =
+    let s = c.args.event.now in
+    let b = bytes-known s c.type_inv.event in
+    let k = c.if-event-eq3.true in
+    let long = restock-long c.args.stock s b c.requires.0 k in
+    front-put c.args.at 3 c.args.output.now s (event_view Maintenance (event_of c.args.stock s)) (maintenance-restock c.args.stock s b c.requires.0 k) (omega arith) c.put_head.ensures
+
+pub put_head-requires-2 : goal.put_head-requires-2
+put_head-requires-2 c =
+    let s = c.args.event.now in
+    let b = bytes-known s c.type_inv.event in
+    let k = c.if-event-eq3.false in
+    let long = lamp-long c.args.stock s b c.requires.0 k in
+    let room = lamp-room c.args.at c.args.output.now s (event_view Maintenance (event_of c.args.stock s)) (maintenance-lamp c.args.stock s b c.requires.0 k) long c.requires.1 in
+    (omega arith, omega arith)
+
+pub copy_lamp-requires : goal.copy_lamp-requires
+copy_lamp-requires c =
+    let s = c.args.event.now in
+    let b = bytes-known s c.type_inv.event in
+    let k = c.if-event-eq3.false in
+    let long = lamp-long c.args.stock s b c.requires.0 k in
+    (lamp-fits c.args.at c.args.output.now s (event_view Maintenance (event_of c.args.stock s)) (maintenance-lamp c.args.stock s b c.requires.0 k) long c.requires.1 c.put_head-2.ensures, omega arith)
+
+pub bounds-event-8 : goal.bounds-event-8
+bounds-event-8 c =
+    let s = c.args.event.now in
+    let b = bytes-known s c.type_inv.event in
+    let k = c.if-event-eq3.false in
+    let long = lamp-long c.args.stock s b c.requires.0 k in
+    search rules
+
+pub bounds-output-at : goal.bounds-output-at
+bounds-output-at c =
+    let s = c.args.event.now in
+    let b = bytes-known s c.type_inv.event in
+    let k = c.if-event-eq3.false in
+    let long = lamp-long c.args.stock s b c.requires.0 k in
+    let room = lamp-room c.args.at c.args.output.now s (event_view Maintenance (event_of c.args.stock s)) (maintenance-lamp c.args.stock s b c.requires.0 k) long c.requires.1 in
+    let same = lamp-length c.args.at c.args.output.now s (event_view Maintenance (event_of c.args.stock s)) (maintenance-lamp c.args.stock s b c.requires.0 k) long c.requires.1 c.put_head-2.ensures c.copy_lamp.ensures in
+    search rules
+
+pub shape_of-output : goal.shape_of-output
+shape_of-output c =
+    let s = c.args.event.now in
+    let b = bytes-known s c.type_inv.event in
+    let k = c.if-event-eq3.false in
+    let long = lamp-long c.args.stock s b c.requires.0 k in
+    let same = lamp-length c.args.at c.args.output.now s (event_view Maintenance (event_of c.args.stock s)) (maintenance-lamp c.args.stock s b c.requires.0 k) long c.requires.1 c.put_head-2.ensures c.copy_lamp.ensures in
+    search (same, rules)
+
+pub returns : goal.returns
+returns c =
+    let s = c.args.event.now in
+    let b = bytes-known s c.type_inv.event in
+    let k = c.if-event-eq3.false in
+    let long = lamp-long c.args.stock s b c.requires.0 k in
+    lamp-put c.args.at c.args.output.now s (event_view Maintenance (event_of c.args.stock s)) (maintenance-lamp c.args.stock s b c.requires.0 k) long c.requires.1 c.put_head-2.ensures c.copy_lamp.ensures
