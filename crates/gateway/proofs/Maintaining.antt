@@ -11,7 +11,6 @@ use native.Mathlib.Omega.{arith}
 use lib.ListN.{length}
 use borrow.Author.Tests.{leb-true}
 use Rattle.lists.specs.Lists.{◌∈◌, Ascending}
-use Rattle.model.specs.Doing.{sent}
 use Rattle.model.specs.declared.Message.{Message}
 use Rattle.model.specs.declared.State.{State}
 use Rattle.memory.specs.Records.{Gateway, site_of}
@@ -199,7 +198,7 @@ pub send-all : {s : Settings} {g : Gateway} → Standing s g → (cancel : Bool)
     → ((m : Message) → m ∈ ms → GoodSent s (record { message = m; cancel = cancel })) → Standing s (sent_all cancel ms g)
 unfolding sent_all
 send-all k cancel [] h = k
-send-all k cancel (m ∷ ms) h = send-all (send-one k cancel m (h m (here refl))) cancel ms (λ x n. h x (there n))
+send-all {g = g} k cancel (m ∷ ms) h = send-all {g = sent_one cancel m g} (send-one k cancel m (h m (here refl))) cancel ms (λ x n. h x (there n))
 
 -- sending leaves the state
 sent-state : (cancel : Bool) (ms : List Message) (g : Gateway) → (sent_all cancel ms g).state ≡ g.state

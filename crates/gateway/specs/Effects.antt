@@ -1,5 +1,5 @@
 -- What a call would do to a gateway, whether there is room for it, and the changes that several calls make.
-use Rattle.std.specs.Prelude.{ℕ, ◌+◌, min, Bool, cond, ◌&&◌, List, [], ◌∷◌, ◌++◌, map, leb, length}
+use Rattle.std.specs.Prelude.{ℕ, min, Bool, cond, ◌&&◌, List, [], ◌∷◌, ◌++◌, map, leb, length}
 use Rattle.lists.specs.Lists.{joined}
 use Rattle.model.specs.declared.Message.{Message}
 use Rattle.model.specs.declared.State.{State}

@@ -1,5 +1,5 @@
 -- Set up: the settings, then each frame of the opening list in turn, then the queue places.
-use Rattle.std.specs.Prelude.{ℕ, ◌+◌, Bool, cond, ◌&&◌, ◌||◌, List, [], ◌∷◌, ◌++◌, leb, eqb, length}
+use Rattle.std.specs.Prelude.{ℕ, Bool, cond, ◌&&◌, ◌||◌, List, [], ◌∷◌, ◌++◌, leb, eqb, length}
 use Rattle.model.specs.Messages.{kind_number}
 use Rattle.model.specs.Doing.{opening_state}
 use Rattle.frame.specs.Layout.{whole_length}

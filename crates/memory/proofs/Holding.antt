@@ -1,6 +1,6 @@
 -- Memory that holds a gateway: its bytes stand in it. Writing the gateway makes it so, and reading gives the gateway.
 use mathlib.Core.Path.{◌≡◌, ◌∙◌, ap}
-use Prim.Native.Nat.{ℕ, ◌*◌, ◌≤◌}
+use Prim.Native.Nat.{ℕ, ◌*◌}
 use native.Mathlib.Omega.{arith}
 use mathlib.Core.List.{List}
 use lib.Dec.{lit≤}
