@@ -36,7 +36,7 @@ program plain_arcs stands beside this one. The SCENARIO - is standard input.
 Status: 0, 1 if plain Rust does something else than what it is measured beside, 2 for a bad usage, 3
 if a file or program cannot be used or standard output cannot be written.
 
-  bench target/town/scenario target/bin/arcs
+  bench target/town/scenario crates/arcs/out/arcs
 ";
 
 /// The status where plain Rust does something else.
