@@ -11,7 +11,7 @@ use Rattle.lists.specs.Families.{change}
 use Rattle.buffer.specs.Slice.{Bytes, write}
 use Rattle.model.specs.Messages.{kind_number}
 use Rattle.frame.specs.Reasons.{reading, form_number}
-use Rattle.frame.specs.Writing.{well_formed, written}
+use Rattle.frame.specs.Writing.{well_formed}
 use Rattle.frame.specs.declared.Frame.{Frame}
 use Rattle.frame.specs.declared.Sense.{Sense}
 use Rattle.frame.specs.declared.Sense.TheVariants.{Plain, Cancel, Acknowledgment, CancelAcknowledgment}

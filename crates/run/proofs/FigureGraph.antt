@@ -32,6 +32,7 @@ pub member-times : (k : ℕ) (l : List ℕ) → k ∈ l → 1 ≤ times k l
 unfolding count tally
 member-times k (x ∷ l) (here e) = omega (arith, matches-equal ℕ_discrete {a = k} {b = x} e)
 member-times k (x ∷ l) (there m) = omega (arith, member-times k l m)
+member-times k [] x' = elim x' [ ]
 
 -- in a list where none is beside itself, each stands once
 ascending-once : {R : ℕ → ℕ → Type 0} → ((x : ℕ) → R x x → ⊥) → (k : ℕ) {l : List ℕ} → Ascending R l → times k l ≤ 1

@@ -34,7 +34,6 @@ use Rattle.gateway.specs.Calls.{taken, unless_below, take_by_kind, take_by_sense
 use Rattle.routing.proofs.FewArcs.{from-few, to-few}
 use Rattle.event_steps.specs.Models.{hour, first}
 use Rattle.event_steps.specs.Gateways.{Event, plain, cancel, message, Network, Gateway as View}
-use Rattle.round_steps.specs.Arcs.{times}
 use Rattle.round_steps.specs.RoundSteps.{RoundFrame, start, lvt, update, InTurn, start-in-turn, lvt-in-turn, update-in-turn}
 use Rattle.timewarp.specs.Claims.{IsOutstanding}
 use Rattle.timewarp.specs.Worlds as Worlds
@@ -42,7 +41,6 @@ use Rattle.round_steps.proofs.ArcLaws.{ChildOf, child, no-child, child?}
 use Rattle.timewarp.proofs.Theorem.{claim-holds}
 use Rattle.run.specs.Forecast.{SetUpInput}
 use Rattle.run.specs.World.{World, Carried}
-use Rattle.run.specs.Demand3.{agreed}
 use Rattle.run.proofs.FigureGraph.{figure_graph, tells_is, hears-is}
 use Rattle.run.proofs.QueueViews.{event_if, event_for}
 use Rattle.run.proofs.ArrivalBits.{first-arrival}

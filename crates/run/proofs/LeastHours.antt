@@ -13,7 +13,7 @@ use Rattle.memory.specs.declared.Sent.{Sent}
 use Rattle.gateway.specs.Rounds.{least_outstanding, least_queued}
 use Rattle.gateway.specs.Working.{pending_of}
 use Rattle.event_steps.specs.Models.{first}
-use Rattle.event_steps.specs.Gateways.{cancel, message}
+use Rattle.event_steps.specs.Gateways.{message}
 use Rattle.run.specs.WhatWaits.{waiting_of}
 use Rattle.run.proofs.QueueViews.{event_if, event_for, Marked, pending, processed, waiting, marked}
 

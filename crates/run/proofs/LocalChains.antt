@@ -24,7 +24,7 @@ module _ (M : Model) {i time : ℕ} where
   single x = then none x refl
 
   -- one chain after another
-  pub join : {g g' g'' : Gateway M.Message} {n n' n'' : Network M.Message} {s t : List M.Message} →
+  pub join : {g g' : Gateway M.Message} {n n' : Network M.Message} {g'' : Gateway M.Message} {n'' : Network M.Message} {s t : List M.Message} →
       Chain M i time g n s g' n' → Chain M i time g' n' t g'' n'' → Chain M i time g n (s ++ t) g'' n''
   join {g} {g'} {n = n} {n' = n'} {s = s} c none = subst (λ u. Chain M i time g n u g' n') (sym (append-nil s)) c
   join {s = s} c (then {s = t} {t = u} d x e) = then (join c d) x (ap (λ k. s ++ k) e ∙ sym (append_assoc s t u))

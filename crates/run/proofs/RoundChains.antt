@@ -15,7 +15,7 @@ use Rattle.lists.proofs.FamilyLaws.{Same, same, other, same?, Changed, at, off, 
 use Rattle.memory.specs.declared.Round.{Round}
 use Rattle.memory.specs.declared.Phase.TheVariants.{Idle, Counting, Stopped}
 use Rattle.gateway.specs.Rounds.{bit_of}
-use Rattle.round_steps.specs.Arcs.{Graph, Arc, times}
+use Rattle.round_steps.specs.Arcs.{Graph, Arc}
 use Rattle.event_steps.specs.Models.{Model}
 use Rattle.round_steps.specs.RoundSteps.{Rounds, RoundFrame, start, lvt, update, idle, counting, stopped, finished, begin, hear, stop, take_lvt}
 use Rattle.round_steps.specs.RoundSteps.{finish, close, take_update, Stops, begins, hears, stops, takes-lvt, finishes, closes, takes-update}
@@ -29,7 +29,7 @@ use Rattle.event_steps.proofs.Histories.{OutstandingFrom, WaitingFrom}
 use Rattle.timewarp.proofs.Joined.{Good, good-steps}
 use Rattle.run.specs.World
 use Rattle.run.proofs.FigureGraph.{figure_graph}
-use Rattle.run.proofs.Standing.{Standings, StandingAt, is-finished, round_of, begin-standings, stop-standings, finish-standings}
+use Rattle.run.proofs.Standing.{Standings, StandingAt, round_of, begin-standings, stop-standings, finish-standings}
 use Rattle.run.proofs.Standing.{close-standings, hear-standings, lvt-standings}
 use Rattle.run.proofs.RoundCounters.{Counted, is_open, one_more, open-counted, begin-counted, hear-counted, stop-counted, lvt-counted}
 use Rattle.run.proofs.RoundCounters.{own-lvt-counted, finish-counted, close-counted, update-counted}

@@ -2,7 +2,7 @@
 use mathlib.Core.Path.{◌≡◌, refl, sym, ◌∙◌, ap, subst}
 use mathlib.Core.Bool.{Bool, true, false, cond, ◌||◌, false≢true}
 use mathlib.Core.List.{List, [], ◌∷◌, ◌++◌, map, append_assoc}
-use Prim.Native.Nat.{ℕ, suc, ◌+◌, ◌-◌, ◌≤◌}
+use Prim.Native.Nat.{ℕ, suc, ◌-◌, ◌≤◌}
 use native.Mathlib.Omega.{arith}
 use Rattle.lists.specs.Lists.{any, without_first, All, nil, cons, Insert, here, there}
 use Rattle.lists.proofs.ListLaws.{all_append, all-image}
@@ -14,7 +14,6 @@ use Rattle.frame.specs.Writing.{written}
 use Rattle.frame.specs.declared.Frame.{Frame}
 use Rattle.buffer.proofs.Equality.{same_bytes_lem}
 use Rattle.gateway.specs.Rounds.{frames_in_round}
-use Rattle.round_steps.specs.Arcs
 use Rattle.round_steps.specs.RoundSteps.{RoundFrame, start, lvt, update}
 use Rattle.run.specs.World.{Carried, is_frame, tag_of, carry, kind_in}
 

@@ -13,7 +13,7 @@ use Rattle.frame.specs.Limits.{nothing_due}
 use Rattle.event_steps.specs.Models.{Model}
 use Rattle.event_steps.specs.SingleQueue as Theory
 use Rattle.run.specs.Forecast.{SetUpInput}
-use Rattle.run.specs.SingleQueue.{Queue, opening_queue, earliest, step_on, turns_for}
+use Rattle.run.specs.SingleQueue.{Queue, opening_queue, step_on, turns_for}
 use Rattle.run.specs.History.{next_of, done_in, single_history}
 use Rattle.run.proofs.ForecastModel.{forecast_model, Settled}
 use Rattle.run.proofs.SingleQueues.{Alike, same_first, not_alike, earliest-is, Agree, step-agrees, whole-history}

@@ -1,6 +1,6 @@
 -- What the functions inside a call are told of the memory, and promise.
 use Rattle.std.specs.Prelude.{◌≡◌, true, List, ℕ}
-use Rattle.std.specs.Borrow.{Bor}
+use Rattle.std.specs.Borrow.{MutBor}
 use denote.Triple.Both.{Both}
 use Rattle.model.specs.declared.Kind.{Kind}
 use Rattle.memory.specs.Records.{Gateway}
@@ -37,11 +37,11 @@ with_header h g = record {
 }
 
 -- what a call leaves of the lent memory and output, with its answer, is what `call` comes to on the gateway that it found in the memory
-abbrev pub Leaves : Answer → Both (Bor (List ℕ)) (Bor (List ℕ)) → Both (Bor (List ℕ)) (Bor (List ℕ)) → (ℕ → Gateway → Outcome) → Type 0
+abbrev pub Leaves : Answer → Both (MutBor (List ℕ)) (MutBor (List ℕ)) → Both (MutBor (List ℕ)) (MutBor (List ℕ)) → (ℕ → Gateway → Outcome) → Type 0
 Leaves r memory output call = left r memory.exit.now output.exit.now ≡ on_held call memory.entry.now output.entry.now
 
 -- the same of a call that has nothing to do with an output
-abbrev pub LeavesMemory : Answer → Both (Bor (List ℕ)) (Bor (List ℕ)) → (Gateway → Outcome) → Type 0
+abbrev pub LeavesMemory : Answer → Both (MutBor (List ℕ)) (MutBor (List ℕ)) → (Gateway → Outcome) → Type 0
 LeavesMemory r memory call =
     (output : List ℕ) → left r memory.exit.now output ≡ leaving (call (decode memory.entry.now)) memory.entry.now output
 
