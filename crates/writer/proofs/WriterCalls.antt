@@ -9,7 +9,7 @@ use seplogic.Ra.Ura.{Ura}
 use mir.Syntax.{named, erased, w64, Place, Opd as Operand, Body, seq, call}
 use mir.Val.{Val, WT, has_ty, vint}
 use base.Logic.{SProp, ent, sep, id⊢, ex_e, snd∗}
-use base.Fml.{Lft, Share, ftrue, flft}
+use base.Fml.{Lft, Share, Fml, ftrue, fsep, flft, fbor}
 use prog.Memory.{Memory}
 use prog.Routine.{Routine}
 use prog.Wp.{Env, Calls, Loops}
@@ -18,11 +18,14 @@ use contract.Monad.{Fun, fact}
 use types.Kit.{Item, ‵, raw, some, later, ◌⊛◌, ◌$◌, ◌∵◌, !, qed, move, use2, use3, use1, split, join, pick, rewrite, regoal, fsplit}
 use types.Kit.{fjoin, feq_l, frame, await, done, drop, Seq, Post, runs, lands}
 use types.Run.{Opds}
+use types.SemTy.{Arr, Body as BodyOf}
+use types.Hole.{Holey}
 use sound.WpLaws.{FmC}
 use denote.Laws.{Is, shows}
 use denote.Plain.{uint_Makes}
 use denote.Builtin.{u8, usize}
 use denote.RattleType.{RattleType}
+use denote.Memory.{mem as at_memory}
 use denote.Ref.{MutBor, NamedLft}
 use denote.Slice.{MutSlice, finally}
 use denote.Steps.{only, owned, peeks, facts, heard, nothing}
@@ -52,6 +55,10 @@ abbrev α : Lft → NamedLft
 
 abbrev pub WriterAt : Lft → RattleType
 WriterAt κ = T.the_row (α κ)
+
+-- what is left of an output that was given up: what says its last list, and its borrow, of n places
+abbrev pub LeftOf : Lft → MutBor (List ℕ) → ℕ → List ℕ → Fml
+LeftOf κ x n zs = fsep (finally u8 x.ghost_name zs) (fbor κ (BodyOf (Arr (Holey (at_memory u8)) n) x.ref_ptr.0 x.ref_ptr.1 x.ghost_name))
 
 -- the machine value of a writer has the struct's MIR type, whose lifetimes a local's erases
 pub writer-typed : (κ : Lft) (h : Writer) (w : Val) → Is (WriterAt κ) h (w ∷ []) → Holds (has_ty (T'.mir erased) w) × WT w
@@ -112,15 +119,15 @@ module _ {M : Type 1} {𝓤 : Ura M} (𝓛 : Logic 𝓤) (mem : Memory → SProp
         ∷ 0 ∷ []) $ join ! $ frame ! $ done !
 
     goes-put : (h : Writer) (w : Val) (f : Frame) (u : Val) → h.at + length (written f) ≤ length h.output.now
-        → ent 𝓤 (sep 𝓤 (A.lft κ q) (sep 𝓤 (sem 𝓛 ((WriterAt κ).own h (w ∷ []))) (sem 𝓛 ((Fr.the_row).own_val f (u ∷ [])))))
+        → ent 𝓤 (sep 𝓤 (A.lft κ q) (sep 𝓤 (sem 𝓛 ((WriterAt κ).own_val h (w ∷ []))) (sem 𝓛 ((Fr.the_row).own_val f (u ∷ [])))))
         (Putting.pre (to-put κ q h w f u))
     goes-put h w f u within =
-        qed 𝓛 (‵ (flft κ q) ∷ ‵ ((WriterAt κ).own h (w ∷ [])) ∷ ‵ ((Fr.the_row).own_val f (u ∷ [])) ∷ []) ∵ nothing ! $ move ! (1 ∷ 0 ∷ []) $ join
+        qed 𝓛 (‵ (flft κ q) ∷ ‵ ((WriterAt κ).own_val h (w ∷ [])) ∷ ‵ ((Fr.the_row).own_val f (u ∷ [])) ∷ []) ∵ nothing ! $ move ! (1 ∷ 0 ∷ []) $ join
         ! $ says ! within $ frame ! $ nothing ! $ move ! (2 ∷ 0 ∷ []) $ fjoin ! $ move ! (1 ∷ 0 ∷ []) $ fjoin ! $ done !
 
-    goes-ask : (h : Writer) (w : Val) → ent 𝓤 (sep 𝓤 (A.lft κ q) (sem 𝓛 ((WriterAt κ).own h (w ∷ [])))) (Asking.pre (to-ask κ q h w))
+    goes-ask : (h : Writer) (w : Val) → ent 𝓤 (sep 𝓤 (A.lft κ q) (sem 𝓛 ((WriterAt κ).own_val h (w ∷ [])))) (Asking.pre (to-ask κ q h w))
     goes-ask h w =
-        qed 𝓛 (‵ (flft κ q) ∷ ‵ ((WriterAt κ).own h (w ∷ [])) ∷ []) ∵ nothing ! $ move ! (1 ∷ 0 ∷ []) $ join ! $ nothing ! $ move ! (2 ∷ 0 ∷ []) $
+        qed 𝓛 (‵ (flft κ q) ∷ ‵ ((WriterAt κ).own_val h (w ∷ [])) ∷ []) ∵ nothing ! $ move ! (1 ∷ 0 ∷ []) $ join ! $ nothing ! $ move ! (2 ∷ 0 ∷ []) $
         fjoin ! $ move ! (1 ∷ 0 ∷ []) $ join ! $ frame ! $ done !
 
 module _ {M : Type 1} {𝓤 : Ura M} {𝓛 : Logic 𝓤} {K : Type 0} {Γ : List (Item 𝓤)} {E : Env 𝓤 𝓛.H} {C : Calls 𝓤
@@ -131,17 +138,17 @@ module _ {M : Type 1} {𝓤 : Ura M} {𝓛 : Logic 𝓤} {K : Type 0} {Γ : List
   pub makes-writer : K → FmC 𝓤 H 𝓛.laws C → (mem : Memory → SProp 𝓤) (run : Routine → Fun 𝓤) → Known 𝓛 mem run C
       → (κ : Lft) (q : Share) (x : MutBor (List ℕ)) (s : Val) (n : ℕ) → n < 2 ^ 64 → Opds K 𝓛 (raw ((Making 𝓛 mem run).pre (to_make 𝓛
       mem run κ q x s n)) ∷ Γ) E xs (s ∷ vint w64 n ∷ [])
-      → ((w : Val) → Holds (has_ty (T'.mir erased) w) × WT w → Seq K 𝓛 (‵ (flft κ q) ∷ ‵ ((WriterAt κ).own (record { output = x; at = n }) (w ∷
+      → ((w : Val) → Holds (has_ty (T'.mir erased) w) × WT w → Seq K 𝓛 (‵ (flft κ q) ∷ ‵ ((WriterAt κ).own_val (record { output = x; at = n }) (w ∷
       [])) ∷ Γ) (lands C Λ E d w rest p))
       → Seq K 𝓛 (‵ (flft κ q) ∷ ‵ ((MutSlice (named 0) κ u8).own_val x (s ∷ [])) ∷ Γ) (runs C Λ E (seq (call #writer·outgoing·writer-at xs d) rest) p)
   makes-writer t fm mem run known κ q x s n fits os k =
       use2 𝓛 (raw ((Making 𝓛 mem run).pre (to_make 𝓛 mem run κ q x s n))) (goes_make 𝓛 mem run κ q x s n fits) $
       calls_at t fm (Making 𝓛 mem run) known.making (to_make 𝓛 mem run κ q x s n) os (λ w.
-      use1 𝓛 (later (some (λ (r : Writer). ((‵ (flft κ q) ⊛ ‵ ftrue) ⊛ ‵ ((WriterAt κ).own r (w ∷ []))) ⊛ raw (ensured 𝓛 writer-at.ended
+      use1 𝓛 (later (some (λ (r : Writer). ((‵ (flft κ q) ⊛ ‵ ftrue) ⊛ ‵ ((WriterAt κ).own_val r (w ∷ []))) ⊛ raw (ensured 𝓛 writer-at.ended
       (writer-at.clauses 𝓛 mem run) (κ, tt) (x, (n, tt)) tt r)))) (id⊢ 𝓤 _) $ await t tt $ pick t (λ r.
       split t $ move t (1 ∷ []) $ use1 𝓛 (raw (fact 𝓤 ((r.output ≡ x) × (r.at ≡ n)))) (made_of 𝓛 mem run κ x n r) $ heard t
       ((r.output ≡ x) × (r.at ≡ n)) (λ e.
-      split t $ rewrite t 1 (λ (h : Writer). ‵ ((WriterAt κ).own h (w ∷ []))) (λ i. record { output = e.0 i; at = e.1 i }) refl $
+      split t $ rewrite t 1 (λ (h : Writer). ‵ ((WriterAt κ).own_val h (w ∷ []))) (λ i. record { output = e.0 i; at = e.1 i }) refl $
       move t (1 ∷ []) $ peeks t (WriterAt κ) (Is (WriterAt κ)) (shows 𝓛 (WriterAt κ)) (record { output = x; at = n }) (w ∷ []) (λ is.
       move t (1 ∷ []) $ split t $ move t (1 ∷ []) $ drop t $ k w (writer-typed κ (record { output = x; at = n }) w is)))))
 
@@ -149,25 +156,25 @@ module _ {M : Type 1} {𝓤 : Ura M} {𝓛 : Logic 𝓤} {K : Type 0} {Γ : List
   pub puts-next : K → FmC 𝓤 H 𝓛.laws C → (mem : Memory → SProp 𝓤) (run : Routine → Fun 𝓤) → Known 𝓛 mem run C
       → (κ : Lft) (q : Share) (h : Writer) (w : Val) (f : Frame) (u : Val) → h.at + length (written f) ≤ length h.output.now → Opds K 𝓛
       (raw ((Putting 𝓛 mem run).pre (to-put 𝓛 mem run κ q h w f u)) ∷ Γ) E xs (w ∷ u ∷ [])
-      → ((w' : Val) → Holds (has_ty (T'.mir erased) w') × WT w' → Seq K 𝓛 (‵ (flft κ q) ∷ ‵ ((WriterAt κ).own (advanced h f) (w' ∷ [])) ∷ Γ)
+      → ((w' : Val) → Holds (has_ty (T'.mir erased) w') × WT w' → Seq K 𝓛 (‵ (flft κ q) ∷ ‵ ((WriterAt κ).own_val (advanced h f) (w' ∷ [])) ∷ Γ)
       (lands C Λ E d w' rest p))
-      → Seq K 𝓛 (‵ (flft κ q) ∷ ‵ ((WriterAt κ).own h (w ∷ [])) ∷ ‵ ((Fr.the_row).own_val f (u ∷ [])) ∷ Γ) (runs C Λ E (seq (call
+      → Seq K 𝓛 (‵ (flft κ q) ∷ ‵ ((WriterAt κ).own_val h (w ∷ [])) ∷ ‵ ((Fr.the_row).own_val f (u ∷ [])) ∷ Γ) (runs C Λ E (seq (call
       #writer·outgoing·put-next xs d) rest) p)
   puts-next t fm mem run known κ q h w f u within os k =
       use3 𝓛 (raw ((Putting 𝓛 mem run).pre (to-put 𝓛 mem run κ q h w f u))) (goes-put 𝓛 mem run κ q h w f u within) $
       calls_at t fm (Putting 𝓛 mem run) known.putting (to-put 𝓛 mem run κ q h w f u) os (λ w'.
-      use1 𝓛 (later (some (λ (r : Writer). ((‵ (flft κ q) ⊛ ‵ ftrue) ⊛ ‵ ((WriterAt κ).own r (w' ∷ []))) ⊛ raw (ensured 𝓛 put_next.ended
+      use1 𝓛 (later (some (λ (r : Writer). ((‵ (flft κ q) ⊛ ‵ ftrue) ⊛ ‵ ((WriterAt κ).own_val r (w' ∷ []))) ⊛ raw (ensured 𝓛 put_next.ended
       (put_next.clauses 𝓛 mem run) (κ, tt) (h, (f, tt)) tt r)))) (id⊢ 𝓤 _) $ await t tt $ pick t (λ r.
       split t $ move t (1 ∷ []) $ use1 𝓛 (raw (fact 𝓤 (r ≡ advanced h f))) (next_of 𝓛 mem run κ h f r) $ heard t (r ≡ advanced h f) (λ e.
-      split t $ rewrite t 1 (λ (z : Writer). ‵ ((WriterAt κ).own z (w' ∷ []))) e refl $
+      split t $ rewrite t 1 (λ (z : Writer). ‵ ((WriterAt κ).own_val z (w' ∷ []))) e refl $
       move t (1 ∷ []) $ peeks t (WriterAt κ) (Is (WriterAt κ)) (shows 𝓛 (WriterAt κ)) (advanced h f) (w' ∷ []) (λ is.
       move t (1 ∷ []) $ split t $ move t (1 ∷ []) $ drop t $ k w' (writer-typed κ (advanced h f) w' is)))))
 
   -- `position`: the writer is given up, and the output's last list is known
   pub asks-position : K → FmC 𝓤 H 𝓛.laws C → (mem : Memory → SProp 𝓤) (run : Routine → Fun 𝓤) → Known 𝓛 mem run C
       → (κ : Lft) (q : Share) (h : Writer) (w : Val) → Opds K 𝓛 (raw ((Asking 𝓛 mem run).pre (to-ask 𝓛 mem run κ q h w)) ∷ Γ) E xs (w ∷ [])
-      → (h.at < 2 ^ 64 → Seq K 𝓛 (‵ (flft κ q) ∷ ‵ (finally u8 h.output.ghost_name h.output.now) ∷ Γ) (lands C Λ E d (vint w64 h.at) rest p))
-      → Seq K 𝓛 (‵ (flft κ q) ∷ ‵ ((WriterAt κ).own h (w ∷ [])) ∷ Γ) (runs C Λ E (seq (call #writer·outgoing·position xs d) rest) p)
+      → (h.at < 2 ^ 64 → Seq K 𝓛 (‵ (flft κ q) ∷ ‵ (LeftOf κ h.output (length h.output.now) h.output.now) ∷ Γ) (lands C Λ E d (vint w64 h.at) rest p))
+      → Seq K 𝓛 (‵ (flft κ q) ∷ ‵ ((WriterAt κ).own_val h (w ∷ [])) ∷ Γ) (runs C Λ E (seq (call #writer·outgoing·position xs d) rest) p)
   asks-position t fm mem run known κ q h w os k =
       use2 𝓛 (raw ((Asking 𝓛 mem run).pre (to-ask 𝓛 mem run κ q h w))) (goes-ask 𝓛 mem run κ q h w) $
       calls_at t fm (Asking 𝓛 mem run) known.asking (to-ask 𝓛 mem run κ q h w) os (λ v.
@@ -175,10 +182,10 @@ module _ {M : Type 1} {𝓤 : Ura M} {𝓛 : Logic 𝓤} {K : Type 0} {Γ : List
       (position.clauses 𝓛 mem run) (κ, tt) (h, tt) tt r)))) (id⊢ 𝓤 _) $ await t tt $ pick t (λ r.
       split t $ move t (1 ∷ []) $ use1 𝓛 (some (λ (zs : (List ℕ × Unit {0}) × Unit {0}). ‵ (lasts position.ended (κ, tt) (h, tt) zs) ⊛ raw
       (fact 𝓤 ((r ≡ h.at) × (zs.0.0 ≡ h.output.now))))) (id⊢ 𝓤 _) $ pick t (λ zs.
-      split t $ move t (1 ∷ []) $ heard t ((r ≡ h.at) × (zs.0.0 ≡ h.output.now)) (λ e. fsplit t $ fsplit t $ fsplit t $ move t (1 ∷ []) $ feq_l t (λ l.
+      split t $ move t (1 ∷ []) $ heard t ((r ≡ h.at) × (zs.0.0 ≡ h.output.now)) (λ e. fsplit t $ fsplit t $ fsplit t $ fsplit t $ move t (1 ∷ []) $ feq_l t (λ l.
       rewrite t 0 (λ (l : List ℕ). ‵ (finally u8 h.output.ghost_name l)) e.1 refl $
-      -- [the last list; true; true; the token and the result; …]
-      move t (1 ∷ []) $ drop t $ move t (1 ∷ []) $ drop t $ move t (1 ∷ []) $ split t $ move t (1 ∷ []) $ facts t usize (Is usize) (shows 𝓛
+      -- [the last list; the borrow; true; true; the token and the result; …]
+      fjoin t $ move t (1 ∷ []) $ drop t $ move t (1 ∷ []) $ drop t $ move t (1 ∷ []) $ split t $ move t (1 ∷ []) $ facts t usize (Is usize) (shows 𝓛
       usize) r (v ∷ []) (λ is.
       split t $ move t (1 ∷ []) $ drop t $ regoal t (λ (u : Val). lands C Λ E d u rest p) (ap only is.0 ∙ ap (vint w64) e.0) refl $ k
       (subst (λ (m : ℕ). m < 2 ^ 64) e.0 is.1)))))))

@@ -15,7 +15,7 @@ use prog.Wp.{Calls, Loops, WpFn, Tables}
 use types.Logic.{Logic, sem}
 use contract.Monad.{Fun}
 use contract.Running.{tables, tables_of}
-use types.Kit.{‵, ◌⊛◌, ◌$◌, ◌∵◌, !, qed, by, move, keep, use1, split, join, fsplit, fjoin, suffices, frame, done}
+use types.Kit.{rewrite, ‵, ◌⊛◌, ◌$◌, ◌∵◌, !, qed, by, move, keep, use1, split, join, fsplit, fjoin, suffices, frame, done}
 use types.Run.{look, init, forget, stop, hop, fld, from, load, addr, and_then, no_more, assigns, land, returns, enter, alloc1, alloc0}
 use types.Run.{params1, pass1, pass0, free1, free0}
 use types.Part.{agg, whole, sub, look_in}
@@ -25,7 +25,7 @@ use denote.Laws.{Is}
 use denote.Plain.{uint_Makes, uint_vals, uint_Tells}
 use denote.Builtin.{u8, usize}
 use denote.Ref.{MutBor}
-use denote.Slice.{slice_val, MutSlice, Room, finally, mut_slice_vals, mut_slice_Tells}
+use denote.Slice.{slice_val, MutSlice, Room, mut_slice_vals, mut_slice_Tells}
 use denote.Steps.{owned, nothing}
 use denote.Struct.Laws as LL
 use denote.Triple.Entry.{on_entry}
@@ -41,7 +41,7 @@ use Rattle.frame.specs.contracts.Frame as Fr
 use Rattle.frame.proofs.Frame.TheLaws as Fr'
 use Rattle.writer.specs.declared.outgoing.Writer.{Writer}
 use Rattle.writer.specs.Inside.Outgoing.{advanced}
-use Rattle.writer.proofs.WriterCalls.{Known, makes-writer, puts-next, asks-position}
+use Rattle.writer.proofs.WriterCalls.{LeftOf, Known, makes-writer, puts-next, asks-position}
 use Rattle.writer.proofs.KnownWriter.{known}
 use Rattle.writer.specs.contracts.outgoing.put_frame.Key.{name as #writer·outgoing·put-frame}
 use Rattle.writer.specs.contracts.outgoing.put_frame as put-frame
@@ -85,9 +85,9 @@ module _ {M : Type 1} {𝓤 : Ura M} (𝓛 : Logic 𝓤) (mem : Memory → SProp
   abbrev Post : Val → SProp 𝓤
   Post = (walk_of 𝓛 put-frame.ended stayed (put-frame.clauses 𝓛 mem run)).post (((κ, tt), (q, tt), tt, a, vals), tt)
 
-  exits : h₁.at < 2 ^ 64 → ent 𝓤 (sep 𝓤 (A.lft κ q) (sep 𝓤 (sem 𝓛 (finally u8 γ h₁.output.now)) (sem 𝓛 Own))) (Post (vint w64 h₁.at))
+  exits : h₁.at < 2 ^ 64 → ent 𝓤 (sep 𝓤 (A.lft κ q) (sep 𝓤 (sem 𝓛 (LeftOf κ x (length ys) h₁.output.now)) (sem 𝓛 Own))) (Post (vint w64 h₁.at))
   exits fits =
-      qed 𝓛 (‵ (flft κ q) ∷ ‵ (finally u8 γ h₁.output.now) ∷ ‵ Own ∷ []) ∵
+      qed 𝓛 (‵ (flft κ q) ∷ ‵ (LeftOf κ x (length ys) h₁.output.now) ∷ ‵ Own ∷ []) ∵
       suffices ! _ (ends_at 𝓛 put-frame.ended stayed (put-frame.clauses 𝓛 mem run) (((κ, tt), (q, tt), tt, a, vals), tt) _ h₁.at (
         h₁.output.now,
         (tt, (tt, tt)),
@@ -120,7 +120,8 @@ module _ {M : Type 1} {𝓤 : Ura M} (𝓛 : Logic 𝓤) (mem : Memory → SProp
         (stop !)) (look ! 13 refl)) (no_more !))) (λ w₁ t₁.
         land ! (from ! (stop !)) (init ! 12 refl t₁) $
         asks-position ! fm mem run knows κ q h₁ w₁ (and_then ! (load ! (from ! (stop !)) (look ! 11 refl)) (no_more !)) (λ fits.
-        -- [the token; the last list; …; what the frame owns; …; _7; …]
+        -- [the token; what is left of the output; …; what the frame owns; …; _7; …]
+        rewrite ! 1 (λ (k : ℕ). ‵ (LeftOf κ x k h₁.output.now)) (length-write n (written f) ys within) refl $
         land ! (from ! (stop !)) (init ! 20 refl (tt, record { fits = fits })) $ returns ! (look ! 20 refl) $
         forget ! 6 refl $ forget ! 8 refl $ forget ! 10 refl $ forget ! 12 refl $ forget ! 14 refl $ forget ! 16 refl $ forget ! 18 refl $
         forget ! 20 refl $
@@ -156,10 +157,11 @@ put-frame-meets {𝓤 = 𝓤} 𝓛 mem run 𝓣 knows =
     (WpFn 𝓤 𝓛.H 𝓣.C 𝓣.Λ code.function) (WpFn-mono 𝓤 𝓛.H 𝓛.laws 𝓣 code.function) (put-frame-walks 𝓛 mem run 𝓣.C 𝓣.Λ (fm_of 𝓤
     𝓛.H 𝓛.laws 𝓣) knows)
 
-pub put-frame-spec : {M : Type 1} → stated.statement M
-unfolding code.routine tables_of
-put-frame-spec 𝓤 𝓛 𝓜 𝓡 =
-    entered 𝓤 𝓛.H (triple_of 𝓛 put-frame.signature (put-frame.spec 𝓛 𝓜.mem 𝓡.run))
-    (tables 𝓤 𝓛.H 𝓜 𝓡 code.env).C (tables 𝓤 𝓛.H 𝓜 𝓡 code.env).Λ #writer·outgoing·put-frame code.function (code.unfolded 𝓤 𝓛.H 𝓜 𝓡)
-    (put-frame-meets 𝓛 𝓜.mem 𝓡.run (tables_of 𝓤 𝓛.H 𝓜 (tables 𝓤 𝓛.H 𝓜 𝓡 code.env))
-    (known 𝓛 𝓜 𝓡 code.env code.calls-writer::outgoing::writer-at code.calls-writer::outgoing::put-next code.calls-writer::outgoing::position))
+pub put_frame_spec : {M : Type 1} → stated.statement M
+unfolding tables_of
+put_frame_spec 𝓤 𝓛 𝓜 𝓡 wired =
+    entered 𝓤 𝓛.H (triple_of 𝓛 put-frame.signature (put-frame.spec 𝓛 𝓜.mem 𝓡.returns))
+    (tables 𝓤 𝓛.H 𝓜 𝓡 𝓡.env).C (tables 𝓤 𝓛.H 𝓜 𝓡 𝓡.env).Λ #writer·outgoing·put-frame code.function (code.unfolded 𝓤 𝓛.H 𝓜 𝓡 wired)
+    (put-frame-meets 𝓛 𝓜.mem 𝓡.returns (tables_of 𝓤 𝓛.H 𝓜 (tables 𝓤 𝓛.H 𝓜 𝓡 𝓡.env))
+    (known 𝓛 𝓜 𝓡 (code.calls-writer::outgoing::writer_at 𝓡.env wired) (code.calls-writer::outgoing::put_next 𝓡.env wired)
+    (code.calls-writer::outgoing::position 𝓡.env wired)))

@@ -15,7 +15,7 @@ use prog.Wp.{Calls, Loops, WpFn, Tables}
 use types.Logic.{Logic, sem}
 use contract.Monad.{Fun}
 use contract.Running.{tables, tables_of}
-use types.Kit.{‵, ◌⊛◌, ◌$◌, ◌∵◌, !, qed, by, move, keep, use1, split, join, fsplit, fjoin, suffices, frame, done}
+use types.Kit.{rewrite, ‵, ◌⊛◌, ◌$◌, ◌∵◌, !, qed, by, move, keep, use1, split, join, fsplit, fjoin, suffices, frame, done}
 use types.Run.{look, init, forget, stop, hop, fld, from, load, addr, and_then, no_more, assigns, land, returns, enter, alloc1, alloc0}
 use types.Run.{params1, pass1, pass0, free1, free0}
 use types.Part.{agg, whole, sub, look_in}
@@ -25,7 +25,7 @@ use denote.Laws.{Is}
 use denote.Plain.{uint_Makes, uint_vals, uint_Tells}
 use denote.Builtin.{u8, usize}
 use denote.Ref.{MutBor}
-use denote.Slice.{slice_val, MutSlice, Room, finally, mut_slice_vals, mut_slice_Tells}
+use denote.Slice.{slice_val, MutSlice, Room, mut_slice_vals, mut_slice_Tells}
 use denote.Steps.{owned, nothing}
 use denote.Struct.Laws as LL
 use denote.Triple.Entry.{on_entry}
@@ -42,7 +42,7 @@ use Rattle.frame.specs.contracts.Frame as Fr
 use Rattle.frame.proofs.Frame.TheLaws as Fr'
 use Rattle.writer.specs.declared.outgoing.Writer.{Writer}
 use Rattle.writer.specs.Inside.Outgoing.{advanced}
-use Rattle.writer.proofs.WriterCalls.{Known, makes-writer, puts-next, asks-position}
+use Rattle.writer.proofs.WriterCalls.{LeftOf, Known, makes-writer, puts-next, asks-position}
 use Rattle.writer.proofs.KnownWriter.{known}
 use Rattle.writer.specs.contracts.outgoing.put_two.Key.{name as #writer·outgoing·put-two}
 use Rattle.writer.specs.contracts.outgoing.put_two as put_two
@@ -87,6 +87,9 @@ module _ {M : Type 1} {𝓤 : Ura M} (𝓛 : Logic 𝓤) (mem : Memory → SProp
   second-room : h₁.at + length (written g) ≤ length h₁.output.now
   second-room = rw (length-write n (written f) ys first-room) (omega (arith, both))
 
+  same-length : length h₂.output.now ≡ length ys
+  same-length = length-write h₁.at (written g) h₁.output.now second-room ∙ length-write n (written f) ys first-room
+
   at-end : h₂.at ≡ n + length (written f ++ written g)
   at-end = rw length-append (omega arith)
 
@@ -105,13 +108,13 @@ module _ {M : Type 1} {𝓤 : Ura M} (𝓛 : Logic 𝓤) (mem : Memory → SProp
   abbrev Post : Val → SProp 𝓤
   Post = (walk_of 𝓛 put_two.ended stayed (put_two.clauses 𝓛 mem run)).post (((κ, tt), (q, tt), tt, a, vals), tt)
 
-  exits : h₂.at < 2 ^ 64 → ent 𝓤 (sep 𝓤 (A.lft κ q) (sep 𝓤 (sem 𝓛 (finally u8 γ h₂.output.now)) (sep 𝓤 (sem 𝓛 (Own f u)) (sem 𝓛 (Own g v))))) (Post (vint w64 h₂.at))
+  exits : h₂.at < 2 ^ 64 → ent 𝓤 (sep 𝓤 (A.lft κ q) (sep 𝓤 (sem 𝓛 (LeftOf κ x (length ys) h₂.output.now)) (sep 𝓤 (sem 𝓛 (Own f u)) (sem 𝓛 (Own g v))))) (Post (vint w64 h₂.at))
   exits fits =
-      qed 𝓛 (‵ (flft κ q) ∷ ‵ (finally u8 γ h₂.output.now) ∷ ‵ (Own f u) ∷ ‵ (Own g v) ∷ []) ∵
+      qed 𝓛 (‵ (flft κ q) ∷ ‵ (LeftOf κ x (length ys) h₂.output.now) ∷ ‵ (Own f u) ∷ ‵ (Own g v) ∷ []) ∵
       suffices ! _ (ends_at 𝓛 put_two.ended stayed (put_two.clauses 𝓛 mem run) (((κ, tt), (q, tt), tt, a, vals), tt) _ h₂.at (
         h₂.output.now,
         (tt, (tt, (tt, tt))),
-      ) (length-write h₁.at (written g) h₁.output.now second-room ∙ length-write n (written f) ys first-room, (tt, (tt, (tt, tt))))) $ says ! (record
+      ) (same-length, (tt, (tt, (tt, tt))))) $ says ! (record
       { position = at-end; output = put }) $
       nothing ! $ move ! (1 ∷ 0 ∷ []) $ join ! $ frame ! $ owned ! usize (Is usize) (uint_Makes 𝓛 w64) h₂.at _ (refl, fits) $
       nothing ! $ move ! (4 ∷ 0 ∷ []) $ fjoin ! $ move ! (3 ∷ 0 ∷ []) $ fjoin ! $ owned ! usize (Is usize) (uint_Makes 𝓛 w64) n _ (
@@ -150,7 +153,8 @@ module _ {M : Type 1} {𝓤 : Ura M} (𝓛 : Logic 𝓤) (mem : Memory → SProp
         (stop !)) (look ! 16 refl)) (no_more !))) (λ w₂ t₂.
         land ! (from ! (stop !)) (init ! 15 refl t₂) $
         asks-position ! fm mem run knows κ q h₂ w₂ (and_then ! (load ! (from ! (stop !)) (look ! 14 refl)) (no_more !)) (λ fits.
-        -- [the token; the last list; …; what the second frame owns; …; what the first owns; what at owns; _9; …]
+        -- [the token; what is left of the output; …; what the second frame owns; …; what the first owns; what at owns; _9; …]
+        rewrite ! 1 (λ (k : ℕ). ‵ (LeftOf κ x k h₂.output.now)) same-length refl $
         land ! (from ! (stop !)) (init ! 25 refl (tt, record { fits = fits })) $ returns ! (look ! 25 refl) $
         forget ! 7 refl $ forget ! 9 refl $ forget ! 11 refl $ forget ! 13 refl $ forget ! 15 refl $ forget ! 17 refl $ forget ! 19 refl $
         forget ! 21 refl $ forget ! 23 refl $ forget ! 25 refl $
@@ -186,10 +190,11 @@ put-two-meets {𝓤 = 𝓤} 𝓛 mem run 𝓣 knows =
     (WpFn 𝓤 𝓛.H 𝓣.C 𝓣.Λ code.function) (WpFn-mono 𝓤 𝓛.H 𝓛.laws 𝓣 code.function) (put-two-walks 𝓛 mem run 𝓣.C 𝓣.Λ (fm_of 𝓤
     𝓛.H 𝓛.laws 𝓣) knows)
 
-pub put-two-spec : {M : Type 1} → stated.statement M
-unfolding code.routine tables_of
-put-two-spec 𝓤 𝓛 𝓜 𝓡 =
-    entered 𝓤 𝓛.H (triple_of 𝓛 put_two.signature (put_two.spec 𝓛 𝓜.mem 𝓡.run))
-    (tables 𝓤 𝓛.H 𝓜 𝓡 code.env).C (tables 𝓤 𝓛.H 𝓜 𝓡 code.env).Λ #writer·outgoing·put-two code.function (code.unfolded 𝓤 𝓛.H 𝓜 𝓡)
-    (put-two-meets 𝓛 𝓜.mem 𝓡.run (tables_of 𝓤 𝓛.H 𝓜 (tables 𝓤 𝓛.H 𝓜 𝓡 code.env))
-    (known 𝓛 𝓜 𝓡 code.env code.calls-writer::outgoing::writer-at code.calls-writer::outgoing::put-next code.calls-writer::outgoing::position))
+pub put_two_spec : {M : Type 1} → stated.statement M
+unfolding tables_of
+put_two_spec 𝓤 𝓛 𝓜 𝓡 wired =
+    entered 𝓤 𝓛.H (triple_of 𝓛 put_two.signature (put_two.spec 𝓛 𝓜.mem 𝓡.returns))
+    (tables 𝓤 𝓛.H 𝓜 𝓡 𝓡.env).C (tables 𝓤 𝓛.H 𝓜 𝓡 𝓡.env).Λ #writer·outgoing·put-two code.function (code.unfolded 𝓤 𝓛.H 𝓜 𝓡 wired)
+    (put-two-meets 𝓛 𝓜.mem 𝓡.returns (tables_of 𝓤 𝓛.H 𝓜 (tables 𝓤 𝓛.H 𝓜 𝓡 𝓡.env))
+    (known 𝓛 𝓜 𝓡 (code.calls-writer::outgoing::writer_at 𝓡.env wired) (code.calls-writer::outgoing::put_next 𝓡.env wired)
+    (code.calls-writer::outgoing::position 𝓡.env wired)))
