@@ -13,8 +13,8 @@ use lib.WfN.{lt-wf_rel}
 use lib.Dec.{T as Holds, ltb, ltb→lt, nltb→le, lit<}
 use lib.ListN.{length}
 use seplogic.Ra.Ura.{Ura}
-use seplogic.Ra.TreeShare.{full_share}
-use mir.Syntax.{Ty, Body, named, w64, ty_int, ty_bool, place, unsigned, copy, int, skip as skipᴹ, seq, assign}
+use base.Fraction.{full_share}
+use mir.Syntax.{Ty, Body, named, w8, w64, ty_int, ty_bool, place, unsigned, copy, int, skip as skipᴹ, seq, assign}
 use mir.Syntax.{Local, local, block, loop, cond, exit, return, rv_opd, op2, add, lt, call}
 use mir.Val.{Val, vint}
 use base.Logic.{SProp, ent, sep, id⊢, ex_i, ex_e, snd∗}
@@ -34,10 +34,10 @@ use types.Part.{agg, whole, sub, look_in}
 use sound.WpLaws.{FmC, fm_of, WpFn-mono}
 use denote.RattleType.{owns}
 use denote.Laws.{Is, shows}
-use denote.Plain.{uint_Makes, uint_vals, uint_Tells}
+use denote.Plain.{uint_row_laws, uint_Makes, uint_vals, uint_Tells}
 use denote.Builtin.{u8, usize}
 use denote.Ref.{Bor, MutBor}
-use denote.Slice.{slice_val, MutSlice, ShrSlice, Room, finally, shr_slice_vals, mut_slice_Tells, shr_slice_Tells, shr_slice_Lawful, shr_slice_copy}
+use denote.Slice.{slice_val, MutSlice, ShrSlice, Room, shr_slice_vals, mut_slice_vals, mut_slice_Tells, shr_slice_Tells, shr_slice_Lawful, shr_slice_copy}
 use denote.Steps.{owned, peeks, heard, nothing}
 use denote.Struct.Laws as LL
 use denote.Triple.Entry.{on_entry}
@@ -45,7 +45,7 @@ use denote.Triple.Spec.{Meets, triple_of}
 use denote.Triple.Statement.{Contract, Triple}
 use denote.Triple.Call.{calls_at}
 use denote.Triple.Clauses.{ensured, lasts}
-use denote.Triple.Table.{entered, cited}
+use denote.Triple.Table.{entered}
 use denote.Triple.Walked.{says, needs, Stays, stay_none, stay_none_slice, gave_slice, walk_of, Goes-none, Goes-none_slice, Goes-gave_slice}
 use denote.Triple.Walked.{Walks, ends_at, walked, walk_Meets}
 use denote.Exit.{yes}
@@ -56,14 +56,13 @@ use Rattle.frame.proofs.Frame.TheLaws as Fr'
 use Rattle.memory.specs.Layout.{outstanding_size}
 use Rattle.gateway.specs.Effects.{bytes_of_frames}
 use Rattle.writer.specs.declared.outgoing.Writer.{Writer}
-use Rattle.writer.proofs.WriterCalls.{WriterAt, Known, makes-writer, puts-next, asks-position}
+use Rattle.writer.proofs.WriterCalls.{WriterAt, LeftOf, Known, makes-writer, puts-next, asks-position}
 use Rattle.writer.proofs.KnownWriter.{known}
 use Rattle.writer.proofs.outgoing.put_next.Symbol.{name as #writer·outgoing·put-next}
 use Rattle.writer.proofs.outgoing.position.Symbol.{name as #writer·outgoing·position}
 use Rattle.effects.specs.Inside.Sending.{stored_frames}
 use Rattle.effects.proofs.StoredFrames.{frame_here, given, given-none, first-room, next-room, given-next, given-long, given-all}
 use Rattle.effects.specs.contracts.send.stored_frame as stored-frame
-use Rattle.effects.proofs.send.stored_frame.Symbol as stored-frame-def
 use Rattle.effects.proofs.send.stored_frame.Symbol.{name as #effects·send·stored-frame}
 use Rattle.effects.proofs.send.stored_frame.Met as stored-frame-thm
 use Rattle.effects.specs.contracts.send.put_frames.Key.{name as #effects·send·put-frames}
@@ -129,7 +128,7 @@ abbrev StoredFrame : {M : Type 1} {𝓤 : Ura M} (𝓛 : Logic 𝓤) (mem : Memo
 StoredFrame 𝓛 mem run = triple_of 𝓛 stored-frame.signature (stored-frame.spec 𝓛 mem run)
 
 module _ {M : Type 1} {𝓤 : Ura M} (𝓛 : Logic 𝓤) (mem : Memory → SProp 𝓤) (run : Routine → Fun 𝓤) (κ μ : Lft) (q
-    s : Share) (m : MutBor (List ℕ)) (b o : ℕ) (γ : GName) (ys : List ℕ) (f : Frame) (u : Val) (at n : ℕ) (at-fits : at < 2 ^ 64) (n-fits : n <
+    s : Share) (m : Bor (List ℕ)) (b o : ℕ) (γ : GName) (ys : List ℕ) (f : Frame) (u : Val) (at n : ℕ) (at-fits : at < 2 ^ 64) (n-fits : n <
     2 ^ 64) (is-frame : Is Fr.the_row f (u ∷ [])) (long : at + outstanding_size * n ≤ length m.now)
     (within : length (bytes_of_frames (f ∷ stored_frames m.now at n)) ≤ length ys) where
   open 𝓛 use {H, A}
@@ -162,7 +161,7 @@ module _ {M : Type 1} {𝓤 : Ura M} (𝓛 : Logic 𝓤) (mem : Memory → SProp
   Own z w = (Fr.the_row).own_val z (w ∷ [])
 
   abbrev Arg : Type 0
-  Arg = Bor (List ℕ) × (Bor (List ℕ) × (Frame × (ℕ × (ℕ × Unit {0}))))
+  Arg = Bor (List ℕ) × (MutBor (List ℕ) × (Frame × (ℕ × (ℕ × Unit {0}))))
 
   abbrev a : Arg
   a = (m, (x, (f, (at, (n, tt)))))
@@ -181,12 +180,12 @@ module _ {M : Type 1} {𝓤 : Ura M} (𝓛 : Logic 𝓤) (mem : Memory → SProp
 
   -- what is had at the end, at a writer with the frames of k places
   abbrev Ends : ℕ → Type 1
-  Ends k = (h k).at < 2 ^ 64 → ent 𝓤 (sep 𝓤 (A.lft μ s) (sep 𝓤 (sem 𝓛 (finally u8 γ (h k).output.now)) (sep 𝓤 (A.lft κ q) (sep 𝓤 (sem 𝓛
+  Ends k = (h k).at < 2 ^ 64 → ent 𝓤 (sep 𝓤 (A.lft μ s) (sep 𝓤 (sem 𝓛 (LeftOf μ x (length ys) (h k).output.now)) (sep 𝓤 (A.lft κ q) (sep 𝓤 (sem 𝓛
       OwnMemory) (sem 𝓛 (Own f u)))))) (Post (vint w64 (h k).at))
 
   exits : Ends n
   exits fits =
-      qed 𝓛 (‵ (flft μ s) ∷ ‵ (finally u8 γ (h n).output.now) ∷ ‵ (flft κ q) ∷ ‵ OwnMemory ∷ ‵ (Own f u) ∷ []) ∵
+      qed 𝓛 (‵ (flft μ s) ∷ ‵ (LeftOf μ x (length ys) (h n).output.now) ∷ ‵ (flft κ q) ∷ ‵ OwnMemory ∷ ‵ (Own f u) ∷ []) ∵
       suffices ! _ (ends_at 𝓛 put-frames.ended stayed (put-frames.clauses 𝓛 mem run) (((κ, (μ, tt)), (q, (s, tt)), tt, a, vals), tt) _ (h n).at (
         tt,
         ((h n).output.now, (tt, (tt, (tt, tt)))),
@@ -238,7 +237,7 @@ module _ {M : Type 1} {𝓤 : Ura M} (𝓛 : Logic 𝓤) (mem : Memory → SProp
 
       -- the writer's local, and what the writer owns, at whatever machine value
       abbrev Held : ℕ → Item 𝓤
-      Held k = some (λ (w : Val). ‵ (fat full_share writer_ty l₆ 0 w) ⊛ ‵ ((WriterAt μ).own (h k) (w ∷ [])))
+      Held k = some (λ (w : Val). ‵ (fat full_share writer_ty l₆ 0 w) ⊛ ‵ ((WriterAt μ).own_val (h k) (w ∷ [])))
 
       -- the other locals: those of the code before and in the loop, with nothing in them, and the parameters and the result
       abbrev Temporary : List (Item 𝓤) → List (Item 𝓤)
@@ -277,7 +276,7 @@ module _ {M : Type 1} {𝓤 : Ura M} (𝓛 : Logic 𝓤) (mem : Memory → SProp
           (λ less. skips ! $ exec ! C Λ En more (any_q (Turned i)) $
           assigns ! (of_opd ! (load ! (from ! (stop !)) (look ! 0 refl))) (from ! (stop !)) (init ! 10 refl wt) $
           -- what the memory owns is had twice, and the frame is read
-          move ! (4 ∷ []) $ use1 𝓛 (‵ OwnMemory ⊛ ‵ OwnMemory) ((shr_slice_copy 𝓛 (named 0) κ u8).twice m (memory_val ∷ [])) $ split ! $
+          move ! (4 ∷ []) $ use1 𝓛 (‵ OwnMemory ⊛ ‵ OwnMemory) ((shr_slice_copy 𝓛 (named 0) κ u8 (uint_row_laws w8)).twice m (memory_val ∷ [])) $ split ! $
           move ! (5 ∷ 0 ∷ []) $ use2 𝓛 (raw ((StoredFrame 𝓛 mem run).pre (to-stored i.0))) (goes-stored i.0 (fits i) (inside less)) $
           calls_at ! fm (StoredFrame 𝓛 mem run) known-stored (to-stored i.0) (and_then ! (load ! (from ! (stop !)) (look ! 31 refl))
           (and_then ! (load ! (from ! (stop !)) (look ! 25 refl)) (and_then ! (load ! (from ! (stop !)) (look ! 20 refl)) (no_more !)))) (λ v.
@@ -296,15 +295,16 @@ module _ {M : Type 1} {𝓤 : Ura M} (𝓛 : Logic 𝓤) (mem : Memory → SProp
           assigns_last ! (bin ! (load ! (from ! (stop !)) (look ! 21 refl)) (lit ! tt) (record { fits = fits (next less) })) (from ! (stop !))
           (store ! 21 refl (tt, record { fits = fits (next less) })) $
           forget ! 9 refl $ forget ! 11 refl $ forget ! 13 refl $
-          rewrite ! 1 (λ (z : Writer). ‵ ((WriterAt μ).own z (w' ∷ []))) (given-next m.now at h₀ f n room i.0 (below less)) refl $
+          rewrite ! 1 (λ (z : Writer). ‵ ((WriterAt μ).own_val z (w' ∷ []))) (given-next m.now at h₀ f n room i.0 (below less)) refl $
           move ! (3 ∷ []) $ drop ! $ move ! (4 ∷ 1 ∷ []) $ join ! $ use1 𝓛 (Held (i.0 + 1)) (ex_i 𝓤 (λ (z : Val). sep 𝓤 (sem 𝓛 (fat full_share
-          writer_ty l₆ 0 z)) (sem 𝓛 ((WriterAt μ).own (h (i.0 + 1)) (z ∷ [])))) w') $
+          writer_ty l₆ 0 z)) (sem 𝓛 ((WriterAt μ).own_val (h (i.0 + 1)) (z ∷ [])))) w') $
           again ! Nearer At i (next less) (add-one-dec n i.0 (below less))))))))
           (λ over. jumps ! $ exec ! C Λ En rest (at_ret En Post) $
           assigns ! (of_opd ! (load ! (from ! (stop !)) (look ! 0 refl))) (from ! (stop !)) (init ! 6 refl wt) $
           move ! (2 ∷ 1 ∷ []) $
           asks-position ! fm mem run knows μ s (h i.0) w (and_then ! (load ! (from ! (stop !)) (look ! 5 refl)) (no_more !)) (λ end_fits.
-          -- [the output's token; the last list; _6; the memory's token; what the memory and the first frame own; _14; …]
+          rewrite ! 1 (λ (k : ℕ). ‵ (LeftOf μ x k (h i.0).output.now)) (given-long m.now at h₀ f n room i.0 i.1) refl $
+          -- [the output's token; what is left of the output; _6; the memory's token; what the memory and the first frame own; _14; …]
           land ! (from ! (stop !)) (init ! 33 refl (tt, record { fits = end_fits })) $ returns ! (look ! 33 refl) $
           forget ! 2 refl $ forget ! 6 refl $ forget ! 12 refl $ forget ! 20 refl $ forget ! 23 refl $ forget ! 25 refl $ forget ! 27 refl $
           forget ! 29 refl $ forget ! 31 refl $ forget ! 33 refl $
@@ -357,9 +357,9 @@ module _ {M : Type 1} {𝓤 : Ura M} (𝓛 : Logic 𝓤) (mem : Memory → SProp
           assigns ! (of_opd ! (lit ! tt)) (from ! (stop !)) (init ! 19 refl (tt, record { fits = lit< tt })) $
           forget ! 13 refl $ forget ! 15 refl $ forget ! 17 refl $
           -- [the output's token; what the writer owns; the memory's token; what the first frame and the memory own; _14; …]
-          rewrite ! 1 (λ (z : Writer). ‵ ((WriterAt μ).own z (w₁ ∷ []))) (given-none m.now at h₀ f) refl $
+          rewrite ! 1 (λ (z : Writer). ‵ ((WriterAt μ).own_val z (w₁ ∷ []))) (given-none m.now at h₀ f) refl $
           move ! (21 ∷ 1 ∷ 0 ∷ 2 ∷ 4 ∷ 3 ∷ []) $ join ! $ use1 𝓛 (Held 0) (ex_i 𝓤 (λ (z : Val). sep 𝓤
-          (sem 𝓛 (fat full_share writer_ty l₆ 0 z)) (sem 𝓛 ((WriterAt μ).own (h 0) (z ∷ [])))) w₁) $
+          (sem 𝓛 (fat full_share writer_ty l₆ 0 z)) (sem 𝓛 ((WriterAt μ).own_val (h 0) (z ∷ [])))) w₁) $
           by ! loop-runs))
 
     walk : Is (ShrSlice (named 0) κ u8) m (memory_val ∷ []) → Room u8 (length ys) → ent 𝓤 (on_entry 𝓛 put-frames.signature (κ, (μ, tt)) (q, (s, tt))
@@ -385,7 +385,7 @@ module _ {M : Type 1} {𝓤 : Ura M} (𝓛 : Logic 𝓤) (mem : Memory → SProp
       (StoredFrame 𝓛 mem run)
       → Walks 𝓛 put-frames.ended stayed (WpFn 𝓤 H 𝓣.C 𝓣.Λ code.function) (put-frames.clauses 𝓛 mem run)
   put-frames-walks 𝓣 fm knows known-stored = walked 𝓛 put-frames.ended stayed (put-frames.clauses 𝓛 mem run) (WpFn 𝓤 H 𝓣.C 𝓣.Λ code.function)
-      (λ κs. (shr_slice_vals, (shr_slice_vals, (LL.vals Fr.the_type Fr'.the_laws, (uint_vals w64, (uint_vals w64, tt)))))) (λ κs. (
+      (λ κs. (shr_slice_vals, (mut_slice_vals, (LL.vals Fr.the_type Fr'.the_laws, (uint_vals w64, (uint_vals w64, tt)))))) (λ κs. (
         shr_slice_Tells (named 0) κs.0 u8,
         (
           mut_slice_Tells (named 1) κs.1.0 u8,
@@ -414,12 +414,12 @@ put-frames-meets {𝓤 = 𝓤} 𝓛 mem run 𝓣 knows known-stored =
     ) (put-frames.clauses 𝓛 mem run)
     (WpFn 𝓤 𝓛.H 𝓣.C 𝓣.Λ code.function) (WpFn-mono 𝓤 𝓛.H 𝓛.laws 𝓣 code.function) (put-frames-walks 𝓛 mem run 𝓣 (fm_of 𝓤 𝓛.H 𝓛.laws 𝓣) knows known-stored)
 
-pub put-frames-spec : {M : Type 1} → stated.statement M
-unfolding code.routine tables_of
-put-frames-spec 𝓤 𝓛 𝓜 𝓡 =
-    entered 𝓤 𝓛.H (triple_of 𝓛 put-frames.signature (put-frames.spec 𝓛 𝓜.mem 𝓡.run))
-    (tables 𝓤 𝓛.H 𝓜 𝓡 code.env).C (tables 𝓤 𝓛.H 𝓜 𝓡 code.env).Λ #effects·send·put-frames code.function (code.unfolded 𝓤 𝓛.H 𝓜 𝓡)
-    (put-frames-meets 𝓛 𝓜.mem 𝓡.run (tables_of 𝓤 𝓛.H 𝓜 (tables 𝓤 𝓛.H 𝓜 𝓡 code.env))
-    (known 𝓛 𝓜 𝓡 code.env code.calls-writer::outgoing::writer-at code.calls-writer::outgoing::put-next code.calls-writer::outgoing::position)
-    (cited 𝓤 𝓛.H (StoredFrame 𝓛 𝓜.mem 𝓡.run) 𝓜 𝓡 code.env #effects·send·stored-frame stored-frame-def.routine
-    code.calls-effects::send::stored-frame (stored-frame-thm.met 𝓤 𝓛 𝓜 𝓡)))
+pub put_frames_spec : {M : Type 1} → stated.statement M
+unfolding tables_of
+put_frames_spec 𝓤 𝓛 𝓜 𝓡 wired =
+    entered 𝓤 𝓛.H (triple_of 𝓛 put-frames.signature (put-frames.spec 𝓛 𝓜.mem 𝓡.returns))
+    (tables 𝓤 𝓛.H 𝓜 𝓡 𝓡.env).C (tables 𝓤 𝓛.H 𝓜 𝓡 𝓡.env).Λ #effects·send·put-frames code.function (code.unfolded 𝓤 𝓛.H 𝓜 𝓡 wired)
+    (put-frames-meets 𝓛 𝓜.mem 𝓡.returns (tables_of 𝓤 𝓛.H 𝓜 (tables 𝓤 𝓛.H 𝓜 𝓡 𝓡.env))
+    (known 𝓛 𝓜 𝓡 (code.calls-writer::outgoing::writer_at 𝓡.env wired) (code.calls-writer::outgoing::put_next 𝓡.env wired)
+    (code.calls-writer::outgoing::position 𝓡.env wired))
+    (stored-frame-thm.met 𝓤 𝓛 𝓜 𝓡 (code.calls-effects::send::stored_frame 𝓡.env wired)))
