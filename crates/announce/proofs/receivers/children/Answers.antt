@@ -1,0 +1,12 @@
+-- `announce::receivers::children` meets its contract.
+use Rattle.announce.proofs.Neighbours.{no-child, one-child, two-children}
+use Rattle.announce.proofs.receivers.children.Goals as goal
+
+pub returns-then-n-left : goal.returns-then-n-left
+returns-then-n-left c = search no-child
+
+pub returns-then-n-left-2 : goal.returns-then-n-left-2
+returns-then-n-left-2 c = search one-child
+
+pub returns : goal.returns
+returns c = search two-children
