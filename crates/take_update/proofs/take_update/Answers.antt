@@ -1,0 +1,21 @@
+-- `take_update::take_update` meets its contract.
+use native.Mathlib.Omega.{arith}
+use Rattle.phases.proofs.Changing.{still}
+use Rattle.take_update.proofs.Updating.{update-at-root, update-elsewhere, update-taken}
+use Rattle.take_update.proofs.take_update.Goals as goal
+
+pub returns-then-settings-eq0 : goal.returns-then-settings-eq0
+returns-then-settings-eq0 c = update-at-root _ _ c.requires _ c.refused.ensures _ _ c.if-settings-eq0.true
+
+pub returns-then-k-settings : goal.returns-then-k-settings
+returns-then-k-settings c =
+    update-elsewhere _ _ c.requires _ c.refused-then-k-settings.ensures _ _ c.if-settings-eq0.false c.if-k-settings.true
+
+pub announce-requires : goal.announce-requires
+announce-requires c =
+    (still _ _ c.requires c.changed-next.ensures, c.children.ensures.two, omega arith)
+
+pub returns : goal.returns
+returns c =
+    update-taken _ _ c.requires c.args.output.now _ _ _ c.if-settings-eq0.false c.if-k-settings.false c.larger.ensures
+    c.changed-next.ensures c.children.ensures.all c.announce.ensures
