@@ -9,7 +9,7 @@ use Rattle.buffer.specs.Slice.{Bytes, part, write}
 use Rattle.buffer.specs.Number.{bytes_of}
 use Rattle.buffer.proofs.Writes.{length_part, length-write}
 use Rattle.buffer.proofs.Standing.{Stands, stands-before}
-use Rattle.memory.specs.Layout.{header_size, header_used, queue_at, queue_size}
+use Rattle.memory.specs.Layout.{header_size, queue_at, queue_size}
 use Rattle.memory.specs.Records.{header_of}
 use Rattle.memory.specs.Codec.{header_front, header_back, entry_bytes, decode, encode}
 use Rattle.memory.specs.declared.Header.{Header}
