@@ -1,0 +1,52 @@
+-- `work::work_off` meets its contract.
+use mathlib.Core.Path.{refl}
+use native.Mathlib.Omega.{arith}
+use Rattle.buffer.proofs.Lent.{bytes-known}
+use Rattle.work.proofs.SeveralEvents.{at_first, ready, one_more, may-stop, stops-early, may-end, ends}
+use Rattle.work.proofs.work_off.Goals as goal
+
+pub loop-count-init : goal.loop-count-init
+loop-count-init c = (
+  refl,
+  refl,
+  at_first c.args.output.now c.requires (bytes-known c.args.memory.now c.type_inv.memory) c.args.budget,
+)
+
+pub work_one-turn-requires : goal.work_one-turn-requires
+work_one-turn-requires c = ready c.loop-count.invariant.2
+
+pub finish-requires : goal.finish-requires
+finish-requires c =
+    may-stop c.loop-count.invariant.2 c.loop-count-test.true c.work_one-turn.ensures
+
+pub shape_of-memory-then-turn-ne0 : goal.shape_of-memory-then-turn-ne0
+shape_of-memory-then-turn-ne0 c = omega arith
+
+pub shape_of-output-then-turn-ne0 : goal.shape_of-output-then-turn-ne0
+shape_of-output-then-turn-ne0 c = omega arith
+
+pub returns-then-turn-ne0 : goal.returns-then-turn-ne0
+returns-then-turn-ne0 c =
+    stops-early c.loop-count.invariant.2 c.loop-count-test.true c.work_one-turn.ensures c.requires c.if-turn-ne0.true
+    c.finish.ensures
+
+pub loop-count-preserved : goal.loop-count-preserved
+loop-count-preserved c = (
+  omega arith,
+  omega arith,
+  one_more c.loop-count.invariant.2 c.loop-count-test.true c.work_one-turn.ensures
+      c.if-turn-ne0.false,
+)
+
+pub finish-requires-2 : goal.finish-requires-2
+finish-requires-2 c = may-end c.loop-count.invariant.2 c.loop-count-test.false
+
+pub shape_of-memory : goal.shape_of-memory
+shape_of-memory c = omega arith
+
+pub shape_of-output : goal.shape_of-output
+shape_of-output c = omega arith
+
+pub returns : goal.returns
+returns c =
+    ends c.loop-count.invariant.2 c.loop-count-test.false c.requires c.finish-2.ensures
