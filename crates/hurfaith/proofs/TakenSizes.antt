@@ -17,7 +17,6 @@ use Rattle.routing.specs.Arcs.{from, to, children}
 use Rattle.buffer.specs.Slice.{Bytes}
 use Rattle.model.specs.Messages.{kind_number, quantity_of}
 use Rattle.model.proofs.KindNumbers.{no-restock}
-use Rattle.model.specs.Doing.{sent}
 use Rattle.model.specs.declared.Message.{Message}
 use Rattle.model.specs.declared.Kind.{Kind}
 use Rattle.model.specs.declared.Kind.TheVariants.{Failure, Request, Delivery, Restock, Start, Lvt, Update}

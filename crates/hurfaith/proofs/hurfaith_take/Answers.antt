@@ -1,0 +1,10 @@
+-- `hurfaith::hurfaith_take` meets its contract.
+use Rattle.buffer.proofs.Lent.{bytes-known}
+use Rattle.hurfaith.proofs.Packing.{answer-packed, taken-fits}
+use Rattle.hurfaith.proofs.hurfaith_take.Goals as goal
+
+pub packed-requires : goal.packed-requires
+packed-requires c = search (taken-fits, bytes-known)
+
+pub returns : goal.returns
+returns c = search answer-packed
