@@ -128,5 +128,4 @@ form_number NotTaken = 1
 
 -- what a byte string is refused with for its form, in whatever call, or 0
 abbrev pub form_refusal : List ℕ → ℕ
-unfolding form_of
 form_refusal s = form_number (form_of s)

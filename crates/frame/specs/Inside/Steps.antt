@@ -9,7 +9,6 @@ use Rattle.frame.specs.declared.Fields.{Fields}
 
 -- no field read yet
 abbrev pub no_fields : Fields
-unfolding values_of number_of
 no_fields = values_of []
 
 -- the fields with the one of that bit read from its bytes
