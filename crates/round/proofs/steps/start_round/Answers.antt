@@ -1,6 +1,7 @@
 -- `round::steps::start_round` meets its contract.
 use mathlib.Core.Bool.{not}
 use mathlib.Core.Path.{ap}
+use native.Mathlib.Omega.{arith}
 use Rattle.round.proofs.Stepping.{start-elsewhere, start-again, start-begins}
 use Rattle.round.proofs.steps.start_round.Goals as goal
 
@@ -9,9 +10,9 @@ returns-then-settings-ne0 c = start-elsewhere _ _ c.requires _ c.refused.ensures
 
 pub returns-then-not-is_idle : goal.returns-then-not-is_idle
 returns-then-not-is_idle c =
-    start-again _ _ c.requires _ c.refused-then-not-is_idle.ensures c.if-settings-ne0.false c.is_idle.ensures (ap not c.if-not-is_idle.true)
+    start-again _ _ c.requires _ c.refused-then-not-is_idle.ensures (omega arith) c.is_idle.ensures (ap not c.if-not-is_idle.true)
 
 pub returns : goal.returns
 returns c =
-    start-begins _ _ c.requires c.args.output.now c.if-settings-ne0.false c.is_idle.ensures (ap not c.if-not-is_idle.false)
+    start-begins _ _ c.requires c.args.output.now (omega arith) c.is_idle.ensures (ap not c.if-not-is_idle.false)
     c.begin.ensures
