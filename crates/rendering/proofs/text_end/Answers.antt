@@ -7,7 +7,7 @@ pub returns-then-n-eq0 : goal.returns-then-n-eq0
 returns-then-n-eq0 c = (end_empty _ c.if-n-eq0.true, omega arith)
 
 pub returns-then-input-n-eq10 : goal.returns-then-input-n-eq10
-returns-then-input-n-eq10 c = (end_line _ c.if-input-n-eq10.true, omega arith)
+returns-then-input-n-eq10 c = (end_line _ (omega arith), omega arith)
 
 pub returns : goal.returns
-returns c = (end_none _ c.if-input-n-eq10.false, omega arith)
+returns c = (end_none _ (omega arith), omega arith)

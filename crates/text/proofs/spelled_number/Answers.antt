@@ -10,10 +10,10 @@ pub returns-then-text-eq0 : goal.returns-then-text-eq0
 returns-then-text-eq0 c = empty _ _ c.if-text-eq0.true
 
 pub returns-then-text-eq1 : goal.returns-then-text-eq1
-returns-then-text-eq1 c = lone-zero _ _ c.if-text-eq48.true c.if-text-eq1.true
+returns-then-text-eq1 c = lone-zero _ _ c.if-text-eq48.true (omega arith)
 
 pub returns-then-text-eq48 : goal.returns-then-text-eq48
-returns-then-text-eq48 c = led-by-zero _ _ c.if-text-eq48.true c.if-text-eq1.false
+returns-then-text-eq48 c = led-by-zero _ _ c.if-text-eq48.true (omega arith)
 
 pub loop-i-init : goal.loop-i-init
 unfolding value value_from
