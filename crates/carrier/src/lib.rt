@@ -4,10 +4,10 @@
 
 ghost use Rattle.std.specs.Prelude.{◌+◌, ◌≤◌, length};
 
-use gateway::Answer;
 use limits::addressed_to;
 use lines::{append, put_again, size_at};
 use reader::read;
+use refusal::Refusal;
 use take::take;
 
 // The frames under way: where the oldest begins, and where the last ends.
@@ -56,15 +56,19 @@ fn bring(
 {
     let behind = at + size;
     let mut output = io::buffer();
-    let answer = take_at(first, second, &line[at..behind], &mut output);
-    if answer.number != 0 {
-        return put_again(line, at, size, end);
+    match take_at(first, second, &line[at..behind], &mut output) {
+        Ok(written) => append(line, end, &output, written),
+        Err(_) => put_again(line, at, size, end),
     }
-    append(line, end, &output, answer.written)
 }
 
 // The gateway that the frame is addressed to takes it.
-fn take_at(first: &mut [u8], second: &mut [u8], bytes: &[u8], output: &mut [u8]) -> Answer {
+fn take_at(
+    first: &mut [u8],
+    second: &mut [u8],
+    bytes: &[u8],
+    output: &mut [u8],
+) -> Result<usize, Refusal> {
     let reading = read(bytes);
     let frame = reading.frame;
     let sense = frame.sense;

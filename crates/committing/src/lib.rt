@@ -25,7 +25,7 @@ pub fn commit_both(
     }
 }
 
-// A gateway commits until it answers other than 0, at most 1000 events.
+// A gateway commits until a commit is refused, at most 1000 events.
 fn commit_all(memory: &mut [u8], events: &mut [u8], end: usize) -> usize
     requires { end ≤ length events.old }
     ensures { result ≤ length events.old }
@@ -34,11 +34,10 @@ fn commit_all(memory: &mut [u8], events: &mut [u8], end: usize) -> usize
     let mut last = end;
     let mut turns: u32 = 1000;
     while turns > 0 {
-        let answer = commit(memory, &mut output);
-        if answer.number != 0 {
-            return last;
+        match commit(memory, &mut output) {
+            Ok(written) => last = append(events, last, &output, written),
+            Err(_) => return last,
         }
-        last = append(events, last, &output, answer.written);
         turns -= 1;
     }
     last

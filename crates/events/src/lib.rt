@@ -16,6 +16,7 @@ use encoding::write_entry;
 use entries::site_of;
 use memory::{Entry, HEADER_SIZE, Mark, QUEUE_SIZE};
 use places::search::next_marked;
+use refusal::Refusal;
 use replies::{Turn, has_room, reply_bytes, send_reply};
 
 // One event, for an output of room bytes.
@@ -27,7 +28,7 @@ pub fn work_one(memory: &mut [u8], room: usize, turn: Turn) -> Turn
     let queued = header.queued as usize;
     let k = next_marked(memory, turn.place, queued, Mark::Pending);
     if k == queued {
-        return stopped(turn, 6);
+        return stopped(turn, Refusal::NothingToDo);
     }
     work_at(memory, room, turn, k)
 }
@@ -48,7 +49,7 @@ fn work_at(memory: &mut [u8], room: usize, turn: Turn, k: usize) -> Turn
     let reply = reply_to(site_of(settings), state, message);
     let bytes = reply_bytes(reply);
     if !has_room(header, reply, bytes, room - turn.written) {
-        return stopped(turn, 5);
+        return stopped(turn, Refusal::NoRoom);
     }
     let done = Entry {
         message,
@@ -64,15 +65,15 @@ fn work_at(memory: &mut [u8], room: usize, turn: Turn, k: usize) -> Turn
         header: last,
         written: turn.written + bytes,
         place: k + 1,
-        why: 0,
+        why: None,
     }
 }
 
-// Work that stops, with that number.
-fn stopped(turn: Turn, why: u8) -> Turn
+// Work that stops, for that reason.
+fn stopped(turn: Turn, why: Refusal) -> Turn
     ensures { result ≡ stopped_with why turn }
 {
     let mut next = turn;
-    next.why = why;
+    next.why = Some(why);
     next
 }

@@ -3,7 +3,7 @@ use mathlib.Core.Path.{◌≡◌, ◌∙◌, ap}
 use mathlib.Core.List.{List, []}
 use Prim.Native.Nat.{ℕ}
 use Rattle.gateway.specs.Calls.{CallResult, set_up}
-use Rattle.gateway.specs.declared.Answer.{Answer}
+use Rattle.gateway.specs.Answers.{Answer}
 use Rattle.gateway.specs.declared.Opening.{Opening}
 
 pub memory-left : (list memory : List ℕ) {o : Opening} (given : Opening) {r : Answer} {after : List ℕ} → o ≡ given

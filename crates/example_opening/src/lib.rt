@@ -15,8 +15,8 @@ pub fn set_up_both(first: &mut [u8], second: &mut [u8], list: &[u8])
     ensures { (first.new ≡ (set_up (example_opening 0 0) list.now first.old).memory)
         × (second.new ≡ (set_up (example_opening 1 1) [] second.old).memory) }
 {
-    set_up(first, opening(0, 0), list);
-    set_up(second, opening(1, 1), b"");
+    let _ = set_up(first, opening(0, 0), list);
+    let _ = set_up(second, opening(1, 1), b"");
 }
 
 // The settings of the example. Supplier of both is gateway 1.

@@ -37,7 +37,7 @@ use Rattle.gateway.specs.Taking.{is_later}
 use Rattle.gateway.specs.Undoing.{pending_entry}
 use Rattle.gateway.specs.SettingUp.{settings_of, opening_valid, cut_frames, may_open, opening_refusal, first_refusal, queued, opened, set_up_refusal}
 use Rattle.gateway.specs.Calls.{CallResult, refused_with, set_up}
-use Rattle.gateway.specs.declared.Answer.{Answer}
+use Rattle.gateway.specs.Answers.{Answer}
 use Rattle.gateway.specs.declared.Opening.{Opening}
 use Rattle.lists.proofs.PieceLaws.{first-none}
 use Rattle.frame.proofs.PieceBytes.{cut-bytes}

@@ -1,23 +1,18 @@
 // The gateway's calls: what they are told and answer. Their code stands in the crates above.
 #![tactic(auto)]
 
-ghost use Rattle.std.specs.Prelude.{◌≡◌};
+ghost use Rattle.std.specs.Prelude.{◌≡◌, ◌<◌, ◌≤◌};
+ghost use Rattle.refusal.specs.Numbers.{refusal_number};
 
 use model::LeadTimes;
+use refusal::Refusal;
 
-// What taking a frame, the start call and commit answer: document 01's number, 0 where the call is accepted, and how many
-// bytes were written.
-#[derive(Clone, Copy)]
-pub struct Answer {
-    pub number: u8,
-    pub written: usize,
-}
-
-// What work answers: the count done, why it stopped, and how many bytes were written.
+// What work answers: the count done, why it stopped where it did, and how many bytes were written. Taking a frame, the start call, commit
+// and set up answer how many bytes were written, or why they refuse.
 #[derive(Clone, Copy)]
 pub struct Worked {
     pub count: u32,
-    pub why: u8,
+    pub stopped: Option<Refusal>,
     pub written: usize,
 }
 
@@ -35,16 +30,22 @@ pub struct Opening {
     pub hours: LeadTimes,
 }
 
-// What reading the agreed time answers: 0 and the hour, or 10.
-#[derive(Clone, Copy)]
-pub struct AgreedTime {
-    pub number: u8,
-    pub hour: u32,
-}
-
-// The answer of a call that is refused: nothing was written.
-pub fn refused(number: u8) -> Answer
-    ensures { (result.number ≡ number) × (result.written ≡ 0) }
+// The refusal with that number.
+pub fn numbered(number: u8) -> Refusal
+    ensures { 0 < number → number ≤ 12 → refusal_number result ≡ number }
 {
-    Answer { number, written: 0 }
+    match number {
+        1 => Refusal::NoFrame,
+        2 => Refusal::WrongGateway,
+        3 => Refusal::PastLastHour,
+        4 => Refusal::OutOfTurn,
+        5 => Refusal::NoRoom,
+        6 => Refusal::NothingToDo,
+        7 => Refusal::NotOutstanding,
+        8 => Refusal::OutOfRange,
+        9 => Refusal::BelowAgreedTime,
+        10 => Refusal::NotSound,
+        11 => Refusal::WrongLength,
+        _ => Refusal::WrongLamp,
+    }
 }

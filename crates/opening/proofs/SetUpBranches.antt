@@ -1,7 +1,11 @@
 -- Set up: a law for each branch of the call.
 use mathlib.Core.Path.{◌≡◌, sym, ◌∙◌, ap}
-use mathlib.Core.Bool.{Bool, true, false, not}
-use mathlib.Core.List.{List, []}
+use mathlib.Core.Bool.{Bool, true, false, cond, not}
+use mathlib.Core.List.{List, [], ◌∷◌}
+use Rattle.std.specs.Prelude.{Err}
+use Rattle.refusal.specs.Numbers.{refusal_number}
+use Rattle.refusal.specs.declared.Refusal.{Refusal}
+use Rattle.refusal.specs.declared.Refusal.TheVariants.{NoRoom, OutOfRange}
 use Prim.Native.Nat.{ℕ, ◌+◌, ◌*◌, ◌≤◌, ◌<◌}
 use native.Mathlib.Omega.{arith}
 use lib.Dec.{eqb}
@@ -21,9 +25,16 @@ use Rattle.memory.proofs.Validated.{settings-facts, valid-facts}
 use Rattle.lists.proofs.BoolLaws.{and_left, and_right}
 use Rattle.memory.proofs.Fitting.{valid-fits}
 use Rattle.memory.proofs.Holding.{encode-by}
-use Rattle.gateway.specs.SettingUp.{settings_of, opening_valid, cut_frames, opening_refusal, first_refusal, queued, opened, set_up_refusal}
-use Rattle.gateway.specs.Calls.{set_up}
-use Rattle.gateway.specs.declared.Answer.{Answer}
+use Rattle.gateway.specs.SettingUp.{may_open, settings_of, opening_valid, cut_frames, opening_refusal, first_refusal, queued, opened, set_up_refusal}
+use Rattle.gateway.specs.Calls.{left, set_up}
+use Rattle.gateway.specs.Answers.{answer_of}
+use Rattle.gateway.proofs.Dispatching.{refusal-numbered}
+use Rattle.gateway.proofs.Accepting.{refusal-below}
+use Rattle.lists.specs.Lists.{first_number}
+use Rattle.frame.specs.Reasons.{reading, form_in, form_number}
+use Rattle.frame.specs.Limits.{refusal}
+use Rattle.frame.specs.declared.Form.{Form}
+use Rattle.frame.specs.declared.Form.TheVariants.{Good, TooShort, WrongMap, WrongLength, WrongSense, WrongLamp, WrongGateways, NotTaken}
 use Rattle.gateway.specs.declared.Opening.{Opening}
 use Rattle.gateway.proofs.Openings.{length-queued, opened-keeps}
 use Rattle.opening_list.specs.declared.Checked.{Checked}
@@ -49,16 +60,42 @@ valid-opening o size v =
       long = leb-true (size_for o.q o.u) size (search (and_left, and_right));
     }
 
+form-small : (f : Form) → form_number f ≤ 12
+form-small Good = omega arith
+form-small TooShort = omega arith
+form-small WrongMap = omega arith
+form-small WrongLength = omega arith
+form-small WrongSense = omega arith
+form-small WrongLamp = omega arith
+form-small WrongGateways = omega arith
+form-small NotTaken = omega arith
+
+one-small : (s : Settings) (f : List ℕ) → opening_refusal s f ≤ 12
+unfolding opening_refusal
+one-small s f = by (eqb (form_number (form_in may_open (reading f))) 0)
+  where
+    by : (b : Bool) → cond b (refusal (reading f).frame s.n s.own s.last) (form_number (form_in may_open (reading f))) ≤ 12
+    by true = omega (arith, refusal-below (reading f).frame s.n s.own s.last)
+    by false = form-small (form_in may_open (reading f))
+
+first-small : (s : Settings) (fs : List (List ℕ)) → first_refusal s fs ≤ 12
+unfolding first_number
+first-small s [] = omega arith
+first-small s (f ∷ fs) = by (eqb (opening_refusal s f) 0) (first-small s fs)
+  where
+    by : (b : Bool) → first_refusal s fs ≤ 12 → cond b (first_refusal s fs) (opening_refusal s f) ≤ 12
+    by true rest = rest
+    by false rest = one-small s f
+
 module _ (o : Opening) (list m : List ℕ) where
-  refused_as : (n : ℕ) → set_up_refusal o (length m) list ≡ n → (n ≡ 0 → ⊥) → {r : Answer} → (r.number ≡ n) × (r.written ≡ 0)
-      → record { answer = r; memory = m; output = [] } ≡ set_up o list m
+  refused_as : (why : Refusal) → set_up_refusal o (length m) list ≡ refusal_number why → left (answer_of (Err why)) m [] ≡ set_up o list m
   unfolding set_up
-  refused_as n p d {r} (a, b) = rw (p, ne_eqb n 0 d) (λ i. record { answer = record { number = a i; written = b i }; memory = m; output = [] })
+  refused_as why p = rw (p, refusal-numbered why)
 
   module _ {valid : Bool} (e : valid ≡ opening_valid o (length m)) where
-    pub not_valid : not valid ≡ true → {r : Answer} → (r.number ≡ 8) × (r.written ≡ 0) → record { answer = r; memory = m; output = [] } ≡ set_up o list m
+    pub not_valid : not valid ≡ true → left (answer_of (Err OutOfRange)) m [] ≡ set_up o list m
     unfolding set_up_refusal
-    not_valid h = refused_as 8 (rw (sym e ∙ not-true valid h)) (λ z. omega arith)
+    not_valid h = refused_as OutOfRange (rw (sym e ∙ not-true valid h))
 
     module _ (h : not valid ≡ false) where
       is-valid : opening_valid o (length m) ≡ true
@@ -71,14 +108,12 @@ module _ (o : Opening) (list m : List ℕ) where
         first-is : r.number ≡ first_refusal (settings_of o) (cut_frames (length list) list)
         first-is = ap (λ (x : Checked). x.number) k ∙ rw (t, frames-all list)
 
-        pub frame_refused : (r.number ≡ 0 → ⊥) → {a : Answer} → (a.number ≡ r.number) × (a.written ≡ 0) → record {
-          answer = a;
-          memory =
-              m;
-          output = [];
-        } ≡ set_up o list m
+        pub frame_refused : (r.number ≡ 0 → ⊥) → (why : Refusal) → (0 < r.number → r.number ≤ 12 → refusal_number why ≡ r.number)
+            → left (answer_of (Err why)) m [] ≡ set_up o list m
         unfolding set_up_refusal
-        frame_refused d = refused_as r.number (rw (is-valid, ← first-is, ne_eqb r.number 0 d)) d
+        frame_refused d why n =
+            let small : r.number ≤ 12 = rw first-is (first-small (settings_of o) (cut_frames (length list) list)) in
+            refused_as why (rw (is-valid, ← first-is, ne_eqb r.number 0 d) (sym (n (omega arith) small)))
 
         module _ (z : r.number ≡ 0) where
           count-is : r.count ≡ length (cut_frames (length list) list)
@@ -90,11 +125,11 @@ module _ (o : Opening) (list m : List ℕ) where
           none_is : eqb (first_refusal (settings_of o) (cut_frames (length list) list)) 0 ≡ true
           none_is = eq-eqb _ 0 (sym first-is ∙ z)
 
-          pub too_many : s.q < r.count → {a : Answer} → (a.number ≡ 5) × (a.written ≡ 0) → record { answer = a; memory = m; output = [] } ≡ set_up o list m
+          pub too_many : s.q < r.count → left (answer_of (Err NoRoom)) m [] ≡ set_up o list m
           unfolding set_up_refusal
           too_many f =
               let more : o.q < length (cut_frames (length list) list) = rw (← count-is) (rw t at f) in
-              refused_as 5 (rw (is-valid, none_is, lt-leb (length (cut_frames (length list) list)) o.q more)) (λ y. omega arith)
+              refused_as NoRoom (rw (is-valid, none_is, lt-leb (length (cut_frames (length list) list)) o.q more))
 
           module _ (f : r.count ≤ s.q) where
             enough : length (cut_frames (length list) list) ≤ o.q

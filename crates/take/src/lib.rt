@@ -6,16 +6,18 @@ ghost use Rattle.model.specs.Messages.{kind_number};
 ghost use Rattle.memory.specs.Inside.Fits.{MessageFits};
 ghost use Rattle.frame.specs.Writing.{well_formed};
 ghost use Rattle.frame.specs.Reasons.{form_in, form_number};
+ghost use Rattle.gateway.specs.Answers.{answer_of};
 ghost use Rattle.gateway.specs.Calls.{left, by_carrier, take_by_kind, take_for, take_frame, take_bytes, taken};
 ghost use Rattle.gateway.specs.Inside.Premises.{Known, Leaves};
 
-use frame::forms::{form_number, number_where};
-use frame::{Form, Frame, Reading, Sense};
-use gateway::{Answer, refused};
+use frame::forms::number_where;
+use frame::{Frame, Reading, Sense};
+use gateway::numbered;
 use limits::check;
 use memory::Header;
 use model::{Message, kind_number};
 use reader::read;
+use refusal::Refusal;
 use soundness::checked;
 use take_acknowledgment::take_acknowledgment;
 use take_cancel::take_cancel;
@@ -24,25 +26,27 @@ use take_plain::take_plain;
 use take_start::take_start;
 use take_update::take_update;
 
-pub fn take(memory: &mut [u8], frame: &[u8], output: &mut [u8]) -> Answer
-    ensures { left result memory.new output.new ≡ taken memory.old frame.now output.old }
+pub fn take(memory: &mut [u8], frame: &[u8], output: &mut [u8]) -> Result<usize, Refusal>
+    ensures { left (answer_of result) memory.new output.new ≡ taken memory.old frame.now output.old }
 {
-    let found = checked(memory);
-    if !found.sound {
-        return refused(10);
-    }
-    take_bytes(memory, frame, output, found.header)
+    let header = checked(memory)?;
+    take_bytes(memory, frame, output, header)
 }
 
 // A byte string that is no frame, or one that this call does not take, is refused with the number of its form.
-fn take_bytes(memory: &mut [u8], frame: &[u8], output: &mut [u8], header: Header) -> Answer
+fn take_bytes(
+    memory: &mut [u8],
+    frame: &[u8],
+    output: &mut [u8],
+    header: Header,
+) -> Result<usize, Refusal>
     requires { Known memory.old header }
     ensures { Leaves result memory output (take_bytes frame.now) }
 {
     let reading = read(frame);
     let number = form_refusal(reading);
     if number != 0 {
-        return refused(number);
+        return Err(numbered(number));
     }
     take_checked(memory, output, header, reading.frame)
 }
@@ -59,19 +63,29 @@ fn form_refusal(reading: Reading) -> u8
 }
 
 // Numbers and hour are looked at before the rest: 2, then 3.
-fn take_checked(memory: &mut [u8], output: &mut [u8], header: Header, frame: Frame) -> Answer
+fn take_checked(
+    memory: &mut [u8],
+    output: &mut [u8],
+    header: Header,
+    frame: Frame,
+) -> Result<usize, Refusal>
     requires { Known memory.old header × MessageFits frame.message × (well_formed frame ≡ true) }
     ensures { Leaves result memory output (take_for header.settings frame) }
 {
     let settings = header.settings;
     let number = check(frame, settings.n as u16, settings.own, settings.last);
     if number != 0 {
-        return refused(number);
+        return Err(numbered(number));
     }
     take_frame(memory, output, header, frame)
 }
 
-fn take_frame(memory: &mut [u8], output: &mut [u8], header: Header, frame: Frame) -> Answer
+fn take_frame(
+    memory: &mut [u8],
+    output: &mut [u8],
+    header: Header,
+    frame: Frame,
+) -> Result<usize, Refusal>
     requires { Known memory.old header × MessageFits frame.message × (well_formed frame ≡ true) }
     ensures { Leaves result memory output (λ room g. take_frame room frame g) }
 {
@@ -86,7 +100,12 @@ fn take_frame(memory: &mut [u8], output: &mut [u8], header: Header, frame: Frame
 }
 
 // An event, or a message of the round.
-fn take_by_kind(memory: &mut [u8], output: &mut [u8], header: Header, message: Message) -> Answer
+fn take_by_kind(
+    memory: &mut [u8],
+    output: &mut [u8],
+    header: Header,
+    message: Message,
+) -> Result<usize, Refusal>
     requires { Known memory.old header × MessageFits message }
     ensures { Leaves result memory output (λ room g. take_by_kind room message g message.kind) }
 {
@@ -98,7 +117,12 @@ fn take_by_kind(memory: &mut [u8], output: &mut [u8], header: Header, message: M
 }
 
 // A message of the round. A Restock is not taken.
-fn take_in_round(memory: &mut [u8], output: &mut [u8], header: Header, message: Message) -> Answer
+fn take_in_round(
+    memory: &mut [u8],
+    output: &mut [u8],
+    header: Header,
+    message: Message,
+) -> Result<usize, Refusal>
     requires { Known memory.old header × (2 < kind_number message.kind) }
     ensures { Leaves result memory output (λ room g. take_by_kind room message g message.kind) }
 {
@@ -108,6 +132,6 @@ fn take_in_round(memory: &mut [u8], output: &mut [u8], header: Header, message: 
         4 => take_start(memory, output, header, message.from),
         5 => take_timely_lvt(memory, output, header, message),
         6 => take_update(memory, output, header, message.from, message.hour),
-        _ => refused(form_number(Form::NotTaken)),
+        _ => Err(Refusal::NoFrame),
     }
 }

@@ -10,8 +10,7 @@ use work::work;
 
 // Whether the agreed time is nothing due.
 pub fn nothing_due(memory: &[u8]) -> bool {
-    let agreed = agreed_time(memory);
-    agreed.hour == 4294967295
+    agreed_time(memory).is_ok_and(|hour| hour == 4294967295)
 }
 
 // Gateway 0 works, then gateway 1.
@@ -42,6 +41,8 @@ pub fn start_if_due(memory: &mut [u8], line: &mut [u8], end: usize) -> usize
         return end;
     }
     let mut output = io::buffer();
-    let answer = start(memory, &mut output);
-    append(line, end, &output, answer.written)
+    match start(memory, &mut output) {
+        Ok(written) => append(line, end, &output, written),
+        Err(_) => end,
+    }
 }

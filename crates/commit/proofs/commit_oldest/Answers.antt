@@ -9,7 +9,7 @@ next_marked-k-requires c = let z = sizes _ _ c.requires in (omega arith, omega a
 
 pub returns-then-k-queued : goal.returns-then-k-queued
 returns-then-k-queued c =
-    nothing-to-commit _ _ c.requires _ c.next_marked-k.ensures _ c.if-k-queued.true c.refused.ensures
+    nothing-to-commit _ _ c.requires _ c.next_marked-k.ensures _ c.if-k-queued.true
 
 pub overflow_mul-k : goal.overflow_mul-k
 overflow_mul-k c =
@@ -29,7 +29,7 @@ read_entry-entry-requires c =
 pub returns-then-header-message : goal.returns-then-header-message
 returns-then-header-message c =
     not_yet _ _ c.requires _ c.next_marked-k.ensures c.if-k-queued.false _ c.read_entry-entry.ensures _
-    c.if-header-message.true c.refused-then-header-message.ensures
+    c.if-header-message.true
 
 pub commit_place-requires : goal.commit_place-requires
 commit_place-requires c = (

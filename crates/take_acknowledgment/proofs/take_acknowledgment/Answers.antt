@@ -9,7 +9,7 @@ find_sent-k-requires c = let z = sizes _ _ c.requires in omega arith
 
 pub returns-then-k-outstanding : goal.returns-then-k-outstanding
 returns-then-k-outstanding c =
-    acknowledgment-of-none _ _ c.requires _ _ _ c.find_sent-k.ensures c.if-k-outstanding.true c.refused.ensures
+    acknowledgment-of-none _ _ c.requires _ _ _ c.find_sent-k.ensures c.if-k-outstanding.true
 
 pub remove_sent-requires : goal.remove_sent-requires
 remove_sent-requires c = (
