@@ -20,8 +20,8 @@ use Rattle.memory.specs.Layout.{header_size, queue_size, queue_at}
 use Rattle.memory.specs.Validity.{frame_if}
 use Rattle.memory.specs.declared.Entry.{Entry}
 use Rattle.gateway.specs.Undoing.{pending_entry}
-use Rattle.places.specs.Inside.Searching.{passes, entries_in}
-use Rattle.places.specs.declared.search.Search.TheVariants.{Later}
+use Rattle.gateway.specs.Taking.{is_later}
+use Rattle.places.specs.Inside.Searching.{entries_in}
 use Rattle.effects.specs.Inside.Placed.{entry_inserted}
 use Rattle.lines.specs.Inside.Putting.{Buffer, appended, copied, plain_put, entered_in, reply_entered}
 
@@ -71,7 +71,7 @@ module _ (queue : List ℕ) (count : ℕ) (m : Message) where
   no_place h = rw (lt-leb (queue_at (count + 1)) (length queue) (omega arith))
 
   pub in_place : {k : ℕ} {e : Entry} {now : List ℕ} → queue_at count ≤ length queue → header_size + queue_size ≤ length queue - queue_size * count
-      → k ≡ first_where (passes Later m) (entries_in queue count) → e ≡ pending_entry m → now ≡ entry_inserted count k e queue
+      → k ≡ first_where (is_later m) (entries_in queue count) → e ≡ pending_entry m → now ≡ entry_inserted count k e queue
       → record { bytes = now; used = count + 1 } ≡ entered_in queue count m
   in_place h room k e n = rw (le-leb (queue_at (count + 1)) (length queue) (omega arith), ← k, ← e, n)
 

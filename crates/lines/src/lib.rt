@@ -16,7 +16,7 @@ use frame::tables::whole_length;
 use memory::{HEADER_SIZE, QUEUE_SIZE};
 use model::event::Reply;
 use model::{LeadTimes, Message};
-use places::search::{Search, find};
+use places::search::place_for;
 use reader::read;
 use writer::write;
 
@@ -121,7 +121,7 @@ pub fn enter(queue: &mut [u8], count: usize, message: Message) -> usize
     if queue.len() - QUEUE_SIZE * count < HEADER_SIZE + QUEUE_SIZE {
         return count;
     }
-    let k = find(queue, count, Search::Later, message);
+    let k = place_for(queue, count, message);
     insert_place(queue, count, k, pending(message));
     count + 1
 }

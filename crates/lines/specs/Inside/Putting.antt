@@ -9,8 +9,8 @@ use Rattle.frame.specs.Writing.{writing}
 use Rattle.memory.specs.Layout.{queue_at}
 use Rattle.memory.specs.Validity.{frame_if}
 use Rattle.gateway.specs.Undoing.{pending_entry}
-use Rattle.places.specs.Inside.Searching.{passes, entries_in}
-use Rattle.places.specs.declared.search.Search.TheVariants.{Later}
+use Rattle.gateway.specs.Taking.{is_later}
+use Rattle.places.specs.Inside.Searching.{entries_in}
 use Rattle.effects.specs.Inside.Placed.{entry_inserted}
 
 -- the length of the frame at a position, which its map gives; no more than there is
@@ -39,7 +39,7 @@ plain_put m output = let w = writing (frame_if false m) output in record { bytes
 abbrev pub entered_in : List ℕ → ℕ → Message → Buffer
 entered_in queue count m =
     cond (leb (queue_at (count + 1)) (length queue))
-    (record { bytes = entry_inserted count (first_where (passes Later m) (entries_in queue count)) (pending_entry m) queue; used = count + 1 })
+    (record { bytes = entry_inserted count (first_where (is_later m) (entries_in queue count)) (pending_entry m) queue; used = count + 1 })
     (record { bytes = queue; used = count })
 
 -- the message that a reply sends entered, if it sends one
