@@ -14,7 +14,6 @@ use entries::frame_if;
 use frame::WriteAnswer;
 use frame::tables::whole_length;
 use memory::{HEADER_SIZE, QUEUE_SIZE};
-use model::event::Reply;
 use model::{LeadTimes, Message};
 use places::search::{Search, find};
 use reader::read;
@@ -126,16 +125,15 @@ pub fn enter(queue: &mut [u8], count: usize, message: Message) -> usize
     count + 1
 }
 
-// Enters what a reply sends, if it sends a message.
-pub fn enter_sent(queue: &mut [u8], count: usize, reply: Reply) -> usize
+// Enters what doing a message sends, if it sends one.
+pub fn enter_sent(queue: &mut [u8], count: usize, reply: Option<Message>) -> usize
     requires { queue_at count ≤ length queue.old }
     ensures { (record { bytes = queue.new; used = result } ≡ reply_entered queue.old count reply)
         × (count ≤ result)
         × (queue_at result ≤ length queue.old) }
 {
-    if !reply.sends {
-        return count;
+    match reply {
+        Some(message) => enter(queue, count, message),
+        None => count,
     }
-    let message = reply.sent;
-    enter(queue, count, message)
 }
