@@ -93,9 +93,8 @@ fn do_message(
     requires { shelf.old.state.stock + 65535 ≤ most_stock }
     ensures { OnOk result (shelf.new.state.stock ≤ shelf.old.state.stock + 65535) }
 {
-    let reply = reply_to(site(message.to), shelf.state, message);
-    if reply.sends {
-        enter(queue, reply.sent)?;
+    if let Some(sent) = reply_to(site(message.to), shelf.state, message) {
+        enter(queue, sent)?;
     }
     shelf.state = state_after(shelf.state, message.kind);
     push_plain(&mut shelf.events, message)?;
