@@ -8,7 +8,7 @@ ghost use Rattle.memory.specs.Layout.{header_size, queue_at};
 ghost use Rattle.gateway.specs.Examples.{town_hours};
 ghost use Rattle.lines.specs.Inside.Putting.{size_at, appended, copied, plain_put, entered_in, reply_entered};
 
-use buffer::{copy, move_up};
+use buffer::{copy, move_within};
 use effects::insert::{insert_place, pending};
 use entries::frame_if;
 use frame::WriteAnswer;
@@ -76,7 +76,7 @@ pub fn put_again(line: &mut [u8], at: usize, size: usize, end: usize) -> usize
     if line.len() - end < size {
         return end;
     }
-    move_up(line, at, end, size);
+    move_within(line, at, end, size);
     end + size
 }
 

@@ -28,11 +28,6 @@ use Rattle.memory.specs.declared.Phase.TheVariants.{Stopped}
 pub write-behind : (at n k : ℕ) (xs ys m : List ℕ) → length xs ≡ n → k ≡ at + n → k ≤ length m → write k ys (write at xs m) ≡ write at (xs ++ ys) m
 write-behind at n k xs ys m size e fits = rw (e, ← size) (write-join at xs ys m (omega arith))
 
--- the bytes of m from a position to an end
-pub part-between : (m : List ℕ) (at n : ℕ) → take (at + n - at) (drop at m) ≡ part m at n
-unfolding part
-part-between m at n = let e : at + n - at ≡ n = omega arith in rw e
-
 -- one byte, and two
 pub pair-stored : (m : List ℕ) (at a b : ℕ) → at + 2 ≤ length m → a < 256 → b < 256 → set (set m at a) (at + 1) b ≡ write at (bytes_of 1 a ++ bytes_of 1 b) m
 pair-stored m at a b fits ha hb = rw (one_byte a ha, one_byte b hb, set-write m at a (omega arith)) (write-snoc at (a ∷ []) m b (at + 1) (omega arith) refl)
