@@ -1,12 +1,12 @@
 -- Bytes written one behind the other are one write: the header, a state, a message, a place.
 use mathlib.Core.Path.{◌≡◌, refl, ◌∙◌}
-use Prim.Native.Nat.{ℕ, ◌+◌, ◌-◌, ◌<◌, ◌≤◌}
+use Prim.Native.Nat.{ℕ, ◌+◌, ◌<◌, ◌≤◌}
 use native.Mathlib.Omega.{arith}
 use mathlib.Core.List.{List, [], ◌∷◌, ◌++◌, append_assoc}
-use lib.ListN.{length, set, take, drop, replicate, length-append}
+use lib.ListN.{length, set, replicate, length-append}
 use borrow.Author.Tests.{ne_eqb}
 use Rattle.buffer.proofs.Numbers.{one_byte}
-use Rattle.buffer.specs.Slice.{part, write}
+use Rattle.buffer.specs.Slice.{write}
 use Rattle.buffer.specs.Number.{bytes_of}
 use Rattle.buffer.proofs.Writes.{length-write, write-join, write-snoc, set-write}
 use Rattle.buffer.proofs.Numbers.{length-bytes_of}
