@@ -8,7 +8,7 @@ use announce::receivers::{children, heard, told};
 use memory::Header;
 use model::Kind;
 use phases::{changed, counting, is_idle, no_round};
-use places::least::{least_outstanding, least_queued, lesser};
+use places::least::{least_outstanding, least_queued};
 use refusal::Refusal;
 
 // With all Lvts in: gateway 0 closes the round and sends Updates, another sends its Lvt along from.
@@ -52,7 +52,7 @@ pub fn begin(memory: &mut [u8], output: &mut [u8], header: Header) -> Result<usi
     let settings = header.settings;
     let note = least_outstanding(memory, settings.q as usize, header.outstanding as usize);
     if settings.own + 1 == settings.n {
-        let value = lesser(note, least_queued(memory, header.queued as usize));
+        let value = note.min(least_queued(memory, header.queued as usize));
         return finish(memory, output, header, value);
     }
     let next = changed(header, header.agreed, counting(note));

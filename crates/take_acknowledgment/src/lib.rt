@@ -19,12 +19,12 @@ pub fn take_acknowledgment(
     requires { Known memory.old header }
     ensures { LeavesMemory result memory (take_acknowledgment cancel message) }
 {
-    let settings = header.settings;
-    let outstanding = header.outstanding as usize;
-    let k = find_sent(memory, settings.q as usize, outstanding, cancel, message);
-    if k == outstanding {
-        return Err(Refusal::NotOutstanding);
+    let q = header.settings.q as usize;
+    match find_sent(memory, q, header.outstanding as usize, cancel, message) {
+        Some(k) => {
+            remove_sent(memory, header, k);
+            Ok(0)
+        }
+        None => Err(Refusal::NotOutstanding),
     }
-    remove_sent(memory, header, k);
-    Ok(0)
 }

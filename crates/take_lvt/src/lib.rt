@@ -13,7 +13,7 @@ use announce::receivers::{all_bits, bit_of, nobody, told};
 use memory::{Header, Phase};
 use model::{Kind, Message};
 use phases::{awaited, changed, is_idle, stopped};
-use places::least::{least_queued, lesser};
+use places::least::least_queued;
 use refusal::Refusal;
 use round::steps::finish;
 
@@ -55,7 +55,7 @@ fn take_lvt(
     if !awaited(bit, round.arrived) {
         return Err(Refusal::OutOfTurn);
     }
-    let value = lesser(value_in(memory, header), hour);
+    let value = value_in(memory, header).min(hour);
     lvt_in(
         memory,
         output,
@@ -94,7 +94,7 @@ fn value_in(memory: &[u8], header: Header) -> u32
     let phase = round.phase;
     match phase {
         Phase::Idle => 0,
-        Phase::Counting => lesser(round.note, least_queued(memory, header.queued as usize)),
+        Phase::Counting => round.note.min(least_queued(memory, header.queued as usize)),
         Phase::Stopped => round.note,
     }
 }
