@@ -9,14 +9,6 @@ use encoding::write_entry;
 use memory::{Entry, HEADER_SIZE, Mark, QUEUE_SIZE};
 use model::{Message, State};
 
-// What stands for the state before an entry that is not processed.
-const NO_STATE: State = State {
-    stock: 0,
-    failed: 0,
-    fitted: 0,
-    short: 0,
-};
-
 // An entry that is not processed: a plain message, or a cancel that waits.
 pub fn unprocessed(message: Message, mark: Mark) -> Entry
     ensures { result ≡ record { message = message; mark = mark; before = no_state } }
@@ -24,7 +16,7 @@ pub fn unprocessed(message: Message, mark: Mark) -> Entry
     Entry {
         message,
         mark,
-        before: NO_STATE,
+        before: State::default(),
     }
 }
 
