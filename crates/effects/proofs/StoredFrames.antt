@@ -1,13 +1,12 @@
 -- Laws of the frames of what outstanding places hold: one place more, and a frame before them.
-use mathlib.Core.Path.{◌≡◌, refl, sym, ◌∙◌, ap}
-use Prim.Native.Nat.{ℕ, suc, ◌+◌, ◌-◌, ◌*◌, ◌≤◌, ◌<◌}
-use native.Mathlib.Nat.{add-zero}
+use mathlib.Core.Path.{◌≡◌, ◌∙◌, ap}
+use Prim.Native.Nat.{ℕ, ◌+◌, ◌-◌, ◌*◌, ◌≤◌, ◌<◌}
 use native.Mathlib.Omega.{arith}
 use mathlib.Core.List.{List, ◌∷◌, ◌++◌, map, map-append, append-nil}
 use lib.ListN.{length, length-append}
 use Rattle.lists.specs.Lists.{joined}
 use Rattle.lists.proofs.ListLaws.{joined-append}
-use Rattle.buffer.specs.Slice.{part, write, Puts}
+use Rattle.buffer.specs.Slice.{part, Puts}
 use Rattle.buffer.proofs.Putting.{puts-nothing, puts-more, puts-length}
 use Rattle.frame.specs.Writing.{written}
 use Rattle.frame.specs.declared.Frame.{Frame}

@@ -1,11 +1,9 @@
 -- Laws of the header after sending: the note, and one more that is counted.
 use mathlib.Core.Path.{◌≡◌}
-use Prim.Native.Nat.{ℕ, ◌+◌, ◌≤◌, ◌<◌}
+use Prim.Native.Nat.{ℕ, ◌+◌}
 use native.Mathlib.Numerals.{add-one}
-use native.Mathlib.Omega.{arith}
 use Rattle.memory.specs.declared.Header.{Header}
 use Rattle.memory.specs.declared.Round.{Round}
-use Rattle.memory.specs.declared.Phase.TheVariants.{Idle, Counting, Stopped}
 use Rattle.gateway.specs.Effects.{lowered_in, noted}
 use Rattle.effects.specs.Inside.Sending.{header_sent}
 

@@ -1,13 +1,11 @@
 -- Laws of what a call looks at before its first store, and of entering a queue place.
 use mathlib.Core.Path.{◌≡◌, refl, sym, ◌∙◌, ap}
-use mathlib.Core.Bool.{Bool, true, false, not, ◌&&◌}
+use mathlib.Core.Bool.{Bool, true, false}
 use mathlib.Core.List.{List, [], ◌∷◌, ◌++◌}
 use Prim.Native.Nat.{ℕ, ◌+◌, ◌-◌, ◌*◌, ◌≤◌, ◌<◌}
 use native.Mathlib.Omega.{arith}
-use lib.Dec.{leb}
 use lib.ListN.{length, take, drop, length-append, take-append-drop}
 use lib.Seq.{length-take-le}
-use borrow.Author.Tests.{le-leb, lt-leb, not-true, not-false}
 use Rattle.buffer.specs.Slice.{part, write}
 use Rattle.model.specs.Doing.{reply_to, sent_by}
 use Rattle.model.proofs.Sending.{reply-sends}
@@ -16,7 +14,6 @@ use Rattle.model.specs.declared.Site.{Site}
 use Rattle.std.specs.Prelude.{Option, None, Some}
 use Rattle.std.specs.Option.{is_some}
 use Rattle.std.specs.Int.{from_bool}
-use Rattle.frame.specs.declared.Sense.TheVariants.{Acknowledgment, CancelAcknowledgment}
 use Rattle.memory.specs.Layout.{header_size, queue_at, queue_size}
 use Rattle.memory.specs.Records.{Gateway}
 use Rattle.memory.specs.Codec.{places_at, entry_of, entry_bytes, header_front, header_back, encode}
@@ -25,7 +22,6 @@ use Rattle.memory.specs.declared.Entry.{Entry}
 use Rattle.memory.specs.declared.Header.{Header}
 use Rattle.gateway.specs.Effects.{with_queue}
 use Rattle.gateway.specs.Undoing.{processed_of, sent_back}
-use Rattle.gateway.specs.Taking.{acknowledgment}
 use Rattle.places.proofs.Positions.{more}
 use Rattle.effects.proofs.PlacedLaws.{placed-inside, placed-last, placed-inserted, placed-count}
 use Rattle.rollback.specs.Inside.Entering.{MayEnter}

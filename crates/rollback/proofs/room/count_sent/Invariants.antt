@@ -1,5 +1,4 @@
 use Prim.Native.Nat.{◌≤◌, ◌+◌, ◌-◌}
-use mathlib.Core.Path.{◌≡◌}
 use lib.ListN.{length}
 use Rattle.memory.specs.Layout.{queue_at, queue_size}
 use Rattle.memory.specs.Records.{site_of}
