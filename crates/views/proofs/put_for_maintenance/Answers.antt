@@ -20,16 +20,16 @@ pub put_head-requires : goal.put_head-requires
 put_head-requires c =
     let s = c.args.event.now in
     let b = bytes-known s c.type_inv.event in
-    let k = c.if-event-eq3.true in
+    let k = c.if-event-eq-RESTOCK.true in
     let long = restock-long c.args.stock s b c.requires.0 k in
     let room = front-room c.args.at 3 c.args.output.now s (event_view Maintenance (event_of c.args.stock s)) (maintenance-restock c.args.stock s b c.requires.0 k) (omega arith) c.requires.1 in
     (omega arith, omega arith)
 
-pub returns-then-event-eq3 : goal.returns-then-event-eq3
-returns-then-event-eq3 c =
+pub returns-then-event-eq-RESTOCK : goal.returns-then-event-eq-RESTOCK
+returns-then-event-eq-RESTOCK c =
     let s = c.args.event.now in
     let b = bytes-known s c.type_inv.event in
-    let k = c.if-event-eq3.true in
+    let k = c.if-event-eq-RESTOCK.true in
     let long = restock-long c.args.stock s b c.requires.0 k in
     front-put c.args.at 3 c.args.output.now s (event_view Maintenance (event_of c.args.stock s)) (maintenance-restock c.args.stock s b c.requires.0 k) (omega arith) c.put_head.ensures
 
@@ -37,7 +37,7 @@ pub put_head-requires-2 : goal.put_head-requires-2
 put_head-requires-2 c =
     let s = c.args.event.now in
     let b = bytes-known s c.type_inv.event in
-    let k = c.if-event-eq3.false in
+    let k = c.if-event-eq-RESTOCK.false in
     let long = lamp-long c.args.stock s b c.requires.0 k in
     let room = lamp-room c.args.at c.args.output.now s (event_view Maintenance (event_of c.args.stock s)) (maintenance-lamp c.args.stock s b c.requires.0 k) long c.requires.1 in
     (omega arith, omega arith)
@@ -46,7 +46,7 @@ pub copy_lamp-requires : goal.copy_lamp-requires
 copy_lamp-requires c =
     let s = c.args.event.now in
     let b = bytes-known s c.type_inv.event in
-    let k = c.if-event-eq3.false in
+    let k = c.if-event-eq-RESTOCK.false in
     let long = lamp-long c.args.stock s b c.requires.0 k in
     (lamp-fits c.args.at c.args.output.now s (event_view Maintenance (event_of c.args.stock s)) (maintenance-lamp c.args.stock s b c.requires.0 k) long c.requires.1 c.put_head-2.ensures, omega arith)
 
@@ -54,7 +54,7 @@ pub bounds-event-8 : goal.bounds-event-8
 bounds-event-8 c =
     let s = c.args.event.now in
     let b = bytes-known s c.type_inv.event in
-    let k = c.if-event-eq3.false in
+    let k = c.if-event-eq-RESTOCK.false in
     let long = lamp-long c.args.stock s b c.requires.0 k in
     search rules
 
@@ -62,7 +62,7 @@ pub bounds-output-at : goal.bounds-output-at
 bounds-output-at c =
     let s = c.args.event.now in
     let b = bytes-known s c.type_inv.event in
-    let k = c.if-event-eq3.false in
+    let k = c.if-event-eq-RESTOCK.false in
     let long = lamp-long c.args.stock s b c.requires.0 k in
     let room = lamp-room c.args.at c.args.output.now s (event_view Maintenance (event_of c.args.stock s)) (maintenance-lamp c.args.stock s b c.requires.0 k) long c.requires.1 in
     let same = lamp-length c.args.at c.args.output.now s (event_view Maintenance (event_of c.args.stock s)) (maintenance-lamp c.args.stock s b c.requires.0 k) long c.requires.1 c.put_head-2.ensures c.copy_lamp.ensures in
@@ -72,7 +72,7 @@ pub shape_of-output : goal.shape_of-output
 shape_of-output c =
     let s = c.args.event.now in
     let b = bytes-known s c.type_inv.event in
-    let k = c.if-event-eq3.false in
+    let k = c.if-event-eq-RESTOCK.false in
     let long = lamp-long c.args.stock s b c.requires.0 k in
     let same = lamp-length c.args.at c.args.output.now s (event_view Maintenance (event_of c.args.stock s)) (maintenance-lamp c.args.stock s b c.requires.0 k) long c.requires.1 c.put_head-2.ensures c.copy_lamp.ensures in
     search (same, rules)
@@ -81,6 +81,6 @@ pub returns : goal.returns
 returns c =
     let s = c.args.event.now in
     let b = bytes-known s c.type_inv.event in
-    let k = c.if-event-eq3.false in
+    let k = c.if-event-eq-RESTOCK.false in
     let long = lamp-long c.args.stock s b c.requires.0 k in
     lamp-put c.args.at c.args.output.now s (event_view Maintenance (event_of c.args.stock s)) (maintenance-lamp c.args.stock s b c.requires.0 k) long c.requires.1 c.put_head-2.ensures c.copy_lamp.ensures

@@ -17,7 +17,7 @@ pub put_head-requires : goal.put_head-requires
 put_head-requires c =
     let s = c.args.event.now in
     let b = bytes-known s c.type_inv.event in
-    let k = c.if-event-eq3.true in
+    let k = c.if-event-eq-RESTOCK.true in
     let long = restock-long c.args.stock s b c.requires.0 k in
     let room = restock-room c.args.at c.args.output.now s c.requires.1 k long in
     (omega arith, omega arith)
@@ -26,15 +26,15 @@ pub copy_two-requires : goal.copy_two-requires
 copy_two-requires c =
     let s = c.args.event.now in
     let b = bytes-known s c.type_inv.event in
-    let k = c.if-event-eq3.true in
+    let k = c.if-event-eq-RESTOCK.true in
     let long = restock-long c.args.stock s b c.requires.0 k in
     (quantity-fits c.args.at c.args.output.now s c.requires.1 k long c.put_head.ensures, omega arith)
 
-pub returns-then-event-eq3 : goal.returns-then-event-eq3
-returns-then-event-eq3 c =
+pub returns-then-event-eq-RESTOCK : goal.returns-then-event-eq-RESTOCK
+returns-then-event-eq-RESTOCK c =
     let s = c.args.event.now in
     let b = bytes-known s c.type_inv.event in
-    let k = c.if-event-eq3.true in
+    let k = c.if-event-eq-RESTOCK.true in
     let long = restock-long c.args.stock s b c.requires.0 k in
     restock-front c.args.at c.args.output.now s c.requires.1 k long c.put_head.ensures c.copy_two.ensures
 
@@ -42,7 +42,7 @@ pub put_head-requires-2 : goal.put_head-requires-2
 put_head-requires-2 c =
     let s = c.args.event.now in
     let b = bytes-known s c.type_inv.event in
-    let k = c.if-event-eq3.false in
+    let k = c.if-event-eq-RESTOCK.false in
     let long = lamp-long c.args.stock s b c.requires.0 k in
     let room = head-room c.args.at c.args.output.now s c.requires.1 k long in
     (omega arith, omega arith)
@@ -51,6 +51,6 @@ pub returns : goal.returns
 returns c =
     let s = c.args.event.now in
     let b = bytes-known s c.type_inv.event in
-    let k = c.if-event-eq3.false in
+    let k = c.if-event-eq-RESTOCK.false in
     let long = lamp-long c.args.stock s b c.requires.0 k in
     lamp-front c.args.at c.args.output.now s c.requires.1 k long c.put_head-2.ensures
