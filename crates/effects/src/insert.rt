@@ -6,7 +6,7 @@ ghost use Rattle.gateway.specs.Undoing.{pending_entry};
 ghost use Rattle.gateway.specs.Taking.{waiting_entry};
 ghost use Rattle.effects.specs.Inside.Placed.{entry_inserted};
 
-use buffer::move_up;
+use buffer::move_within;
 use encoding::write_entry;
 use memory::{Entry, HEADER_SIZE, Mark, QUEUE_SIZE};
 use model::{Message, State};
@@ -51,6 +51,6 @@ pub fn insert_place(memory: &mut [u8], queued: usize, k: usize, entry: Entry)
     ensures { memory.new ≡ entry_inserted queued k entry memory.old }
 {
     let at = HEADER_SIZE + QUEUE_SIZE * k;
-    move_up(memory, at, at + QUEUE_SIZE, QUEUE_SIZE * (queued - k));
+    move_within(memory, at, at + QUEUE_SIZE, QUEUE_SIZE * (queued - k));
     write_entry(memory, at, entry);
 }

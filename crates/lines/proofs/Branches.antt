@@ -1,15 +1,14 @@
 -- A law for each branch of the functions that put into lent buffers.
 use mathlib.Core.Path.{◌≡◌, ap}
-use mathlib.Core.Bool.{true, false, not}
+use mathlib.Core.Bool.{false}
 use mathlib.Core.List.{List}
 use Prim.Native.Nat.{ℕ, ◌+◌, ◌*◌, ◌-◌, ◌≤◌, ◌<◌}
 use native.Mathlib.Omega.{arith}
 use lib.ListN.{length, take}
-use borrow.Author.Tests.{le-leb, lt-leb, not-true, not-false}
+use borrow.Author.Tests.{le-leb, lt-leb}
 use Rattle.lists.specs.Inside.Positions.{first_where}
 use Rattle.buffer.specs.Slice.{write}
 use Rattle.model.specs.declared.Message.{Message}
-use Rattle.model.specs.declared.event.Reply.{Reply}
 use Rattle.frame.specs.Layout.{whole_length}
 use Rattle.frame.specs.Writing.{WriteOutcome, answer_count, outcome_of, writing}
 use Rattle.frame.specs.declared.Frame.{Frame}
@@ -23,7 +22,7 @@ use Rattle.gateway.specs.Undoing.{pending_entry}
 use Rattle.places.specs.Inside.Searching.{passes, entries_in}
 use Rattle.places.specs.declared.search.Search.TheVariants.{Later}
 use Rattle.effects.specs.Inside.Placed.{entry_inserted}
-use Rattle.lines.specs.Inside.Putting.{Buffer, appended, copied, plain_put, entered_in, reply_entered}
+use Rattle.lines.specs.Inside.Putting.{appended, copied, plain_put, entered_in}
 
 -- a frame has a byte
 pub some_bytes : (map : ℕ) {size : ℕ} → size ≡ whole_length map → 1 ≤ size
@@ -74,10 +73,3 @@ module _ (queue : List ℕ) (count : ℕ) (m : Message) where
       → k ≡ first_where (passes Later m) (entries_in queue count) → e ≡ pending_entry m → now ≡ entry_inserted count k e queue
       → record { bytes = now; used = count + 1 } ≡ entered_in queue count m
   in_place h room k e n = rw (le-leb (queue_at (count + 1)) (length queue) (omega arith), ← k, ← e, n)
-
-module _ (queue : List ℕ) (count : ℕ) (reply : Reply) where
-  pub nothing-sent : not reply.sends ≡ true → record { bytes = queue; used = count } ≡ reply_entered queue count reply
-  nothing-sent h = rw (not-true reply.sends h)
-
-  pub one-sent : {b : Buffer} → not reply.sends ≡ false → b ≡ entered_in queue count reply.sent → b ≡ reply_entered queue count reply
-  one-sent h e = rw (not-false reply.sends h) e

@@ -8,13 +8,12 @@ ghost use Rattle.memory.specs.Layout.{header_size, queue_at};
 ghost use Rattle.gateway.specs.Examples.{town_hours};
 ghost use Rattle.lines.specs.Inside.Putting.{size_at, appended, copied, plain_put, entered_in, reply_entered};
 
-use buffer::{copy, move_up};
+use buffer::{copy, move_within};
 use effects::insert::{insert_place, pending};
 use entries::frame_if;
 use frame::WriteAnswer;
 use frame::tables::whole_length;
 use memory::{HEADER_SIZE, QUEUE_SIZE};
-use model::event::Reply;
 use model::{LeadTimes, Message};
 use places::search::{Search, find};
 use reader::read;
@@ -77,7 +76,7 @@ pub fn put_again(line: &mut [u8], at: usize, size: usize, end: usize) -> usize
     if line.len() - end < size {
         return end;
     }
-    move_up(line, at, end, size);
+    move_within(line, at, end, size);
     end + size
 }
 
@@ -126,16 +125,15 @@ pub fn enter(queue: &mut [u8], count: usize, message: Message) -> usize
     count + 1
 }
 
-// Enters what a reply sends, if it sends a message.
-pub fn enter_sent(queue: &mut [u8], count: usize, reply: Reply) -> usize
+// Enters what doing a message sends, if it sends one.
+pub fn enter_sent(queue: &mut [u8], count: usize, reply: Option<Message>) -> usize
     requires { queue_at count ≤ length queue.old }
     ensures { (record { bytes = queue.new; used = result } ≡ reply_entered queue.old count reply)
         × (count ≤ result)
         × (queue_at result ≤ length queue.old) }
 {
-    if !reply.sends {
-        return count;
+    match reply {
+        Some(message) => enter(queue, count, message),
+        None => count,
     }
-    let message = reply.sent;
-    enter(queue, count, message)
 }

@@ -13,7 +13,6 @@ use encoding::write_state;
 use entries::site_of;
 use lines::{Ends, append, enter_list, enter_sent, put_plain, town_hours};
 use memory::{HEADER_SIZE, QUEUE_SIZE, STATE_SIZE, Settings};
-use model::event::Reply;
 use model::{Message, State};
 
 // The states of the two gateways, where their records end, and the number of messages.
@@ -170,7 +169,7 @@ fn state_for(machine: Machine, message: Message) -> State
 }
 
 // What a message sends by the lamp model, at the gateway that it is to. Supplier of both is gateway 1, and the last hour is 100.
-fn reply_at(state: State, message: Message) -> Reply {
+fn reply_at(state: State, message: Message) -> Option<Message> {
     let settings = Settings {
         n: 2,
         own: message.to,

@@ -11,7 +11,7 @@ ghost use Rattle.gateway.specs.Inside.Premises.{Known, Leaves};
 ghost use Rattle.rollback.specs.Inside.Entering.{struck_out};
 ghost use Rattle.rollback.specs.Inside.Undone.{CanTakeOut, TakesOut};
 
-use buffer::{move_down, write16};
+use buffer::{move_within, write16};
 use decoding::read_entry;
 use effects::insert::{insert_place, waiting};
 use effects::send::{outstanding_at, put_frames};
@@ -83,7 +83,7 @@ fn take_out(memory: &mut [u8], header: Header, k: usize) -> Header
 {
     let at = HEADER_SIZE + QUEUE_SIZE * k;
     let entry = read_entry(memory, at);
-    move_down(
+    move_within(
         memory,
         at + QUEUE_SIZE,
         at,

@@ -1,9 +1,8 @@
 -- Bytes and messages put into lent buffers, for the contracts of the example's parts. No call's own contract cites this file.
-use Rattle.std.specs.Prelude.{ℕ, ◌+◌, ◌-◌, min, false, cond, List, leb, length, take, get_or}
+use Rattle.std.specs.Prelude.{ℕ, ◌+◌, ◌-◌, min, false, cond, List, Option, None, Some, leb, length, take, get_or}
 use Rattle.lists.specs.Inside.Positions.{first_where}
 use Rattle.buffer.specs.Slice.{write}
 use Rattle.model.specs.declared.Message.{Message}
-use Rattle.model.specs.declared.event.Reply.{Reply}
 use Rattle.frame.specs.Layout.{whole_length}
 use Rattle.frame.specs.Writing.{writing}
 use Rattle.memory.specs.Layout.{queue_at}
@@ -42,6 +41,7 @@ entered_in queue count m =
     (record { bytes = entry_inserted count (first_where (passes Later m) (entries_in queue count)) (pending_entry m) queue; used = count + 1 })
     (record { bytes = queue; used = count })
 
--- the message that a reply sends entered, if it sends one
-abbrev pub reply_entered : List ℕ → ℕ → Reply → Buffer
-reply_entered queue count reply = cond reply.sends (entered_in queue count reply.sent) (record { bytes = queue; used = count })
+-- what doing a message sends entered, if it sends one
+abbrev pub reply_entered : List ℕ → ℕ → Option Message → Buffer
+reply_entered queue count None = record { bytes = queue; used = count }
+reply_entered queue count (Some m) = entered_in queue count m

@@ -5,8 +5,8 @@ use native.Mathlib.Omega.{arith}
 use Rattle.gateway.proofs.Knowing.{sizes}
 use Rattle.places.proofs.changes.remove_entry.Goals as goal
 
-pub move_down-requires : goal.move_down-requires
-move_down-requires c = let z = sizes _ _ c.requires.0 in (omega arith, omega arith)
+pub move_within-requires : goal.move_within-requires
+move_within-requires c = let z = sizes _ _ c.requires.0 in (omega arith, omega arith)
 
 pub write16-requires : goal.write16-requires
 write16-requires c = let z = sizes _ _ c.requires.0 in omega arith
