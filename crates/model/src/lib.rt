@@ -1,8 +1,6 @@
 // The lamp model: messages, a gateway's state, the event order, and what doing a message changes and sends.
 #![tactic(auto)]
 
-pub mod order; // order.rt: how two messages compare
-
 ghost use Rattle.std.specs.Prelude.{◌≡◌};
 ghost use Rattle.model.specs.Messages.{kind_number, origin_of, quantity_of, kind_of};
 ghost use Rattle.model.specs.Doing.{hours_in_range, lead_times_valid};
