@@ -11,7 +11,6 @@ use lib.Seq.{length-take-le}
 use borrow.Author.Tests.{le-leb, leb-true, not-true, not-false}
 use Rattle.lists.specs.Lists.{tally}
 use Rattle.lists.specs.Inside.Positions.{first_where}
-use Rattle.lists.proofs.PositionLaws.{first-bound}
 use Rattle.buffer.specs.Slice.{part, write}
 use Rattle.model.specs.Messages.{quantity_of}
 use Rattle.model.specs.Doing.{most_stock, after, reply_to, sent_by}
@@ -68,30 +67,22 @@ module _ {before memory : List ℕ} {t : Turn} {g : Gateway} (reached : Reached 
 
   pub none_left : (room : ℕ) {k : ℕ} → k ≡ t.place + first_where (has_mark Pending) (places_at entry_of queue_size memory (header_size + queue_size * t.place)
       (t.header.queued - t.place))
-      → k ≡ t.header.queued → {r : Turn} → r ≡ stopped_with 6 t → Turned (worked 1 (room - t.written) g) before memory t r
+      → t.header.queued ≤ k → {r : Turn} → r ≡ stopped_with 6 t → Turned (worked 1 (room - t.written) g) before memory t r
   none_left room f e i =
       turn_stopped reached 6
       (worked-none (room - t.written) g 0 (none-pending g.queue (omega (arith, found-next f, placed-count reached.placed))))
       i
 
--- a place that the search finds among those used
-pub place-below : (memory : List ℕ) {place queued k : ℕ} → place ≤ queued → k ≡ place + first_where (has_mark Pending) (places_at entry_of queue_size
-    memory (queue_at place) (queued - place))
-    → (k ≡ queued → ⊥) → k < queued
-place-below memory {place} {queued} h f n =
-    let es = places_at entry_of queue_size memory (queue_at place) (queued - place) in
-    omega (arith, first-bound (has_mark Pending) es, length-read entry_of queue_size memory (queue_at place) (queued - place))
-
--- and the message there leaves a stock that is no more than it can come to
+-- the message there leaves a stock that is no more than it can come to
 pub stock-there : (memory : List ℕ) (stock : ℕ) {place queued k : ℕ} → place ≤ queued
-    → k ≡ place + first_where (has_mark Pending) (places_at entry_of queue_size memory (queue_at place) (queued - place)) → (k ≡ queued → ⊥)
+    → k ≡ place + first_where (has_mark Pending) (places_at entry_of queue_size memory (queue_at place) (queued - place)) → k < queued
     → stock + tally still_brings (places_at entry_of queue_size memory (queue_at place) (queued - place)) ≤ most_stock
     → stock + quantity_of (entry_of (part memory (queue_at k) queue_size)).message.kind ≤ most_stock
 stock-there memory stock {place} {queued} {k} h f n room =
     let es = places_at entry_of queue_size memory (queue_at place) (queued - place) in
     let d = entry_of (part memory (queue_at k) queue_size) in
     let few = length-read entry_of queue_size memory (queue_at place) (queued - place) in
-    let below : first_where is_pending es < queued - place = omega (arith, place-below memory h f n) in
+    let below : first_where is_pending es < queued - place = omega (arith, f) in
     let at : queue_at place + queue_size * first_where is_pending es ≡ queue_at k = omega (arith, f) in
     let there : get_or es (first_where is_pending es) d ≡ d = place_at entry_of queue_size memory (queue_at place) (queued - place) (first_where is_pending es) d below ∙ rw at in
     omega (arith, room, rw there at (next-brings es d (omega (arith, few))))
