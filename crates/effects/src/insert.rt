@@ -1,7 +1,6 @@
 // An entry that is not processed, and an entry put into its queue place, those from there on moved up.
 ghost use Rattle.std.specs.Prelude.{◌≡◌, ◌+◌, ◌≤◌, length};
 ghost use Rattle.memory.specs.Layout.{queue_size, queue_at};
-ghost use Rattle.memory.specs.Validity.{no_state};
 ghost use Rattle.gateway.specs.Undoing.{pending_entry};
 ghost use Rattle.gateway.specs.Taking.{waiting_entry};
 ghost use Rattle.effects.specs.Inside.Placed.{entry_inserted};
@@ -18,7 +17,7 @@ pub fn pending(message: Message) -> Entry
     Entry {
         message,
         mark: Mark::Pending,
-        before: no_state(),
+        before: State::default(),
     }
 }
 
@@ -29,19 +28,7 @@ pub fn waiting(message: Message) -> Entry
     Entry {
         message,
         mark: Mark::Waiting,
-        before: no_state(),
-    }
-}
-
-// What stands for the state before an entry that is not processed.
-fn no_state() -> State
-    ensures { result ≡ no_state }
-{
-    State {
-        stock: 0,
-        failed: 0,
-        fitted: 0,
-        short: 0,
+        before: State::default(),
     }
 }
 
