@@ -1,6 +1,7 @@
 // A record, read event by event: each is its frame, then the state after it.
 #![tactic(auto)]
 
+pub mod events; // events.rt: the events of a record that is taken, one after another
 pub mod balance; // balance.rt: what the Restocks brought, the Requests that found stock, and the last stock
 
 ghost use Rattle.std.specs.Prelude.{◌≡◌, ◌+◌, ◌<◌, ◌≤◌, length, IfOk};
