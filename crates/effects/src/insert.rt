@@ -2,8 +2,6 @@
 ghost use Rattle.std.specs.Prelude.{◌≡◌, ◌+◌, ◌≤◌, length};
 ghost use Rattle.memory.specs.Layout.{queue_size, queue_at};
 ghost use Rattle.memory.specs.Validity.{no_state};
-ghost use Rattle.gateway.specs.Undoing.{pending_entry};
-ghost use Rattle.gateway.specs.Taking.{waiting_entry};
 ghost use Rattle.effects.specs.Inside.Placed.{entry_inserted};
 
 use buffer::move_within;
@@ -11,37 +9,14 @@ use encoding::write_entry;
 use memory::{Entry, HEADER_SIZE, Mark, QUEUE_SIZE};
 use model::{Message, State};
 
-// A plain message that is not processed.
-pub fn pending(message: Message) -> Entry
-    ensures { result ≡ pending_entry message }
+// An entry that is not processed: a plain message, or a cancel that waits.
+pub fn unprocessed(message: Message, mark: Mark) -> Entry
+    ensures { result ≡ record { message = message; mark = mark; before = no_state } }
 {
     Entry {
         message,
-        mark: Mark::Pending,
-        before: no_state(),
-    }
-}
-
-// A cancel that waits.
-pub fn waiting(message: Message) -> Entry
-    ensures { result ≡ waiting_entry message }
-{
-    Entry {
-        message,
-        mark: Mark::Waiting,
-        before: no_state(),
-    }
-}
-
-// What stands for the state before an entry that is not processed.
-fn no_state() -> State
-    ensures { result ≡ no_state }
-{
-    State {
-        stock: 0,
-        failed: 0,
-        fitted: 0,
-        short: 0,
+        mark,
+        before: State::default(),
     }
 }
 

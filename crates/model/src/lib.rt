@@ -29,7 +29,7 @@ pub struct Message {
 }
 
 // A gateway's state.
-#[derive(Clone, Copy, PartialEq, Eq)]
+#[derive(Clone, Copy, PartialEq, Eq, Default)]
 pub struct State {
     pub stock: u32,
     pub failed: u32,

@@ -10,10 +10,10 @@ ghost use Rattle.gateway.specs.Taking.{entered, vanished, take_plain};
 ghost use Rattle.gateway.specs.Calls.{unless_below};
 ghost use Rattle.gateway.specs.Inside.Premises.{Known, Leaves};
 
-use effects::insert::pending;
+use effects::insert::unprocessed;
 use effects::send::{outstanding_at, put_frames};
 use frame::lamps::SENSE_LENGTH;
-use memory::Header;
+use memory::{Header, Mark};
 use model::Message;
 use places::changes::remove_entry;
 use places::search::{cancel_of, place_for};
@@ -78,6 +78,6 @@ fn enter_plain(
     let next = undo(memory, header, k);
     let reply = acknowledgment(false, message);
     let end = put_frames(memory, output, reply, outstanding_at(header), sent);
-    enter(memory, next, k, pending(message));
+    enter(memory, next, k, unprocessed(message, Mark::Pending));
     Ok(end)
 }
