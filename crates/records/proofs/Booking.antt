@@ -1,12 +1,10 @@
 -- The book of a record: a law for each branch of the code that fills it, and its figures.
 use mathlib.Core.Path.{◌≡◌, refl, sym, ◌∙◌, ap}
-use mathlib.Core.Bool.{Bool, true, false, cond}
 use mathlib.Core.List.{List, [], ◌∷◌, map}
 use Prim.Native.Nat.{ℕ, ◌+◌, ◌*◌, ◌-◌, ◌≤◌, ◌<◌}
-use native.Mathlib.Nat.{add-zero, zero-add, sub-zero}
+use native.Mathlib.Nat.{add-zero, zero-add}
 use native.Mathlib.Omega.{arith}
 use native.Mathlib.Decide.{ℕ_discrete}
-use lib.Dec.{ltb}
 use lib.ListN.{length, take, drop, get_or}
 use borrow.Author.Tests.{ne_eqb, lt-ltb, le-ltb, lt-leb, le-leb}
 use Rattle.lists.specs.Lists.{first_number}
@@ -16,20 +14,18 @@ use Rattle.buffer.specs.Slice.{Bytes, part}
 use Rattle.buffer.specs.Number.{number_of}
 use Rattle.buffer.proofs.Numbers.{number-of-bytes}
 use Rattle.buffer.proofs.Writes.{part-part}
-use Rattle.model.specs.Doing.{opening_state, after, counted}
+use Rattle.model.specs.Doing.{opening_state, after}
 use Rattle.model.specs.Messages.{kind_number, quantity_of}
 use Rattle.model.specs.declared.Kind.{Kind}
 use Rattle.model.specs.declared.Kind.TheVariants.{Failure, Request, Delivery, Restock, Start, Lvt, Update}
-use Rattle.model.specs.declared.State.{State}
 use Rattle.memory.specs.Codec.{state_with}
 use Rattle.records.specs.Events.{Event, event_length, event_refusal, record_refusal, event_of, events_of}
-use Rattle.records.specs.Balancing.{received, served, last_stock, refused_balance, balance_for, balanced}
+use Rattle.records.specs.Balancing.{received, served, last_stock, BalanceAnswer, refused_balance, balance_for, balanced}
 use Rattle.records.specs.Inside.Booking.{entered, entered_event, entered_all, opened_book, RoomInBook}
-use Rattle.records.specs.Inside.Finding.{event_at, length_of_kind, passed_as}
-use Rattle.records.specs.declared.Passed.{Passed}
+use Rattle.records.specs.Inside.Finding.{event_at, length_of_kind, Passed, passed_as}
+use Rattle.records.specs.declared.Weights.{Weights}
 use Rattle.records.specs.declared.StockField.TheVariants.{Present}
 use Rattle.records.specs.declared.balance.Book.{Book}
-use Rattle.records.specs.declared.balance.BalanceAnswer.{BalanceAnswer}
 use Rattle.records.proofs.EventBranches.{event-some}
 use Rattle.records.proofs.EventEnds.{event-bytes}
 use Rattle.records.proofs.EventParts.{LampParts, RestockParts, taken-restock, taken-lamp}
@@ -45,41 +41,6 @@ nothing-entered b stock = λ i. record {
   followed = b.followed;
   stock = stock;
 }
-
--- the driver that a Request draws
-pub drawn-one : (stock : ℕ) → 0 < stock → (◌≡◌ {A = ℕ} 1 (cond (ltb 0 stock) 1 0)) × (1 ≤ stock) × (1 ≤ 1)
-drawn-one stock h = (rw (lt-ltb 0 stock h), h, omega arith)
-
-pub drawn-none : (stock : ℕ) → stock ≤ 0 → (◌≡◌ {A = ℕ} 0 (cond (ltb 0 stock) 1 0)) × (0 ≤ stock) × (0 ≤ 1)
-drawn-none stock h = (rw (le-ltb 0 stock h), omega arith, omega arith)
-
--- a Request, and a Restock
-module _ (b : Book) {stock last : ℕ} (l : (last ≡ stock) × (last < 4294967296)) where
-  pub book-request : {drawn : ℕ} → (drawn ≡ cond (ltb 0 b.followed) 1 0) × (drawn ≤ b.followed) × (drawn ≤ 1)
-      → record { received = b.received; served = b.served + drawn; followed = b.followed - drawn; stock = last } ≡ entered b (Request 0) stock
-  book-request d = rw (d.0, l.0) (by (ltb 0 b.followed))
-    where
-      by : (x : Bool) → ◌≡◌ {A = Book} (record { received = b.received; served = b.served + cond x 1 0; followed = b.followed - cond x 1 0; stock = stock })
-          (record {
-            received = b.received + 0;
-            served = b.served + cond x 1 0;
-            followed = (cond {A = State} x (record { stock = b.followed - 1; failed = 0; fitted = 0; short = 0 })
-                (record { stock = b.followed; failed = 0; fitted = 0; short = counted 0 })).stock;
-            stock = stock;
-          })
-      by true = λ i. record { received = sym (add-zero b.received) i; served = b.served + 1; followed = b.followed - 1; stock = stock }
-      by false = λ i. record { received = sym (add-zero b.received) i; served = b.served + 0; followed = sub-zero b.followed i; stock = stock }
-
-  pub book-restock : {quantity more : ℕ} → (more ≡ quantity) × (more < 65536)
-      → record { received = b.received + more; served = b.served; followed = b.followed + more; stock = last } ≡ entered b (Restock quantity) stock
-  book-restock {quantity} q =
-      rw (q.0, l.0)
-      (λ i. record {
-        received = b.received + quantity;
-        served = sym (add-zero b.served) i;
-        followed = b.followed + quantity;
-        stock = stock;
-      })
 
 -- a kind by its number
 restock-kind : (k : Kind) → kind_number k ≡ 3 → k ≡ Restock (quantity_of k)
@@ -155,11 +116,11 @@ module _ (b : Book) (s : List ℕ) (bytes : Bytes s) (z : event_refusal Present 
       request-booked one r =
           r ∙ request-entered b stock e.message.kind (has-lamp.number ∙ one) ∙ ap (entered b e.message.kind) stock-is
 
-      pub other-booked : {last : ℕ} → (get_or s 1 0 ≡ 1 → ⊥) → (last ≡ stock) × (last < 4294967296)
+      pub other-booked : {last : ℕ} → (get_or s 1 0 ≡ 1 → ⊥) → last ≡ stock
           → record { received = b.received; served = b.served; followed = b.followed; stock = last } ≡ entered_event b e
       other-booked d l =
           let few : kind_number e.message.kind ≤ 2 = omega (arith, has-lamp.number, has-lamp.kind) in
-          rw (l.0, stock-is) (other-entered b e.state.stock e.message.kind few (λ n. d (sym has-lamp.number ∙ n)))
+          rw (l, stock-is) (other-entered b e.state.stock e.message.kind few (λ n. d (sym has-lamp.number ∙ n)))
 
 -- the figures of a book that all events were entered in
 module _ where
@@ -214,11 +175,11 @@ pub record Booking (opening : ℕ) (bytes : List ℕ) (b : Book) (at : ℕ) : Ty
   pub rest : entered_all (opened_book opening) (events_of Present bytes) ≡ entered_all b (map (event_of Present) (pieces_from (event_length Present) bytes at))
 
 module _ (opening : ℕ) (bytes : List ℕ) where
-  pub booking-start : opening ≤ 65535 → record_refusal Present bytes ≡ 0 → {first : ℕ} → (first ≡ opening) × (first < 4294967296)
+  pub booking-start : opening ≤ 65535 → record_refusal Present bytes ≡ 0 → {first : ℕ} → first ≡ opening
       → Booking opening bytes (record { received = 0; served = 0; followed = first; stock = first }) 0
   unfolding record_refusal events_of pieces_from
   booking-start h z f =
-      rw f.0
+      rw f
       (record {
         inside = omega arith;
         received = omega arith;
@@ -263,13 +224,13 @@ module _ (opening : ℕ) (bytes : List ℕ) where
             }
 
 -- the refusals of the record, or its figures
-module _ (opening : ℕ) (bytes : List ℕ) {p : Passed} (q : p ≡ passed_as Present 0 0 bytes) where
+module _ (opening : ℕ) (bytes : List ℕ) (weights : Weights) {p : Passed} (q : p ≡ passed_as Present weights bytes) where
   number_is : p.number ≡ record_refusal Present bytes
   number_is = ap (λ (x : Passed). x.number) q
 
-  pub record-refused : {r : BalanceAnswer} → (p.number ≡ 0 → ⊥) → r ≡ refused_balance p.number → r ≡ balance_for opening bytes
+  pub record-refused : (p.number ≡ 0 → ⊥) → refused_balance p.number ≡ balance_for opening bytes
   unfolding balance_for
-  record-refused d e = e ∙ rw (← number_is, ne_eqb p.number 0 d)
+  record-refused d = rw (← number_is, ne_eqb p.number 0 d)
 
   module _ (z : p.number ≡ 0) where
     pub record-passed : record_refusal Present bytes ≡ 0

@@ -9,7 +9,7 @@ use Rattle.records.proofs.balance.book_of.Goals as goal
 
 pub loop-at-init : goal.loop-at-init
 loop-at-init c =
-    booking-start c.args.opening c.args.bytes.now c.requires.0 c.requires.2 c.wide-first.ensures
+    booking-start c.args.opening c.args.bytes.now c.requires.0 c.requires.2 c.from-first.ensures
 
 pub overflow_add-at : goal.overflow_add-at
 overflow_add-at c =
