@@ -1,15 +1,15 @@
 -- The book of a record: a law for each branch of the code that fills it, and its figures.
 use mathlib.Core.Path.{◌≡◌, refl, sym, ◌∙◌, ap}
 use mathlib.Core.List.{List, [], ◌∷◌, map}
-use Prim.Native.Nat.{ℕ, ◌+◌, ◌*◌, ◌-◌, ◌≤◌, ◌<◌}
+use Prim.Native.Nat.{ℕ, suc, ◌+◌, ◌*◌, ◌≤◌, ◌<◌}
 use native.Mathlib.Nat.{add-zero, zero-add}
 use native.Mathlib.Omega.{arith}
 use native.Mathlib.Decide.{ℕ_discrete}
-use lib.ListN.{length, take, drop, get_or}
+use lib.ListN.{length, get_or}
 use borrow.Author.Tests.{ne_eqb, lt-ltb, le-ltb, lt-leb, le-leb}
-use Rattle.lists.specs.Lists.{first_number}
-use Rattle.lists.specs.Inside.Pieces.{pieces_from}
-use Rattle.lists.proofs.PieceLaws.{pieces_none}
+use Rattle.lists.specs.Lists.{All, first_number}
+use Rattle.lists.proofs.ListLaws.{all_head, all_tail, all_of}
+use Rattle.lists.proofs.PieceLaws.{first-cons}
 use Rattle.buffer.specs.Slice.{Bytes, part}
 use Rattle.buffer.specs.Number.{number_of}
 use Rattle.buffer.proofs.Numbers.{number-of-bytes}
@@ -18,18 +18,17 @@ use Rattle.model.specs.Doing.{opening_state, after}
 use Rattle.model.specs.Messages.{kind_number, quantity_of}
 use Rattle.model.specs.declared.Kind.{Kind}
 use Rattle.model.specs.declared.Kind.TheVariants.{Failure, Request, Delivery, Restock, Start, Lvt, Update}
+use Rattle.frame.proofs.PieceBytes.{cut-bytes}
 use Rattle.memory.specs.Codec.{state_with}
-use Rattle.records.specs.Events.{Event, event_length, event_refusal, record_refusal, event_of, events_of}
+use Rattle.records.specs.Events.{Event, event_length, cut_events, event_refusal, record_refusal, event_of, events_of}
 use Rattle.records.specs.Balancing.{received, served, last_stock, BalanceAnswer, refused_balance, balance_for, balanced}
 use Rattle.records.specs.Inside.Booking.{entered, entered_event, entered_all, opened_book, RoomInBook}
-use Rattle.records.specs.Inside.Finding.{event_at, length_of_kind, Passed, passed_as}
+use Rattle.records.specs.Inside.Finding.{Passed, passed_as}
 use Rattle.records.specs.declared.Weights.{Weights}
 use Rattle.records.specs.declared.StockField.TheVariants.{Present}
 use Rattle.records.specs.declared.balance.Book.{Book}
-use Rattle.records.proofs.EventBranches.{event-some}
-use Rattle.records.proofs.EventEnds.{event-bytes}
 use Rattle.records.proofs.EventParts.{LampParts, RestockParts, taken-restock, taken-lamp}
-use Rattle.records.proofs.TakenRest.{rest-next, next-taken, end_is, event-is, end-bounds, rest-taken}
+use Rattle.records.proofs.TakenRest.{cut_few}
 use Rattle.records.proofs.HistoryLaws.{stock-step, found-one, served-same}
 
 -- nothing received and nothing served
@@ -165,63 +164,70 @@ quantity-fits s bytes z = by (ℕ_discrete (get_or s 1 0) 3)
         let few : kind_number (event_of Present s).message.kind ≤ 2 = omega (arith, p.number, p.kind) in
         omega (arith, none (event_of Present s).message.kind few)
 
--- the pass has come to a position: none of the rest is refused, the book has the events before it, and its figures are small
-pub record Booking (opening : ℕ) (bytes : List ℕ) (b : Book) (at : ℕ) : Type 0 where
-  pub inside : at ≤ length bytes
-  pub received : b.received ≤ 65535 * at
-  pub served : b.served ≤ at
-  pub followed : b.followed ≤ 65535 + 65535 * at
-  pub none : first_number (event_refusal Present) (pieces_from (event_length Present) bytes at) ≡ 0
-  pub rest : entered_all (opened_book opening) (events_of Present bytes) ≡ entered_all b (map (event_of Present) (pieces_from (event_length Present) bytes at))
+-- so many events are in the book, whose figures are small, and these are left, none of which is refused
+pub record Booking (opening : ℕ) (bytes : List ℕ) (b : Book) (left : List (List ℕ)) : Type 0 where
+  pub count : ℕ
+  pub few : count + length left ≤ length bytes
+  pub received : b.received ≤ 65535 * count
+  pub served : b.served ≤ count
+  pub followed : b.followed ≤ 65535 + 65535 * count
+  pub none : first_number (event_refusal Present) left ≡ 0
+  pub held : All Bytes left
+  pub rest : entered_all (opened_book opening) (events_of Present bytes) ≡ entered_all b (map (event_of Present) left)
 
 module _ (opening : ℕ) (bytes : List ℕ) where
-  pub booking-start : opening ≤ 65535 → record_refusal Present bytes ≡ 0 → {first : ℕ} → first ≡ opening
-      → Booking opening bytes (record { received = 0; served = 0; followed = first; stock = first }) 0
-  unfolding record_refusal events_of pieces_from
-  booking-start h z f =
-      rw f
+  pub booking-start : opening ≤ 65535 → record_refusal Present bytes ≡ 0 → Bytes bytes → {first : ℕ} → first ≡ opening
+      → {left : List (List ℕ)} → left ≡ cut_events Present bytes → Booking opening bytes (record { received = 0; served = 0; followed = first; stock = first }) left
+  unfolding record_refusal events_of
+  booking-start h z b f e =
+      rw (f, e)
       (record {
-        inside = omega arith;
+        count = 0;
+        few = omega (arith, cut_few (event_length Present) (length bytes) bytes);
         received = omega arith;
         served = omega arith;
         followed = omega arith;
         none = z;
+        held = all_of (cut_events Present bytes) (cut-bytes (event_length Present) (length bytes) bytes b);
         rest = refl;
       })
 
-  module _ (few : length bytes < 281474976710656) (b : Book) (at : ℕ) (p : Booking opening bytes b at) where
-    pub booking-end : length bytes ≤ at → b ≡ entered_all (opened_book opening) (events_of Present bytes)
+  module _ (few : length bytes < 281474976710656) (b : Book) {left : List (List ℕ)} (p : Booking opening bytes b left) where
+    pub booking-end : left ≡ [] → b ≡ entered_all (opened_book opening) (events_of Present bytes)
     unfolding entered_all
-    booking-end h = sym (p.rest ∙ rw (pieces_none (event_length Present) (event-some Present) bytes at h))
+    booking-end e = sym (p.rest ∙ rw e)
 
-    pub booking-room : at < length bytes → RoomInBook b
-    booking-room h =
-        let s = p.served in
-        record { received = omega (arith, p.received); served = omega arith; followed = omega (arith, p.followed) }
+    module _ {s : List ℕ} {later : List (List ℕ)} (e : left ≡ s ∷ later) where
+      both : (event_refusal Present s ≡ 0) × (first_number (event_refusal Present) later ≡ 0)
+      both = first-cons (event_refusal Present) s later (rw e at p.none)
 
-    module _ (b₀ : Bytes bytes) (h : at < length bytes) {kind size end : ℕ} (k : kind ≡ get_or bytes (at + 1) 0) (l : size ≡ length_of_kind Present kind)
-        (e : end ≡ at + size)
-      where
-        pub booking-turn : {c : Book} → c ≡ entered_event b (event_of Present (take (end - at) (drop at bytes))) → Booking opening bytes c end
-        unfolding entered_all
-        booking-turn {c} q =
-            let s = event_at Present bytes at in
-            let taken = next-taken Present bytes b₀ at p.none h in
-            let kind = (event_of Present s).message.kind in
-            let same = event-is Present bytes b₀ at p.none h k l e in
-            let is : c ≡ entered_event b (event_of Present s) = q ∙ ap (λ (l : List ℕ). entered_event b (event_of Present l)) same in
-            let more = quantity-fits s (event-bytes Present bytes b₀ at h taken) taken in
-            let one = found-one (opening_state b.followed) kind in
-            let bounds = end-bounds Present bytes b₀ at p.none h k l e in
-            let later = bounds.later in
-            record {
-              inside = bounds.inside;
-              received = omega (arith, ap (λ (x : Book). x.received) is, p.received, more);
-              served = omega (arith, ap (λ (x : Book). x.served) is, p.served, one);
-              followed = omega (arith, ap (λ (x : Book). x.followed) is, p.followed, more, stock-step (opening_state b.followed) kind);
-              none = rest-taken Present bytes b₀ at p.none h k l e;
-              rest = p.rest ∙ rw (rest-next Present bytes b₀ at p.none h, is, end_is Present bytes b₀ at p.none h k l e);
-            }
+      pub booking-taken : event_refusal Present s ≡ 0
+      booking-taken = both.0
+
+      pub booking-room : RoomInBook b
+      booking-room =
+          let n : p.count + suc (length later) ≤ length bytes = rw e at p.few in
+          let s = p.served in
+          record { received = omega (arith, p.received); served = omega arith; followed = omega (arith, p.followed) }
+
+      pub booking-turn : {c : Book} → c ≡ entered_event b (event_of Present s) → Booking opening bytes c later
+      unfolding entered_all
+      booking-turn {c} is =
+          let kind = (event_of Present s).message.kind in
+          let n : p.count + suc (length later) ≤ length bytes = rw e at p.few in
+          let held : All Bytes (s ∷ later) = rw e at p.held in
+          let more = quantity-fits s (all_head held) both.0 in
+          let one = found-one (opening_state b.followed) kind in
+          record {
+            count = p.count + 1;
+            few = omega arith;
+            received = omega (arith, ap (λ (x : Book). x.received) is, p.received, more);
+            served = omega (arith, ap (λ (x : Book). x.served) is, p.served, one);
+            followed = omega (arith, ap (λ (x : Book). x.followed) is, p.followed, more, stock-step (opening_state b.followed) kind);
+            none = both.1;
+            held = all_tail held;
+            rest = p.rest ∙ rw (e, is);
+          }
 
 -- the refusals of the record, or its figures
 module _ (opening : ℕ) (bytes : List ℕ) (weights : Weights) {p : Passed} (q : p ≡ passed_as Present weights bytes) where

@@ -8,7 +8,8 @@ ghost use Rattle.records.specs.Balancing.{balance_in, balanced};
 ghost use Rattle.records.specs.Inside.Booking.{entered, entered_event, entered_all, opened_book, RoomInBook};
 ghost use Rattle.records.specs.declared.StockField.TheVariants.{Present};
 
-use crate::{RECORD_LIMIT, RESTOCK, StockField, Weights, event_length, pass_over};
+use crate::events::Events;
+use crate::{RECORD_LIMIT, RESTOCK, StockField, Weights, pass_over};
 use buffer::Number;
 use frame::lamps::LAMP_END;
 use frame::tables::{QUANTITY_END, QUANTITY_PLACE};
@@ -80,11 +81,12 @@ fn book_of(bytes: &[u8], opening: u32) -> Book
         followed: first,
         stock: first,
     };
-    let mut at = 0;
-    while at < bytes.len() {
-        let end = at + event_length(bytes[at + 1], StockField::Present);
-        book = booked(book, &bytes[at..end]);
-        at = end;
+    let events = Events {
+        rest: bytes,
+        stock: StockField::Present,
+    };
+    for event in events {
+        book = booked(book, event);
     }
     book
 }

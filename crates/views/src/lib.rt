@@ -17,7 +17,8 @@ use buffer::copy;
 use frame::lamps::{LAMP_END, LAMP_PLACE};
 use frame::tables::{HOUR_PLACE, ORIGIN_PLACE, QUANTITY_END, QUANTITY_PLACE};
 use memory::STATE_SIZE;
-use records::{RECORD_LIMIT, RESTOCK, StockField, Weights, event_length, pass_over};
+use records::events::Events;
+use records::{RECORD_LIMIT, RESTOCK, StockField, Weights, pass_over};
 use refusal::Refusal;
 
 // Who reads a record.
@@ -123,12 +124,10 @@ fn write_view(bytes: &[u8], output: &mut [u8], reader: Reader, stock: StockField
     requires { (record_refusal stock bytes.now ≡ 0) × (length (Bytes.view reader stock bytes.now) ≤ length output.old) }
     ensures { output.new ≡ write 0 (Bytes.view reader stock bytes.now) output.old }
 {
-    let mut at = 0;
     let mut position = 0;
-    while at < bytes.len() {
-        let end = at + event_length(bytes[at + 1], stock);
-        position = put_event(output, position, &bytes[at..end], reader, stock);
-        at = end;
+    let events = Events { rest: bytes, stock };
+    for event in events {
+        position = put_event(output, position, event, reader, stock);
     }
 }
 

@@ -3,10 +3,8 @@ use native.Mathlib.Omega.{arith}
 use Rattle.buffer.proofs.Lent.{bytes-known}
 use Rattle.buffer.specs.Slice.{part}
 use Rattle.records.proofs.EventParts.{kind-inside}
-use Rattle.records.specs.Events.{event_of}
-use Rattle.views.specs.Bytes.{event_view}
-use Rattle.views.specs.declared.Reader.TheVariants.{Maintenance}
-use Rattle.views.proofs.ViewParts.{restock-long, maintenance-restock, lamp-long, maintenance-lamp, front-room, front-put, lamp-room, lamp-fits, lamp-length, lamp-put}
+use Rattle.views.proofs.ViewParts.{restock-long, maintenance-restock, lamp-long, maintenance-lamp}
+use Rattle.views.proofs.ViewParts.{front-room, front-put, lamp-room, lamp-fits, lamp-length, lamp-put}
 use Rattle.buffer.proofs.Writes.{length_part}
 use borrow.Author.Rules.{rules}
 use Rattle.views.proofs.put_for_maintenance.Goals as goal
@@ -24,7 +22,8 @@ put_head-requires c =
     let b = bytes-known s c.type_inv.event in
     let k = c.if-event-eq-RESTOCK.true in
     let long = restock-long c.args.stock s b c.requires.0 k in
-    let room = front-room c.args.at 3 c.args.output.now s (event_view Maintenance (event_of c.args.stock s)) (maintenance-restock c.args.stock s b c.requires.0 k) (omega arith) c.requires.1 in
+    let is = maintenance-restock c.args.stock s b c.requires.0 k in
+    let room = front-room c.args.at 3 c.args.output.now s _ is (omega arith) c.requires.1 in
     (omega arith, omega arith)
 
 pub returns-then-event-eq-RESTOCK : goal.returns-then-event-eq-RESTOCK
@@ -33,7 +32,8 @@ returns-then-event-eq-RESTOCK c =
     let b = bytes-known s c.type_inv.event in
     let k = c.if-event-eq-RESTOCK.true in
     let long = restock-long c.args.stock s b c.requires.0 k in
-    front-put c.args.at 3 c.args.output.now s (event_view Maintenance (event_of c.args.stock s)) (maintenance-restock c.args.stock s b c.requires.0 k) (omega arith) c.put_head.ensures
+    let is = maintenance-restock c.args.stock s b c.requires.0 k in
+    front-put c.args.at 3 c.args.output.now s _ is (omega arith) c.put_head.ensures
 
 pub put_head-requires-2 : goal.put_head-requires-2
 put_head-requires-2 c =
@@ -41,7 +41,8 @@ put_head-requires-2 c =
     let b = bytes-known s c.type_inv.event in
     let k = c.if-event-eq-RESTOCK.false in
     let long = lamp-long c.args.stock s b c.requires.0 k in
-    let room = lamp-room c.args.at c.args.output.now s (event_view Maintenance (event_of c.args.stock s)) (maintenance-lamp c.args.stock s b c.requires.0 k) long c.requires.1 in
+    let is = maintenance-lamp c.args.stock s b c.requires.0 k in
+    let room = lamp-room c.args.at c.args.output.now s _ is long c.requires.1 in
     (omega arith, omega arith)
 
 pub slice_bounds-copy-end : goal.slice_bounds-copy-end
@@ -58,7 +59,8 @@ copy-requires c =
     let b = bytes-known s c.type_inv.event in
     let k = c.if-event-eq-RESTOCK.false in
     let long = lamp-long c.args.stock s b c.requires.0 k in
-    let fits = lamp-fits c.args.at c.args.output.now s (event_view Maintenance (event_of c.args.stock s)) (maintenance-lamp c.args.stock s b c.requires.0 k) long c.requires.1 c.put_head-2.ensures in
+    let is = maintenance-lamp c.args.stock s b c.requires.0 k in
+    let fits = lamp-fits c.args.at c.args.output.now s _ is long c.requires.1 c.put_head-2.ensures in
     omega (arith, length_part s 9 18 (omega arith))
 
 pub bounds-event-8 : goal.bounds-event-8
@@ -76,8 +78,9 @@ bounds-output-at c =
     let b = bytes-known s c.type_inv.event in
     let k = c.if-event-eq-RESTOCK.false in
     let long = lamp-long c.args.stock s b c.requires.0 k in
-    let room = lamp-room c.args.at c.args.output.now s (event_view Maintenance (event_of c.args.stock s)) (maintenance-lamp c.args.stock s b c.requires.0 k) long c.requires.1 in
-    let same = lamp-length c.args.at c.args.output.now s (event_view Maintenance (event_of c.args.stock s)) (maintenance-lamp c.args.stock s b c.requires.0 k) long c.requires.1 c.put_head-2.ensures c.copy.ensures in
+    let is = maintenance-lamp c.args.stock s b c.requires.0 k in
+    let room = lamp-room c.args.at c.args.output.now s _ is long c.requires.1 in
+    let same = lamp-length c.args.at c.args.output.now s _ is long c.requires.1 c.put_head-2.ensures c.copy.ensures in
     search rules
 
 pub shape_of-output : goal.shape_of-output
@@ -87,7 +90,8 @@ shape_of-output c =
     let b = bytes-known s c.type_inv.event in
     let k = c.if-event-eq-RESTOCK.false in
     let long = lamp-long c.args.stock s b c.requires.0 k in
-    let same = lamp-length c.args.at c.args.output.now s (event_view Maintenance (event_of c.args.stock s)) (maintenance-lamp c.args.stock s b c.requires.0 k) long c.requires.1 c.put_head-2.ensures c.copy.ensures in
+    let is = maintenance-lamp c.args.stock s b c.requires.0 k in
+    let same = lamp-length c.args.at c.args.output.now s _ is long c.requires.1 c.put_head-2.ensures c.copy.ensures in
     search (same, rules)
 
 pub returns : goal.returns
@@ -97,4 +101,5 @@ returns c =
     let b = bytes-known s c.type_inv.event in
     let k = c.if-event-eq-RESTOCK.false in
     let long = lamp-long c.args.stock s b c.requires.0 k in
-    lamp-put c.args.at c.args.output.now s (event_view Maintenance (event_of c.args.stock s)) (maintenance-lamp c.args.stock s b c.requires.0 k) long c.requires.1 c.put_head-2.ensures c.copy.ensures
+    let is = maintenance-lamp c.args.stock s b c.requires.0 k in
+    lamp-put c.args.at c.args.output.now s _ is long c.requires.1 c.put_head-2.ensures c.copy.ensures

@@ -34,7 +34,8 @@ read-requires-in_default c =
 pub returns-in-1 : goal.returns-in-1
 returns-in-1 c =
     let s = c.args.event.now in
-    request-booked c.args.book s (bytes-known s c.type_inv.event) c.requires.0 (λ e. omega (arith, e, c.in-1.is)) c.read.ensures c.in-1.is c.requested.ensures
+    request-booked c.args.book s (bytes-known s c.type_inv.event) c.requires.0 (λ e. omega (arith, e, c.in-1.is)) c.read.ensures c.in-1.is
+    c.requested.ensures
 
 pub returns-in-3 : goal.returns-in-3
 returns-in-3 c =
@@ -44,4 +45,5 @@ returns-in-3 c =
 pub returns-in_default : goal.returns-in_default
 returns-in_default c =
     let s = c.args.event.now in
-    other-booked c.args.book s (bytes-known s c.type_inv.event) c.requires.0 (λ e. omega (arith, e, c.in_default)) c.read-in_default.ensures (λ e. omega arith) c.from.ensures
+    other-booked c.args.book s (bytes-known s c.type_inv.event) c.requires.0 (λ e. omega (arith, e, c.in_default)) c.read-in_default.ensures
+    (λ e. omega arith) c.from.ensures
