@@ -113,7 +113,7 @@ impl From<RefusedEvent> for Refusal {
     }
 }
 
-// One pass over a record, up to its first refusal: what its events weigh.
+// One pass over a record, up to its first refusal: what its events weigh. It checks what `Events` takes as checked.
 pub fn pass_over(bytes: &[u8], stock: StockField, weights: Weights) -> Result<usize, RefusedEvent>
     requires { (weights.lamp ≤ 27 + state_size_of stock) × (weights.restock ≤ 10 + state_size_of stock) }
     ensures { passed_in result ≡ passed_as stock weights bytes.now }
