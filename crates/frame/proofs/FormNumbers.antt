@@ -8,7 +8,7 @@ use lib.Dec.{eqb}
 use borrow.Author.Tests.{eq-eqb}
 use Rattle.std.specs.Prelude.{Result, Ok, Err, is_ok}
 use Rattle.frame.specs.Writing.{unless}
-use Rattle.frame.specs.Reasons.{reading, frame_in, frame_read, read_in, read_number, form_number, form_refusal}
+use Rattle.frame.specs.Reasons.{reading, frame_in, frame_read, read_in, read_number, refusal_in, form_number, form_refusal}
 use Rattle.frame.specs.declared.forms.FormError.{FormError}
 use Rattle.frame.specs.declared.forms.FormError.TheVariants.{TooShort, WrongMap, WrongLength, WrongSense, WrongLamp, WrongGateways, NotTaken}
 use Rattle.frame.specs.declared.Frame.{Frame}
@@ -31,6 +31,16 @@ ok-read (Err reason) e = absurd (false≢true e)
 -- a byte string that is not refused for its form is a frame
 pub read-frame : (s : List ℕ) → form_refusal s ≡ 0 → reading s ≡ Ok (frame_read s)
 read-frame s e = ok-read (reading s) (ok-number (reading s) ∙ eq-eqb (form_refusal s) 0 e)
+
+-- each reason has a number
+pub number-some : (reason : FormError) → form_number reason ≡ 0 → ⊥
+number-some TooShort e = omega arith
+number-some WrongMap e = omega arith
+number-some WrongLength e = omega arith
+number-some WrongSense e = omega arith
+number-some WrongLamp e = omega arith
+number-some WrongGateways e = omega arith
+number-some NotTaken e = omega arith
 
 -- no reason has the number of unsound memory
 pub number-sound : (reason : FormError) → form_number reason ≡ 10 → ⊥
@@ -85,14 +95,32 @@ pub form-passed : (taken : Frame → Bool) (r : Result Frame FormError) → eqb 
     → (r ≡ Ok (frame_in r)) × (taken (frame_in r) ≡ true)
 form-passed taken r h = ok-passed taken r (ok-number (read_in taken r) ∙ h)
 
--- the branches of the code that asks whether a frame is taken
-module _ (taken : Frame → Bool) {r : Result Frame FormError} where
-  pub reason-kept : {reason : FormError} → r ≡ Err reason → Err reason ≡ read_in taken r
-  reason-kept e = rw e
+-- what a call makes of what was read: it takes the frame, or refuses for a reason
+pub data Taking (taken : Frame → Bool) (r : Result Frame FormError) : Result Frame FormError → Type 0 where
+  takes : r ≡ Ok (frame_in r) → taken (frame_in r) ≡ true → Taking taken r (Ok (frame_in r))
+  refuses : (reason : FormError) → Taking taken r (Err reason)
 
-  module _ {f : Frame} (e : r ≡ Ok f) where
-    pub frame-taken : taken f ≡ true → Ok f ≡ read_in taken r
-    frame-taken t = rw (e, t)
+pub taking : (taken : Frame → Bool) (r : Result Frame FormError) → Taking taken r (read_in taken r)
+taking taken (Ok f) = by (taken f) refl
+  where
+    by : (b : Bool) → taken f ≡ b → Taking taken (Ok f) (unless b (Err NotTaken) (Ok f))
+    by true e = takes refl e
+    by false e = refuses NotTaken
+taking taken (Err reason) = refuses reason
 
-    pub frame-not-taken : taken f ≡ false → Err NotTaken ≡ read_in taken r
-    frame-not-taken t = rw (e, t)
+-- the frame that it takes is the one that was read
+pub taken-read : (taken : Frame → Bool) (r : Result Frame FormError) {f : Frame} → read_in taken r ≡ Ok f → r ≡ Ok f
+taken-read taken r {f} = by (taking taken r)
+  where
+    by : {q : Result Frame FormError} → Taking taken r q → q ≡ Ok f → r ≡ Ok f
+    by (takes e t) p = e ∙ p
+    by (refuses reason) p = absurd (false≢true (ap is_ok p))
+
+-- what passes such a call and has no number is a frame that is taken and not refused
+pub refusal-passed : (taken : Frame → Bool) (refusal : Frame → ℕ) (r : Result Frame FormError) → refusal_in refusal (read_in taken r) ≡ 0
+    → (r ≡ Ok (frame_in r)) × (taken (frame_in r) ≡ true) × (refusal (frame_in r) ≡ 0)
+refusal-passed taken refusal r = by (taking taken r)
+  where
+    by : {q : Result Frame FormError} → Taking taken r q → refusal_in refusal q ≡ 0 → (r ≡ Ok (frame_in r)) × (taken (frame_in r) ≡ true) × (refusal (frame_in r) ≡ 0)
+    by (takes e t) h = (e, t, h)
+    by (refuses reason) h = absurd (number-some reason h)

@@ -104,6 +104,11 @@ abbrev pub read_number : Result Frame FormError → ℕ
 read_number (Ok f) = 0
 read_number (Err reason) = form_number reason
 
+-- what was read is refused with where frames are refused with these numbers, 0 for none: a reason comes first
+abbrev pub refusal_in : (Frame → ℕ) → Result Frame FormError → ℕ
+refusal_in refusal (Ok f) = refusal f
+refusal_in refusal (Err reason) = form_number reason
+
 -- what a byte string is refused with for its form, in whatever call, or 0
 abbrev pub form_refusal : List ℕ → ℕ
 form_refusal s = read_number (reading s)

@@ -21,7 +21,7 @@ use Rattle.model.specs.declared.Message.{Message}
 use Rattle.model.specs.declared.Kind.{Kind}
 use Rattle.model.specs.declared.Kind.TheVariants.{Failure, Request, Delivery, Restock, Start, Lvt, Update}
 use Rattle.frame.proofs.Laws.{one-to-one}
-use Rattle.frame.specs.Reasons.{reading, form_in, form_number}
+use Rattle.frame.specs.Reasons.{reading, frame_read, read_in, read_number}
 use Rattle.frame.specs.Limits.{refusal}
 use Rattle.frame.specs.declared.Frame.{Frame}
 use Rattle.frame.specs.declared.Sense.{Sense}
@@ -193,10 +193,10 @@ module _ {g : Gateway} (p : Proper g) where
   take-bytes-small bytes h room = by (eqb form 0) refl
     where
       f : Frame
-      f = (reading bytes).frame
+      f = (frame_read bytes)
 
       form : ℕ
-      form = form_number (form_in by_carrier (reading bytes))
+      form = read_number (read_in by_carrier (reading bytes))
 
       number : ℕ
       number = refusal f s.n s.own s.last

@@ -14,7 +14,7 @@ use Rattle.buffer.specs.Slice.{Bytes, part, write}
 use Rattle.buffer.proofs.Writes.{length-write, write-nil}
 use Rattle.model.specs.declared.Message.{Message}
 use Rattle.frame.specs.Reasons.{reading}
-use Rattle.frame.specs.declared.Reading.{Reading}
+use Rattle.frame.specs.declared.forms.FormError.{FormError}
 use Rattle.memory.specs.Layout.{header_size, queue_at, queue_size}
 use Rattle.memory.specs.Codec.{entry_bytes, entry_of}
 use Rattle.memory.specs.Inside.Fits.{MessageFits, EntryFits}
@@ -145,7 +145,7 @@ module _ (before list memory : List ℕ) (count at : ℕ) (p : Entering before l
     pub enter-room : queue_at count + queue_size ≤ length before
     enter-room = omega (arith, here-length, p.counted)
 
-    pub enter-turn : Bytes list → {r : Reading} → r ≡ reading (take (end - at) (drop at list)) → {after : List ℕ} → after ≡ memory_entered
+    pub enter-turn : Bytes list → {r : Result Frame FormError} → r ≡ reading (take (end - at) (drop at list)) → {after : List ℕ} → after ≡ memory_entered
         count r.frame.message memory
         → Entering before list after (count + 1) end
     unfolding queued part

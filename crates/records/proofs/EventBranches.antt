@@ -16,9 +16,9 @@ use Rattle.model.specs.Messages.{kind_number}
 use Rattle.frame.specs.Layout.{whole_length}
 use Rattle.frame.specs.Kinds.{sense_number}
 use Rattle.frame.specs.Limits.{refusal_where}
-use Rattle.frame.specs.Reasons.{reading, form_in, form_number}
+use Rattle.frame.specs.Reasons.{reading, frame_in, frame_read, read_in, read_number}
 use Rattle.frame.specs.declared.Frame.{Frame}
-use Rattle.frame.specs.declared.Reading.{Reading}
+use Rattle.frame.specs.declared.forms.FormError.{FormError}
 use Rattle.frame.proofs.Sizes.{whole-some}
 use Rattle.memory.specs.Layout.{state_size}
 use Rattle.records.specs.Events.{most_gateways, latest_hour, state_size_of, event_length, frame_in, state_in, is_event, frame_refusal, event_refusal, event_of}
@@ -38,7 +38,7 @@ module _ (f : Frame) {sense : ℕ} (e : sense ≡ sense_number f.sense) where
   pub is_plain : {kind : ℕ} → sense ≡ 0 → kind ≡ kind_number f.message.kind → leb kind 3 ≡ is_event f
   is_plain d k = rw (eq-eqb (sense_number f.sense) 0 (sym e ∙ d), k)
 
-module _ (r : Reading) {form : ℕ} (f : form ≡ form_number (form_in is_event r)) where
+module _ (r : Result Frame FormError) {form : ℕ} (f : form ≡ read_number (read_in is_event r)) where
   pub form-refused : (form ≡ 0 → ⊥) → form ≡ frame_refusal r
   unfolding frame_refusal
   form-refused h = rw (← f, ne_eqb form 0 h)
@@ -75,7 +75,7 @@ module _ (field : StockField) (bytes : List ℕ) (at : ℕ) (inside : at < lengt
     unfolding part
     state-size = rw (first_byte, cut) (simp (length-take, length-drop))
 
-    module _ {r : Reading} (q : r ≡ reading (take (end - at) (drop at bytes))) {number : ℕ} (n : number ≡ frame_refusal r) where
+    module _ {r : Result Frame FormError} (q : r ≡ reading (take (end - at) (drop at bytes))) {number : ℕ} (n : number ≡ frame_refusal r) where
       read-frame : r ≡ reading (frame_in s)
       read-frame = q ∙ rw frame-of
 
@@ -105,7 +105,7 @@ module _ (field : StockField) (bytes : List ℕ) (at : ℕ) (inside : at < lengt
         at-event {kind} h k =
             let whole : state_size_of field ≤ length (state_in field s) = omega (arith, state-size, e, w.0) in
             let is : event_refusal field s ≡ 0 = rw (← frame-number, eq-eqb number 0 z, le-leb (state_size_of field) (length (state_in field s)) whole) in
-            let same : kind ≡ kind_number (reading (frame_in s)).frame.message.kind =
-            k ∙ ap (λ (x : Reading). kind_number x.frame.message.kind) read-frame in
+            let same : kind ≡ kind_number (frame_read (frame_in s)).message.kind =
+            k ∙ ap (λ (x : Result Frame FormError). kind_number x.frame.message.kind) read-frame in
             let behind : end + size ≡ piece_end (event_length field) bytes at = omega (arith, e, w.0) in
             rw is (λ i. record { number = 0; kind = same i; end = behind i })

@@ -5,8 +5,8 @@ use Prim.Native.Nat.{ℕ, ◌<◌}
 use native.Mathlib.Omega.{arith}
 use lib.Dec.{leb, eqb}
 use lib.ListN.{length}
-use Rattle.frame.specs.Reasons.{reading, form_in, form_number}
-use Rattle.frame.specs.declared.Reading.{Reading}
+use Rattle.frame.specs.Reasons.{reading, frame_in, read_in, read_number}
+use Rattle.frame.specs.declared.forms.FormError.{FormError}
 use Rattle.frame.proofs.FormNumbers.{number_small}
 use Rattle.frame.proofs.Turning.{refusal-few}
 use Rattle.records.specs.declared.StockField.{StockField}
@@ -16,9 +16,9 @@ chosen : (b : Bool) {n m : ℕ} → n < 256 → m < 256 → cond b n m < 256
 chosen true h k = h
 chosen false h k = k
 
-frame-number : (r : Reading) → frame_refusal r < 256
+frame-number : (r : Result Frame FormError) → frame_refusal r < 256
 unfolding frame_refusal
-frame-number r = chosen (eqb (form_number (form_in is_event r)) 0) (omega (arith, refusal-few true r.frame most_gateways latest_hour)) (number_small (form_in is_event r))
+frame-number r = chosen (eqb (read_number (read_in is_event r)) 0) (omega (arith, refusal-few true r.frame most_gateways latest_hour)) (number_small (read_in is_event r))
 
 pub event-number : (field : StockField) (s : List ℕ) → event_refusal field s < 256
 unfolding event_refusal

@@ -22,9 +22,9 @@ use Rattle.frame.specs.Layout.{standing, whole_length}
 use Rattle.frame.specs.Kinds.{map_of_kind, map_of, sense_number}
 use Rattle.frame.specs.Writing.{contents, written}
 use Rattle.frame.specs.Limits.{refusal_where}
-use Rattle.frame.specs.Reasons.{reading, form_in, form_number}
+use Rattle.frame.specs.Reasons.{reading, frame_in, frame_read, read_in, read_number}
 use Rattle.frame.specs.declared.Frame.{Frame}
-use Rattle.frame.specs.declared.Form.TheVariants.{Good}
+use Rattle.frame.specs.declared.forms.FormError.TheVariants.{Good}
 use Rattle.frame.proofs.FormNumbers.{form-passed}
 use Rattle.frame.proofs.Laws.{one-to-one}
 use Rattle.frame.proofs.Presence.{lamp-fields, restock-fields}
@@ -37,9 +37,9 @@ use Rattle.records.specs.Events.{most_gateways, latest_hour, stock_width_of, sta
 -- what an event keeps to that is not refused
 pub record TakenEvent (field : StockField) (s : List ℕ) : Type 0 where
   pub form : (reading (frame_in s)).form ≡ Good
-  pub sense : sense_number (reading (frame_in s)).frame.sense ≡ 0
-  pub kind : kind_number (reading (frame_in s)).frame.message.kind ≤ 3
-  pub limits : refusal_where true (reading (frame_in s)).frame most_gateways latest_hour ≡ 0
+  pub sense : sense_number (frame_read (frame_in s)).sense ≡ 0
+  pub kind : kind_number (frame_read (frame_in s)).message.kind ≤ 3
+  pub limits : refusal_where true (frame_read (frame_in s)) most_gateways latest_hour ≡ 0
   pub state : state_size_of field ≤ length (state_in field s)
 
 pub event-taken : (field : StockField) (s : List ℕ) → event_refusal field s ≡ 0 → TakenEvent field s
@@ -47,8 +47,8 @@ unfolding event_refusal frame_refusal
 event-taken field s z =
     let r = reading (frame_in s) in
     let outer = both_zero (frame_refusal r) (cond (leb (state_size_of field) (length (state_in field s))) 0 11) z in
-    let inner = both_zero (form_number (form_in is_event r)) (refusal_where true r.frame most_gateways latest_hour) outer.0 in
-    let passed = form-passed is_event r (eq-eqb (form_number (form_in is_event r)) 0 inner.0) in
+    let inner = both_zero (read_number (read_in is_event r)) (refusal_where true r.frame most_gateways latest_hour) outer.0 in
+    let passed = form-passed is_event r (eq-eqb (read_number (read_in is_event r)) 0 inner.0) in
     let both = passed.1 in
     record {
       form = passed.0;
@@ -114,7 +114,7 @@ module _ (f : Frame) where
 
 module _ (field : StockField) (s : List ℕ) (bytes : Bytes s) (t : TakenEvent field s) where
   abbrev f : Frame
-  f = (reading (frame_in s)).frame
+  f = (frame_read (frame_in s))
 
   same : written f ≡ frame_in s
   same = one-to-one.read_written (frame_in s) (bytes_take (whole_length (get_or s 0 0)) s bytes) t.form
@@ -190,7 +190,7 @@ module _ (field : StockField) (s : List ℕ) (bytes : Bytes s) (t : TakenEvent f
   pub parts : Parts field s
   parts = go (dec_lt (kind_number f.message.kind) 3)
     where
-      go : Dec (kind_number (reading (frame_in s)).frame.message.kind < 3) → Parts field s
+      go : Dec (kind_number (frame_read (frame_in s)).message.kind < 3) → Parts field s
       go (yes h) = with_lamp (lamp-parts (omega arith))
       go (no h) = restock (restock-parts (let k = t.kind in omega arith))
 

@@ -18,12 +18,12 @@ use Rattle.model.specs.declared.Message.{Message}
 use Rattle.frame.specs.Layout.{whole_length}
 use Rattle.frame.specs.Kinds.{map_of}
 use Rattle.frame.specs.Writing.{well_formed, written}
-use Rattle.frame.specs.Reasons.{reading, read_as}
+use Rattle.frame.specs.Reasons.{reading, frame_in}
 use Rattle.frame.specs.Limits.{refusal_where}
 use Rattle.frame.specs.Claims.{RangedFrame}
 use Rattle.frame.specs.declared.Frame.{Frame}
-use Rattle.frame.specs.declared.Reading.{Reading}
-use Rattle.frame.specs.declared.Form.TheVariants.{Good}
+use Rattle.frame.specs.declared.forms.FormError.{FormError}
+use Rattle.frame.specs.declared.forms.FormError.TheVariants.{Good}
 use Rattle.frame.proofs.Laws.{one-to-one}
 use Rattle.frame.proofs.Output.{whole-size}
 use Rattle.memory.specs.Ranges.{RangedState}
@@ -91,7 +91,7 @@ module _ (field : StockField) (m : Message) (k : Recordable m) (state : List ℕ
 
   pub message-read : (event_of field s).message ≡ m
   unfolding event_of
-  message-read = ap (λ (r : Reading). r.frame.message) frame-read
+  message-read = ap (λ (r : Result Frame FormError). r.frame.message) frame-read
 
   state-read : (event_of field s).state ≡ state_with (stock_width_of field) state
   unfolding event_of

@@ -12,8 +12,8 @@ use Rattle.lists.specs.Lists.{Beginning}
 use Rattle.routing.specs.Arcs.{arc_count}
 use Rattle.model.specs.declared.Message.{Message}
 use Rattle.frame.specs.Limits.{nothing_due}
-use Rattle.frame.specs.Reasons.{reading}
-use Rattle.frame.specs.declared.Form.TheVariants.{Good}
+use Rattle.frame.specs.Reasons.{reading, frame_read}
+use Rattle.frame.specs.declared.forms.FormError.TheVariants.{Good}
 use Rattle.memory.specs.Codec.{decode}
 use Rattle.gateway.specs.Rounds.{is_idle}
 use Rattle.gateway.specs.Calls.{committed, agreed_time}
@@ -53,7 +53,7 @@ pub record Claim (n last : ℕ) (setups : ℕ → SetUpInput) (lent : ℕ → Li
   pub good_forms : (c : Carried) → Memᴰ c w.under_way → (reading c.frame).form ≡ Good
   -- and no agreed time is past any message, cancel or acknowledgment under way
   pub bound_under_way : (i : ℕ) → i < n → (c : Carried) → Memᴰ c w.under_way → kind_in c.frame < 4
-      → agreed w i ≤ (reading c.frame).frame.message.hour
+      → agreed w i ≤ (frame_read c.frame).message.hour
   -- gateway 0's phase says whether a round is open
   pub open_round : is_idle (decode (w.memories 0)).round.phase ≡ not w.rounds.open?
   -- each completed round took two messages an arc and N − 1 more, below 4N
