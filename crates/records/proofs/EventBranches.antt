@@ -16,9 +16,8 @@ use Rattle.model.specs.Messages.{kind_number}
 use Rattle.frame.specs.Layout.{whole_length}
 use Rattle.frame.specs.Kinds.{sense_number}
 use Rattle.frame.specs.Limits.{refusal_where}
-use Rattle.frame.specs.Reasons.{reading, frame_in, frame_read, read_in, read_number}
+use Rattle.frame.specs.Reasons.{reading, frame_read}
 use Rattle.frame.specs.declared.Frame.{Frame}
-use Rattle.frame.specs.declared.forms.FormError.{FormError}
 use Rattle.frame.proofs.Sizes.{whole-some}
 use Rattle.memory.specs.Layout.{state_size}
 use Rattle.records.specs.Events.{most_gateways, latest_hour, state_size_of, event_length, frame_in, state_in, is_event, frame_refusal, event_refusal, event_of}
@@ -29,23 +28,6 @@ use Rattle.records.specs.declared.StockField.{StockField}
 -- every event has a byte
 pub event-some : (field : StockField) (map : ℕ) → 1 ≤ event_length field map
 event-some field map = omega (arith, whole-some map)
-
--- whether a frame may stand in a record
-module _ (f : Frame) {sense : ℕ} (e : sense ≡ sense_number f.sense) where
-  pub has-sense : (sense ≡ 0 → ⊥) → false ≡ is_event f
-  has-sense d = rw (ne_eqb (sense_number f.sense) 0 (λ p. d (e ∙ p)))
-
-  pub is_plain : {kind : ℕ} → sense ≡ 0 → kind ≡ kind_number f.message.kind → leb kind 3 ≡ is_event f
-  is_plain d k = rw (eq-eqb (sense_number f.sense) 0 (sym e ∙ d), k)
-
-module _ (r : Result Frame FormError) {form : ℕ} (f : form ≡ read_number (read_in is_event r)) where
-  pub form-refused : (form ≡ 0 → ⊥) → form ≡ frame_refusal r
-  unfolding frame_refusal
-  form-refused h = rw (← f, ne_eqb form 0 h)
-
-  pub frame-checked : {number : ℕ} → form ≡ 0 → number ≡ refusal_where true r.frame most_gateways latest_hour → number ≡ frame_refusal r
-  unfolding frame_refusal
-  frame-checked h n = n ∙ rw (← f, eq-eqb form 0 h)
 
 -- the event at a position
 module _ (field : StockField) (bytes : List ℕ) (at : ℕ) (inside : at < length bytes) where
@@ -75,12 +57,9 @@ module _ (field : StockField) (bytes : List ℕ) (at : ℕ) (inside : at < lengt
     unfolding part
     state-size = rw (first_byte, cut) (simp (length-take, length-drop))
 
-    module _ {r : Result Frame FormError} (q : r ≡ reading (take (end - at) (drop at bytes))) {number : ℕ} (n : number ≡ frame_refusal r) where
-      read-frame : r ≡ reading (frame_in s)
-      read-frame = q ∙ rw frame-of
-
+    module _ {number : ℕ} (n : number ≡ frame_refusal (reading (take (end - at) (drop at bytes)))) where
       frame-number : number ≡ frame_refusal (reading (frame_in s))
-      frame-number = n ∙ ap frame_refusal read-frame
+      frame-number = n ∙ ap (λ (l : List ℕ). frame_refusal (reading l)) frame-of
 
       -- refused for its frame
       pub at-frame : {f : Found} → (number ≡ 0 → ⊥) → (f.number ≡ number) × (f.kind ≡ 0) × (f.end ≡ at) → f ≡ found_at field bytes at
@@ -99,13 +78,13 @@ module _ (field : StockField) (bytes : List ℕ) (at : ℕ) (inside : at < lengt
             rw is (λ i. record { number = a i; kind = b i; end = c i })
 
         -- not refused
-        pub at-event : {kind : ℕ} → size ≤ length bytes - end → kind ≡ kind_number r.frame.message.kind
+        pub at-event : {f : Frame} → f ≡ frame_read (take (end - at) (drop at bytes)) → {kind : ℕ} → size ≤ length bytes - end → kind ≡ kind_number f.message.kind
             → record { number = 0; kind = kind; end = end + size } ≡ found_at field bytes at
         unfolding found_at event_refusal event_of piece_end
-        at-event {kind} h k =
+        at-event q {kind} h k =
             let whole : state_size_of field ≤ length (state_in field s) = omega (arith, state-size, e, w.0) in
             let is : event_refusal field s ≡ 0 = rw (← frame-number, eq-eqb number 0 z, le-leb (state_size_of field) (length (state_in field s)) whole) in
             let same : kind ≡ kind_number (frame_read (frame_in s)).message.kind =
-            k ∙ ap (λ (x : Result Frame FormError). kind_number x.frame.message.kind) read-frame in
+            k ∙ ap (λ (x : Frame). kind_number x.message.kind) q ∙ ap (λ (l : List ℕ). kind_number (frame_read l).message.kind) frame-of in
             let behind : end + size ≡ piece_end (event_length field) bytes at = omega (arith, e, w.0) in
             rw is (λ i. record { number = 0; kind = same i; end = behind i })

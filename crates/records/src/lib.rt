@@ -3,22 +3,23 @@
 
 pub mod balance; // balance.rt: what the Restocks brought, the Requests that found stock, and the last stock
 
-ghost use Rattle.std.specs.Prelude.{◌≡◌, ◌+◌, ◌<◌, ◌≤◌, length};
-ghost use Rattle.frame.specs.Reasons.{form_in, form_number};
+ghost use Rattle.std.specs.Prelude.{◌≡◌, ◌+◌, ◌<◌, ◌≤◌, length, IfOk};
+ghost use Rattle.refusal.specs.Numbers.{number_in};
+ghost use Rattle.frame.specs.Reasons.{reading, frame_read};
 ghost use Rattle.memory.specs.Layout.{state_size};
 ghost use Rattle.records.specs.Events.{state_size_of, is_event, frame_refusal};
 ghost use Rattle.records.specs.Inside.Finding.{found_at, length_of_kind, weight_of, passed_as, good_with_lamp, good_restock, good_gateways};
 
 use buffer::read32;
-use frame::forms::number_where;
 use frame::lamps::{LAMP_END, LAMP_PLACE, read_lamp};
 use frame::pieces::frame_end;
-use frame::tables::{HOUR_PLACE, ORIGIN_PLACE, QUANTITY_END, sense_number};
-use frame::{Frame, Reading};
+use frame::tables::{HOUR_PLACE, ORIGIN_PLACE, QUANTITY_END};
+use frame::{Frame, Sense};
 use limits::check_where;
 use memory::STATE_SIZE;
 use model::{Kind, kind_number, kind_of, origin_of};
-use reader::read;
+use reader::read_where;
+use refusal::Refusal;
 use rules::{all_between, gateways_agree};
 
 // A record of so many bytes or more is refused.
@@ -144,22 +145,18 @@ fn event_read(bytes: &[u8], at: usize, stock: StockField) -> Found
     let end = frame_end(bytes, at);
     let left = bytes.len() - end;
     let state = state_size(stock);
-    let reading = read(&bytes[at..end]);
-    let refusal = frame_refusal(reading);
-    if refusal != 0 {
-        return refused(refusal, at);
-    }
-    if left < state {
-        return refused(11, at);
-    }
-    let frame = reading.frame;
-    let message = frame.message;
-    let kind = message.kind;
-    let behind = end + state;
-    Found {
-        number: 0,
-        kind: kind_number(kind),
-        end: behind,
+    match event_frame(&bytes[at..end]) {
+        Err(refusal) => refused(refusal.number(), at),
+        Ok(frame) => {
+            if left < state {
+                return refused(11, at);
+            }
+            Found {
+                number: 0,
+                kind: kind_number(frame.message.kind),
+                end: end + state,
+            }
+        }
     }
 }
 
@@ -173,38 +170,22 @@ fn refused(number: u8, at: usize) -> Found
     }
 }
 
-// What an event's frame is refused with, or 0.
-fn frame_refusal(reading: Reading) -> u8
-    ensures { result ≡ frame_refusal reading }
+// The frame of an event, or what it is refused with.
+fn event_frame(bytes: &[u8]) -> Result<Frame, Refusal>
+    ensures number { number_in result ≡ frame_refusal (reading bytes.now) }
+    ensures frame { IfOk result (λ frame. frame ≡ frame_read bytes.now) }
 {
-    let frame = reading.frame;
-    let number = form_refusal(reading);
-    if number != 0 {
-        return number;
-    }
-    check_where(true, frame, MOST_GATEWAYS, LATEST_HOUR)
-}
-
-// The number of the first reason why a record does not hold what was read, or 0.
-fn form_refusal(reading: Reading) -> u8
-    ensures { result ≡ form_number (form_in is_event reading) }
-{
-    let form = reading.form;
-    let frame = reading.frame;
-    number_where(is_event(frame), form)
+    let frame = read_where(bytes, is_event)?;
+    check_where(true, frame, MOST_GATEWAYS, LATEST_HOUR)?;
+    Ok(frame)
 }
 
 // Whether a frame is a plain message of kind 0 to 3.
 fn is_event(frame: Frame) -> bool
     ensures { result ≡ is_event frame }
 {
-    let sense = frame.sense;
-    let message = frame.message;
-    let kind = message.kind;
-    if sense_number(sense) != 0 {
-        return false;
-    }
-    kind_number(kind) <= 3
+    matches!(frame.sense, Sense::Plain)
+        && !matches!(frame.message.kind, Kind::Start | Kind::Lvt | Kind::Update)
 }
 
 // The whole length of an event of that kind, which is 0 to 3.
