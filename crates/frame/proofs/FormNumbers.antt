@@ -7,8 +7,9 @@ use mathlib.Core.List.{List}
 use lib.Dec.{eqb}
 use borrow.Author.Tests.{eq-eqb}
 use Rattle.std.specs.Prelude.{Result, Ok, Err, is_ok}
+use Rattle.std.specs.Result.{result_unwrap_or}
 use Rattle.frame.specs.Writing.{unless}
-use Rattle.frame.specs.Reasons.{reading, frame_in, frame_read, read_in, read_number, refusal_in, form_number, form_refusal}
+use Rattle.frame.specs.Reasons.{reading, blank_frame, frame_in, frame_read, read_in, read_number, refusal_in, form_number, form_refusal}
 use Rattle.frame.specs.declared.forms.FormError.{FormError}
 use Rattle.frame.specs.declared.forms.FormError.TheVariants.{TooShort, WrongMap, WrongLength, WrongSense, WrongLamp, WrongGateways, NotTaken}
 use Rattle.frame.specs.declared.Frame.{Frame}
@@ -31,6 +32,11 @@ ok-read (Err reason) e = absurd (false≢true e)
 -- a byte string that is not refused for its form is a frame
 pub read-frame : (s : List ℕ) → form_refusal s ≡ 0 → reading s ≡ Ok (frame_read s)
 read-frame s e = ok-read (reading s) (ok-number (reading s) ∙ eq-eqb (form_refusal s) 0 e)
+
+-- a blank frame stands for a reason
+pub unwrapped : (r : Result Frame FormError) → result_unwrap_or r blank_frame ≡ frame_in r
+unwrapped (Ok f) = refl
+unwrapped (Err reason) = refl
 
 -- each reason has a number
 pub number-some : (reason : FormError) → form_number reason ≡ 0 → ⊥

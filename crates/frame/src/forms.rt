@@ -3,6 +3,8 @@ ghost use Rattle.std.specs.Prelude.{◌≡◌};
 ghost use Rattle.refusal.specs.Numbers.{refusal_number};
 ghost use Rattle.frame.specs.Reasons.{form_number};
 
+use crate::{Frame, Sense};
+use model::{Kind, Message};
 use refusal::Refusal;
 
 // Why a byte string is no frame that a call takes. Reading knows of no call: the last reason is the call's.
@@ -37,3 +39,15 @@ impl From<FormError> for Refusal {
         }
     }
 }
+
+// What stands for the frame of a byte string that is refused.
+pub const BLANK_FRAME: Frame = Frame {
+    message: Message {
+        hour: 0,
+        from: 0,
+        to: 0,
+        kind: Kind::Start,
+        lamp: [0; 18],
+    },
+    sense: Sense::Plain,
+};
