@@ -65,12 +65,8 @@ fn bring(
 
 // The gateway that the frame is addressed to takes it.
 fn take_at(first: &mut [u8], second: &mut [u8], bytes: &[u8], output: &mut [u8]) -> Answer {
-    let reading = read(bytes);
-    let frame = reading.frame;
-    let sense = frame.sense;
-    let message = frame.message;
-    if addressed_to(sense, message) == 0 {
-        return take(first, bytes, output);
+    match read(bytes) {
+        Ok(frame) if addressed_to(frame.sense, frame.message) != 0 => take(second, bytes, output),
+        _ => take(first, bytes, output),
     }
-    take(second, bytes, output)
 }

@@ -11,10 +11,11 @@ use Rattle.buffer.specs.Slice.{write}
 use Rattle.model.specs.declared.Message.{Message}
 use Rattle.model.specs.declared.event.Reply.{Reply}
 use Rattle.frame.specs.Layout.{whole_length}
-use Rattle.frame.specs.Writing.{WriteOutcome, answer_count, outcome_of, writing}
+use Rattle.frame.specs.Writing.{WriteOutcome, count_in, outcome_of, writing}
 use Rattle.frame.specs.declared.Frame.{Frame}
-use Rattle.frame.specs.declared.WriteAnswer.{WriteAnswer}
-use Rattle.frame.specs.declared.WriteAnswer.TheVariants.{Written, NoFrame, WrongLamp, NoRoom}
+use Rattle.std.specs.Prelude.{Result, Ok, Err}
+use Rattle.std.specs.Result.{result_unwrap_or}
+use Rattle.refusal.specs.declared.Refusal.{Refusal}
 use Rattle.frame.proofs.Sizes.{whole-some}
 use Rattle.memory.specs.Layout.{header_size, queue_size, queue_at}
 use Rattle.memory.specs.Validity.{frame_if}
@@ -48,22 +49,15 @@ module _ (output : List ℕ) (count : ℕ) (line : List ℕ) (end : ℕ) where
       → record { bytes = now; used = end + count } ≡ copied output count line end
   all-copied h k e = rw (le-leb count (length output) h) (all-put count (take count output) line end k e)
 
+-- how many bytes an answer says that it wrote
+counted : (a : Result ℕ Refusal) → result_unwrap_or a 0 ≡ count_in a
+counted (Ok count) = refl
+counted (Err why) = refl
+
 -- a plain message's frame written, by the writer's answer
-module _ (m : Message) (output : List ℕ) {f : Frame} (a : WriteAnswer) {out : List ℕ} (e : f ≡ frame_if false m) (w : outcome_of a out ≡ writing f output) where
-  put_as : (b : WriteAnswer) → a ≡ b → record { bytes = out; used = answer_count b } ≡ plain_put m output
-  put_as b n = rw (← n, ← e) (ap (λ (o : WriteOutcome). record { bytes = o.output; used = o.count }) w)
-
-  pub plain-written : (count : ℕ) → a ≡ Written count → record { bytes = out; used = count } ≡ plain_put m output
-  plain-written count n = put_as (Written count) n
-
-  pub plain-no-frame : a ≡ NoFrame → record { bytes = out; used = 0 } ≡ plain_put m output
-  plain-no-frame n = put_as NoFrame n
-
-  pub plain-wrong-lamp : a ≡ WrongLamp → record { bytes = out; used = 0 } ≡ plain_put m output
-  plain-wrong-lamp n = put_as WrongLamp n
-
-  pub plain-no-room : a ≡ NoRoom → record { bytes = out; used = 0 } ≡ plain_put m output
-  plain-no-room n = put_as NoRoom n
+module _ (m : Message) (output : List ℕ) {f : Frame} (a : Result ℕ Refusal) {out : List ℕ} (e : f ≡ frame_if false m) (w : outcome_of a out ≡ writing f output) where
+  pub plain-written : {count : ℕ} → count ≡ result_unwrap_or a 0 → record { bytes = out; used = count } ≡ plain_put m output
+  plain-written n = rw (n, counted a, ← e) (ap (λ (o : WriteOutcome). record { bytes = o.output; used = o.count }) w)
 
 -- a message entered
 module _ (queue : List ℕ) (count : ℕ) (m : Message) where

@@ -11,7 +11,6 @@ ghost use Rattle.lines.specs.Inside.Putting.{size_at, appended, copied, plain_pu
 use buffer::{copy, move_up};
 use effects::insert::{insert_place, pending};
 use entries::frame_if;
-use frame::WriteAnswer;
 use frame::tables::whole_length;
 use memory::{HEADER_SIZE, QUEUE_SIZE};
 use model::event::Reply;
@@ -85,12 +84,7 @@ pub fn put_again(line: &mut [u8], at: usize, size: usize, end: usize) -> usize
 pub fn put_plain(output: &mut [u8], message: Message) -> usize
     ensures { record { bytes = output.new; used = result } ≡ plain_put message output.old }
 {
-    match write(output, frame_if(false, message)) {
-        WriteAnswer::Written(count) => count,
-        WriteAnswer::NoFrame => 0,
-        WriteAnswer::WrongLamp => 0,
-        WriteAnswer::NoRoom => 0,
-    }
+    write(output, frame_if(false, message)).unwrap_or(0)
 }
 
 // Enters each message of the list, and answers how many the queue then has.
@@ -102,10 +96,9 @@ pub fn enter_list(list: &[u8], queue: &mut [u8]) -> usize
     let mut at = 0;
     while at < list.len() {
         let end = at + size_at(list, at);
-        let reading = read(&list[at..end]);
-        let frame = reading.frame;
-        let message = frame.message;
-        count = enter(queue, count, message);
+        if let Ok(frame) = read(&list[at..end]) {
+            count = enter(queue, count, frame.message);
+        }
         at = end;
     }
     count

@@ -10,7 +10,7 @@ use Rattle.lists.specs.Lists.{any, without_first, All}
 use Rattle.lists.specs.Families.{change}
 use Rattle.buffer.specs.Slice.{Bytes, write}
 use Rattle.model.specs.Messages.{kind_number}
-use Rattle.frame.specs.Reasons.{reading, form_number, frame_read}
+use Rattle.frame.specs.Reasons.{frame_read}
 use Rattle.frame.specs.Writing.{well_formed}
 use Rattle.frame.specs.declared.Frame.{Frame}
 use Rattle.frame.specs.declared.Sense.{Sense}
@@ -23,7 +23,7 @@ use Rattle.gateway.specs.Calls.{CallResult, take_bytes, taken}
 use Rattle.gateway.specs.declared.Answer.{Answer}
 use Rattle.gateway.proofs.Maintaining.{Kept}
 use Rattle.gateway.proofs.Keeps.{bytes-keep}
-use Rattle.gateway.proofs.Accepting.{form-good, not-refused}
+use Rattle.gateway.proofs.Accepting.{not-refused}
 use Rattle.timewarp.specs.Worlds as Worlds
 use Rattle.run.specs.Forecast.{SetUpInput}
 use Rattle.run.specs.World.{World, Carried, frames_in, carry, is_frame, kind_in, taken_by_sense, took_more, round_frames, after_taking}
@@ -87,7 +87,7 @@ module _ (n : ℕ) (some : 1 ≤ n) (last : ℕ) (setups : ℕ → SetUpInput) {
   module _ (a : BytesAccepted frame (length output) g) (found : any (is_frame frame) w.under_way ≡ true) (plain : (frame_read
       frame).sense ≡ Plain → kind_in frame < 4) where
     formed : well_formed (frame_read frame) ≡ true
-    formed = one-to-one.read_well_formed frame bytes (form-good (reading frame).form (eq-eqb (form_number (reading frame).form) 0 a.good))
+    formed = one-to-one.read_well_formed frame bytes (frame_read frame) a.good
 
     few : kind_in frame < 4
     few = kind-few (frame_read frame) formed plain
@@ -98,7 +98,7 @@ module _ (n : ℕ) (some : 1 ≤ n) (last : ℕ) (setups : ℕ → SetUpInput) {
         taken-goes n last setups (figure_graph n some) refl i (omega arith) (b.beside.done i) t g w.under_way (w.ledgers i)
         (proper n some last setups b i h) (b.stands i h) (sees n some last setups b i h) (b.beside.ledgers i h) frame found tag
         formed
-        (one-to-one.read_ranged frame bytes (form-good (reading frame).form (eq-eqb (form_number (reading frame).form) 0 a.good)))
+        (one-to-one.read_ranged frame bytes (frame_read frame) a.good)
         (not-refused g.settings (frame_read frame) a.passes)
         few
         (length output)
