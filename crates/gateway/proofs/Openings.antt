@@ -69,12 +69,12 @@ module _ (s : Settings) where
       let f = frame_read bytes in
       let (good, may, passed) = refusal-passed may_open (λ (x : Frame). refusal x s.n s.own s.last) (reading bytes) z in
       let plain = plain-sense f.sense (and_left (eqb (sense_number f.sense) 0) (eqb (kind_number f.message.kind) 0 || eqb
-          (kind_number f.message.kind) 3) may) in
+      (kind_number f.message.kind) 3) may) in
       accepted-good s false f.message
-          (few-kinds (kind_number f.message.kind) (and_right (eqb (sense_number f.sense) 0) (eqb (kind_number f.message.kind) 0 ||
-          eqb (kind_number f.message.kind) 3) may))
-          (subst (λ (t : Sense). Accepted s (record { message = f.message; sense = t })) plain
-          (record { form = one-to-one.read_well_formed bytes h f good; ranged = one-to-one.read_ranged bytes h f good; passes = not-refused s f passed }))
+      (few-kinds (kind_number f.message.kind) (and_right (eqb (sense_number f.sense) 0) (eqb (kind_number f.message.kind) 0 ||
+      eqb (kind_number f.message.kind) 3) may))
+      (subst (λ (t : Sense). Accepted s (record { message = f.message; sense = t })) plain
+      (record { form = one-to-one.read_well_formed bytes h f good; ranged = one-to-one.read_ranged bytes h f good; passes = not-refused s f passed }))
 
 -- the queue that the opening messages make
 pub length-entered : (m : Message) (e : Entry) (es : List Entry) → length (before_first (is_later m) es ++ (e ∷ from_first (is_later m) es)) ≡ suc (length es)

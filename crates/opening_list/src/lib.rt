@@ -33,7 +33,10 @@ fn may_open(frame: Frame) -> bool
     ensures { result ≡ may_open frame }
 {
     matches!(frame.sense, Sense::Plain)
-        && matches!(frame.message.kind, Kind::Failure { .. } | Kind::Restock { .. })
+        && matches!(
+            frame.message.kind,
+            Kind::Failure { .. } | Kind::Restock { .. }
+        )
 }
 
 // What a frame of the list is refused with.

@@ -11,4 +11,4 @@ returns-in-Ok c = lamp-answered c.args.frame (sym c.in-Ok.ensures.1) refl c.pack
 pub returns-in-Err : goal.returns-in-Err
 returns-in-Err c =
     let number = c.number.ensures ∙ sym (ap read_number c.in-Err.ensures) in
-    lamp-refused c.args.frame number (λ z. number-some c.in-Err.reason (sym c.number.ensures ∙ z)) c.packed.ensures
+    lamp-refused c.args.frame number (λ z. number-some c.in-Err.reason (sym c.number.ensures ∙ z)) c.packed-in-Err.ensures
