@@ -2,46 +2,21 @@
 ghost use Rattle.std.specs.Prelude.{◌≡◌, ◌+◌, ◌≤◌, length};
 ghost use Rattle.memory.specs.Layout.{queue_size, queue_at};
 ghost use Rattle.memory.specs.Validity.{no_state};
-ghost use Rattle.gateway.specs.Undoing.{pending_entry};
-ghost use Rattle.gateway.specs.Taking.{waiting_entry};
 ghost use Rattle.effects.specs.Inside.Placed.{entry_inserted};
 
-use buffer::move_up;
+use buffer::move_within;
 use encoding::write_entry;
 use memory::{Entry, HEADER_SIZE, Mark, QUEUE_SIZE};
 use model::{Message, State};
 
-// A plain message that is not processed.
-pub fn pending(message: Message) -> Entry
-    ensures { result ≡ pending_entry message }
+// An entry that is not processed: a plain message, or a cancel that waits.
+pub fn unprocessed(message: Message, mark: Mark) -> Entry
+    ensures { result ≡ record { message = message; mark = mark; before = no_state } }
 {
     Entry {
         message,
-        mark: Mark::Pending,
-        before: no_state(),
-    }
-}
-
-// A cancel that waits.
-pub fn waiting(message: Message) -> Entry
-    ensures { result ≡ waiting_entry message }
-{
-    Entry {
-        message,
-        mark: Mark::Waiting,
-        before: no_state(),
-    }
-}
-
-// What stands for the state before an entry that is not processed.
-fn no_state() -> State
-    ensures { result ≡ no_state }
-{
-    State {
-        stock: 0,
-        failed: 0,
-        fitted: 0,
-        short: 0,
+        mark,
+        before: State::default(),
     }
 }
 
@@ -51,6 +26,6 @@ pub fn insert_place(memory: &mut [u8], queued: usize, k: usize, entry: Entry)
     ensures { memory.new ≡ entry_inserted queued k entry memory.old }
 {
     let at = HEADER_SIZE + QUEUE_SIZE * k;
-    move_up(memory, at, at + QUEUE_SIZE, QUEUE_SIZE * (queued - k));
+    move_within(memory, at, at + QUEUE_SIZE, QUEUE_SIZE * (queued - k));
     write_entry(memory, at, entry);
 }

@@ -10,14 +10,14 @@ ghost use Rattle.refusal.specs.Numbers.{number_in};
 ghost use Rattle.gateway.specs.SettingUp.{may_open, opening_refusal, queued};
 ghost use Rattle.opening_list.specs.Inside.Frames.{frames_from, checked_as, memory_entered};
 
-use effects::insert::{insert_place, pending};
+use effects::insert::{insert_place, unprocessed};
 use frame::forms::BLANK_FRAME;
 use frame::pieces::frame_end;
 use frame::{Frame, Sense};
 use limits::check;
-use memory::Settings;
+use memory::{Mark, Settings};
 use model::{Kind, Message};
-use places::search::{Search, find};
+use places::search::place_for;
 use reader::{read, read_where};
 use refusal::Refusal;
 
@@ -92,6 +92,6 @@ fn enter(memory: &mut [u8], count: usize, message: Message)
     requires { queue_at count + queue_size ≤ length memory.old }
     ensures { memory.new ≡ memory_entered count message memory.old }
 {
-    let k = find(memory, count, Search::Later, message);
-    insert_place(memory, count, k, pending(message));
+    let k = place_for(memory, count, message);
+    insert_place(memory, count, k, unprocessed(message, Mark::Pending));
 }

@@ -1,10 +1,10 @@
 -- Reading one event of a record: a law for each branch of the code.
-use mathlib.Core.Path.{◌≡◌, sym, ◌∙◌, ap}
-use mathlib.Core.Bool.{true, false}
+use mathlib.Core.Path.{◌≡◌, refl, sym, ◌∙◌, ap}
+use mathlib.Core.Bool.{Bool, true, false, cond, ◌&&◌}
 use mathlib.Core.List.{List}
 use Prim.Native.Nat.{ℕ, ◌+◌, ◌-◌, ◌≤◌, ◌<◌, min}
 use native.Mathlib.Omega.{arith}
-use lib.Dec.{leb}
+use lib.Dec.{eqb}
 use lib.ListN.{length, take, drop, get_or, length-take, length-drop}
 use lib.Seq.{take-take}
 use borrow.Author.Tests.{eq-eqb, ne_eqb, le-leb, lt-leb}
@@ -14,15 +14,13 @@ use Rattle.buffer.specs.Slice.{part}
 use Rattle.buffer.proofs.Readings.{get_d_part}
 use Rattle.model.specs.Messages.{kind_number}
 use Rattle.frame.specs.Layout.{whole_length}
-use Rattle.frame.specs.Kinds.{sense_number}
 use Rattle.frame.specs.Limits.{refusal_where}
 use Rattle.frame.specs.Reasons.{reading, frame_read}
 use Rattle.frame.specs.declared.Frame.{Frame}
 use Rattle.frame.proofs.Sizes.{whole-some}
 use Rattle.memory.specs.Layout.{state_size}
 use Rattle.records.specs.Events.{most_gateways, latest_hour, state_size_of, event_length, frame_in, state_in, is_event, frame_refusal, event_refusal, event_of}
-use Rattle.records.specs.Inside.Finding.{event_at, found_at}
-use Rattle.records.specs.declared.Found.{Found}
+use Rattle.records.specs.Inside.Finding.{event_at, Finds}
 use Rattle.records.specs.declared.StockField.{StockField}
 
 -- every event has a byte
@@ -62,29 +60,31 @@ module _ (field : StockField) (bytes : List ℕ) (at : ℕ) (inside : at < lengt
       frame-number = n ∙ ap (λ (l : List ℕ). frame_refusal (reading l)) frame-of
 
       -- refused for its frame
-      pub at-frame : {f : Found} → (number ≡ 0 → ⊥) → (f.number ≡ number) × (f.kind ≡ 0) × (f.end ≡ at) → f ≡ found_at field bytes at
-      unfolding found_at event_refusal
-      at-frame {f} d (a, b, c) =
-          let is : event_refusal field s ≡ number = rw (← frame-number, ne_eqb number 0 d) in
-          rw (is, ne_eqb number 0 d) (λ i. record { number = a i; kind = b i; end = c i })
+      pub at-frame : (number ≡ 0 → ⊥) → number ≡ event_refusal field s
+      unfolding event_refusal
+      at-frame d = rw (← frame-number, ne_eqb number 0 d)
 
       module _ (z : number ≡ 0) {size : ℕ} (w : (size ≡ state_size_of field) × (size ≤ state_size)) where
         -- refused for its state
-        pub at-state : {f : Found} → length bytes - end < size → (f.number ≡ 11) × (f.kind ≡ 0) × (f.end ≡ at) → f ≡ found_at field bytes at
-        unfolding found_at event_refusal piece_end
-        at-state {f} h (a, b, c) =
+        pub at-state : length bytes - end < size → 11 ≡ event_refusal field s
+        unfolding event_refusal piece_end
+        at-state h =
             let short : length (state_in field s) < state_size_of field = omega (arith, state-size, e, w.0) in
-            let is : event_refusal field s ≡ 11 = rw (← frame-number, eq-eqb number 0 z, lt-leb (state_size_of field) (length (state_in field s)) short) in
-            rw is (λ i. record { number = a i; kind = b i; end = c i })
+            rw (← frame-number, eq-eqb number 0 z, lt-leb (state_size_of field) (length (state_in field s)) short)
 
-        -- not refused
-        pub at-event : {f : Frame} → f ≡ frame_read (take (end - at) (drop at bytes)) → {kind : ℕ} → size ≤ length bytes - end → kind ≡ kind_number f.message.kind
-            → record { number = 0; kind = kind; end = end + size } ≡ found_at field bytes at
-        unfolding found_at event_refusal event_of piece_end
-        at-event q {kind} h k =
-            let whole : state_size_of field ≤ length (state_in field s) = omega (arith, state-size, e, w.0) in
-            let is : event_refusal field s ≡ 0 = rw (← frame-number, eq-eqb number 0 z, le-leb (state_size_of field) (length (state_in field s)) whole) in
-            let same : kind ≡ kind_number (frame_read (frame_in s)).message.kind =
-            k ∙ ap (λ (x : Frame). kind_number x.message.kind) q ∙ ap (λ (l : List ℕ). kind_number (frame_read l).message.kind) frame-of in
-            let behind : end + size ≡ piece_end (event_length field) bytes at = omega (arith, e, w.0) in
-            rw is (λ i. record { number = 0; kind = same i; end = behind i })
+        module _ (h : size ≤ length bytes - end) where
+          -- not refused
+          pub at-event : 0 ≡ event_refusal field s
+          unfolding event_refusal piece_end
+          at-event =
+              let whole : state_size_of field ≤ length (state_in field s) = omega (arith, state-size, e, w.0) in
+              rw (← frame-number, eq-eqb number 0 z, le-leb (state_size_of field) (length (state_in field s)) whole)
+
+          -- and so found
+          pub at-found : {frame : Frame} {kind : ℕ} → frame ≡ frame_read (take (end - at) (drop at bytes)) → kind ≡ kind_number frame.message.kind
+              → Finds field bytes at (record { kind = kind; end = end + size })
+          unfolding event_of piece_end
+          at-found q k = record {
+            kind = k ∙ ap (λ (f : Frame). kind_number f.message.kind) (q ∙ ap frame_read frame-of);
+            end = omega (arith, e, w.0);
+          }
