@@ -14,7 +14,7 @@ use lamp::lamp;
 use model::LeadTimes;
 use neighbours::neighbours_of;
 use opening::set_up::set_up;
-use packing::{number_at, packed, packed_two, put_four, put_three};
+use packing::{number_at, packed, packed_two, put_front};
 use records::balance::balance;
 use refusal::Refusal;
 use round::agreed::agreed_time;
@@ -37,13 +37,13 @@ pub extern "C" fn hurfaith_route(gateways: u32, own: u32, neighbours: &mut [u16]
     }
     let from = around.from;
     let to = around.to;
-    put_four(
-        neighbours,
+    let numbers = [
         number_at(from, 0),
         number_at(from, 1),
         number_at(to, 0),
         number_at(to, 1),
-    );
+    ];
+    put_front(neighbours, numbers);
     0
 }
 
@@ -172,6 +172,6 @@ pub extern "C" fn hurfaith_balance(bytes: &[u8], opening_stock: u32, figures: &m
     if figures.len() < 3 {
         return u32::from(Refusal::NoRoom.number());
     }
-    put_three(figures, found.received, found.served, found.stock);
+    put_front(figures, [found.received, found.served, found.stock]);
     0
 }

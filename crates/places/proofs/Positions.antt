@@ -3,7 +3,7 @@ use mathlib.Core.Path.{◌≡◌, sym, ◌∙◌, ap}
 use mathlib.Core.Bool.{Bool, true, false, cond}
 use mathlib.Core.List.{List, [], ◌∷◌, ◌++◌}
 use Prim.Native.Nat.{ℕ, zero, suc, ◌+◌, ◌-◌, ◌*◌, ◌≤◌, ◌<◌}
-use native.Mathlib.Nat.{add-zero, zero-add, sub-zero, mul-zero}
+use native.Mathlib.Nat.{add-zero, mul-zero}
 use native.Mathlib.Omega.{arith}
 use Rattle.lists.proofs.PositionLaws.{past-snoc, first-bound}
 use Rattle.lists.specs.Inside.Positions.{first_where, past_last}
@@ -42,14 +42,6 @@ module _ {A : Type 0} (decode : List ℕ → A) (f : A → Bool) (size base : �
     search-found e =
         let passes : f (decode (part m (base + size * i) size)) ≡ true = cc in
         sym (l ∙ rw (more decode size base m count i h, passes) (omega arith))
-
-  pub search-none : (i : ℕ) → i ≤ count → count ≤ i → Left i → count ≡ whole
-  unfolding first_where places_at
-  search-none i h k l = let e : count - i ≡ 0 = omega arith in sym (l ∙ rw e (omega arith))
-
-pub search-start : {A : Type 0} (decode : List ℕ → A) (f : A → Bool) (size base : ℕ) (m : List ℕ) (count : ℕ)
-    → Left decode f size base m count (first_where f (places_at decode size m base count)) 0
-search-start decode f size base m count = rw (mul-zero, add-zero, sub-zero, zero-add)
 
 -- a backward search, by the places that are left
 module _ {A : Type 0} (decode : List ℕ → A) (f : A → Bool) (size base : ℕ) (m : List ℕ) where

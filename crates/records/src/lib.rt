@@ -12,7 +12,7 @@ ghost use Rattle.records.specs.Events.{state_size_of, is_event, frame_refusal, e
 ghost use Rattle.records.specs.declared.StockField.TheVariants.{Present, Old};
 ghost use Rattle.records.specs.Inside.Finding.{event_at, Finds, length_of_kind, weight_of, numbered, passed_in, passed_as, good_with_lamp, good_restock, good_gateways};
 
-use buffer::read32;
+use buffer::Number;
 use frame::lamps::{LAMP_END, LAMP_PLACE, read_lamp};
 use frame::pieces::frame_end;
 use frame::tables::{HOUR_PLACE, ORIGIN_PLACE, QUANTITY_END};
@@ -112,7 +112,7 @@ impl From<RefusedEvent> for Refusal {
     }
 }
 
-// One pass over a record, up to its first refusal: what its events weigh.
+// One pass over a record, up to its first refusal: what its events weigh. It checks what `Events` takes as checked.
 pub fn pass_over(bytes: &[u8], stock: StockField, weights: Weights) -> Result<usize, RefusedEvent>
     requires { (weights.lamp ≤ 27 + state_size_of stock) × (weights.restock ≤ 10 + state_size_of stock) }
     ensures { passed_in result ≡ passed_as stock weights bytes.now }
@@ -226,7 +226,7 @@ fn good_with_lamp(frame: &[u8]) -> bool
             frame[3],
             kind_of(frame[1], frame[ORIGIN_PLACE], 0),
         )
-        && read32(frame, HOUR_PLACE) <= LATEST_HOUR
+        && u32::read(frame, HOUR_PLACE) <= LATEST_HOUR
         && all_between(read_lamp(frame, LAMP_PLACE), 33, 126)
 }
 
@@ -239,7 +239,7 @@ fn good_restock(frame: &[u8]) -> bool
     frame[0] == RESTOCK_MAP
         && frame[1] == RESTOCK
         && good_gateways(frame[2], frame[3], Kind::Restock { quantity: 0 })
-        && read32(frame, HOUR_PLACE) <= LATEST_HOUR
+        && u32::read(frame, HOUR_PLACE) <= LATEST_HOUR
 }
 
 #[tactic(auto, unfolding(crate::specs::Inside::Finding::good_gateways))]
