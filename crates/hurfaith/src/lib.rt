@@ -10,11 +10,11 @@ ghost use Rattle.hurfaith.specs.Exported.{packed_answer, packed_work, packed_tim
 use commit::commit;
 use frame::lamps::LAMP_PLACE;
 use gateway::Opening;
-use lamp::lamp_number;
+use lamp::lamp;
 use model::LeadTimes;
 use neighbours::neighbours_of;
 use opening::set_up::set_up;
-use packing::{number_at, packed, packed_two, put_four, put_three};
+use packing::{number_at, packed, packed_two, put_front};
 use records::balance::balance;
 use refusal::Refusal;
 use round::agreed::agreed_time;
@@ -37,13 +37,13 @@ pub extern "C" fn hurfaith_route(gateways: u32, own: u32, neighbours: &mut [u16]
     }
     let from = around.from;
     let to = around.to;
-    put_four(
-        neighbours,
+    let numbers = [
         number_at(from, 0),
         number_at(from, 1),
         number_at(to, 0),
         number_at(to, 1),
-    );
+    ];
+    put_front(neighbours, numbers);
     0
 }
 
@@ -139,11 +139,10 @@ pub extern "C" fn hurfaith_agreed_time(memory: &[u8]) -> u64
 pub extern "C" fn hurfaith_lamp(frame: &[u8]) -> u64
     ensures { LampAnswer frame.entry result }
 {
-    let number = lamp_number(frame);
-    if number != 0 {
-        return packed(number, 0, 0);
+    match lamp(frame) {
+        Ok(_) => packed(0, LAMP_PLACE, 0),
+        Err(reason) => packed(reason.number(), 0, 0),
     }
-    packed(number, LAMP_PLACE, 0)
 }
 
 // A reader's view of a record: the number, and the bytes written. Reader 0 is purchasing, 1 maintenance; old_stock is 1 for a record with
@@ -173,6 +172,6 @@ pub extern "C" fn hurfaith_balance(bytes: &[u8], opening_stock: u32, figures: &m
     if figures.len() < 3 {
         return u32::from(Refusal::NoRoom.number());
     }
-    put_three(figures, found.received, found.served, found.stock);
+    put_front(figures, [found.received, found.served, found.stock]);
     0
 }
