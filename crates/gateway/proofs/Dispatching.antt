@@ -1,30 +1,29 @@
 -- A law for each branch of the call take: refusals in their order, then what each sense and kind of frame comes to.
-use mathlib.Core.Path.{◌≡◌, refl, sym, ◌∙◌, ap}
+use mathlib.Core.Path.{◌≡◌, refl, sym, ◌∙◌}
 use mathlib.Core.Bool.{true, false, cond}
 use mathlib.Core.List.{List}
 use Rattle.std.specs.Prelude.{Result, Ok, Err}
 use Rattle.refusal.specs.Numbers.{refusal_number}
+use Rattle.refusal.proofs.Numbers.{refusal-some}
 use Rattle.refusal.specs.declared.Refusal.{Refusal}
-use Rattle.refusal.specs.declared.Refusal.TheVariants.{NoFrame, WrongGateway, PastLastHour, OutOfTurn, NoRoom, NothingToDo, NotOutstanding, OutOfRange, BelowAgreedTime, NotSound, WrongLength, WrongLamp}
+use Rattle.refusal.specs.declared.Refusal.TheVariants.{NoFrame, BelowAgreedTime}
 use Prim.Native.Nat.{ℕ, ◌≤◌, ◌<◌}
 use native.Mathlib.Omega.{arith}
 use lib.Dec.{eqb}
 use lib.ListN.{length}
-use borrow.Author.Tests.{eq-eqb, ne_eqb, lt-ltb, le-ltb}
+use borrow.Author.Tests.{ne_eqb, lt-ltb, le-ltb}
 use Rattle.buffer.specs.Slice.{Bytes}
 use Rattle.model.specs.Messages.{kind_number, kind_of, origin_of, quantity_of}
 use Rattle.model.specs.declared.Message.{Message}
 use Rattle.model.proofs.Ordered.{kind-again}
 use Rattle.model.specs.declared.Kind.{Kind}
 use Rattle.model.specs.declared.Kind.TheVariants.{Failure, Request, Delivery, Restock, Start, Lvt, Update}
-use Rattle.frame.specs.Limits.{refusal}
 use Rattle.frame.specs.Writing.{well_formed}
-use Rattle.frame.specs.Reasons.{reading, form_in, form_number}
+use Rattle.frame.specs.Reasons.{reading, form_number, read_in}
 use Rattle.frame.specs.declared.Frame.{Frame}
-use Rattle.frame.specs.declared.Reading.{Reading}
-use Rattle.frame.specs.declared.Form.TheVariants.{NotTaken}
+use Rattle.frame.specs.declared.forms.FormError.{FormError}
 use Rattle.frame.specs.declared.Sense.TheVariants.{Plain, Cancel, Acknowledgment, CancelAcknowledgment}
-use Rattle.frame.proofs.FormNumbers.{form-passed}
+use Rattle.frame.proofs.FormNumbers.{taken-read}
 use Rattle.frame.proofs.Laws.{one-to-one}
 use Rattle.memory.specs.Codec.{decode}
 use Rattle.memory.specs.Inside.Fits.{MessageFits}
@@ -33,26 +32,15 @@ use Rattle.memory.specs.declared.Header.{Header}
 use Rattle.gateway.specs.Effects.{Outcome, refused, settled}
 use Rattle.gateway.specs.Taking.{take_plain, take_cancel, take_acknowledgment}
 use Rattle.gateway.specs.Rounds.{take_start, take_lvt, take_update}
-use Rattle.gateway.specs.Calls.{CallResult, left, leaving, unless_below, by_carrier, take_by_kind, take_frame, take_bytes, taken, on_sound}
+use Rattle.gateway.specs.Calls.{CallResult, left, leaving, unless_below, by_carrier, take_by_kind, take_for, take_frame, take_bytes, taken, on_sound}
 use Rattle.gateway.specs.Inside.Premises.{Known}
 use Rattle.gateway.specs.Answers.{Answer, answer_of}
-use Rattle.gateway.proofs.ReadMessages.{reading-fits}
+use Rattle.gateway.proofs.ReadMessages.{ranged-fits}
 use Rattle.gateway.proofs.Knowing.{agreed-is, settings-are}
 
 -- no refusal has the number 0
 pub refusal-numbered : (why : Refusal) → eqb (refusal_number why) 0 ≡ false
-refusal-numbered NoFrame = refl
-refusal-numbered WrongGateway = refl
-refusal-numbered PastLastHour = refl
-refusal-numbered OutOfTurn = refl
-refusal-numbered NoRoom = refl
-refusal-numbered NothingToDo = refl
-refusal-numbered NotOutstanding = refl
-refusal-numbered OutOfRange = refl
-refusal-numbered BelowAgreedTime = refl
-refusal-numbered NotSound = refl
-refusal-numbered WrongLength = refl
-refusal-numbered WrongLamp = refl
+refusal-numbered why = ne_eqb (refusal_number why) 0 (refusal-some why)
 
 -- what a refusal leaves
 pub leaves-refused : (m output : List ℕ) (g : Gateway) (why : Refusal) → left (answer_of (Err why)) m output ≡ leaving (refused (refusal_number why) g) m output
@@ -145,35 +133,30 @@ module _ (m output : List ℕ) (x : Outcome) (g : Gateway) {wanted : ℕ} where
   pub number_passed : 0 ≡ wanted → {l : CallResult Answer} → l ≡ leaving x m output → l ≡ leaving (cond (eqb wanted 0) x (refused wanted g)) m output
   number_passed e p = p ∙ rw (← e)
 
--- a byte string by its reading
-module _ (m bytes output : List ℕ) (h : Header) (k : Known m h) {r : Reading} (e : r ≡ reading bytes) where
-  same-form : {number : ℕ} → number ≡ form_number (form_in by_carrier r) → number ≡ form_number (form_in by_carrier (reading bytes))
-  same-form u = u ∙ ap (λ (x : Reading). form_number (form_in by_carrier x)) e
-
-  pub form-refused : (why : Refusal) → refusal_number why ≡ form_number (form_in by_carrier r) → left (answer_of (Err why)) m output
-      ≡ leaving (take_bytes bytes (length output) (decode m)) m output
+-- a byte string by what was read in this call
+module _ (m bytes output : List ℕ) (h : Header) (k : Known m h) where
+  pub form-refused : {reason : FormError} → Err reason ≡ read_in by_carrier (reading bytes) → (why : Refusal) → refusal_number why ≡ form_number reason
+      → left (answer_of (Err why)) m output ≡ leaving (take_bytes bytes (length output) (decode m)) m output
   unfolding take_bytes
-  form-refused why u = number-refused m output _ (decode m) why (same-form u)
+  form-refused e why u = leaves-refused m output (decode m) why ∙ rw (← e, u)
 
-  pub form-taken : 0 ≡ form_number (form_in by_carrier r) → {l : CallResult Answer}
-      → l ≡ leaving (cond (eqb (refusal r.frame h.settings.n h.settings.own h.settings.last) 0) (take_frame (length output)
-      r.frame (decode m)) (refused (refusal r.frame h.settings.n h.settings.own h.settings.last) (decode m))) m output
-      → l ≡ leaving (take_bytes bytes (length output) (decode m)) m output
+  pub form-taken : {f : Frame} → Ok f ≡ read_in by_carrier (reading bytes) → {l : CallResult Answer}
+      → l ≡ leaving (take_for h.settings f (length output) (decode m)) m output → l ≡ leaving (take_bytes bytes (length output) (decode m)) m output
   unfolding take_bytes
-  form-taken u p = (p ∙ rw (e, settings-are m h k)) ∙ number_passed m output _ (decode m) (same-form u) refl
+  form-taken e p = p ∙ rw (← e, settings-are m h k)
 
 -- take is such a call
 pub take-call : (m bytes output : List ℕ) → on_sound (take_bytes bytes) m output ≡ taken m bytes output
 unfolding taken
 take-call m bytes output = refl
 
--- a message that was read fits its fields
-pub read_fits : (bytes : List ℕ) → Bytes bytes → {r : Reading} → r ≡ reading bytes → MessageFits r.frame.message
-read_fits bytes b e = rw e (reading-fits bytes b)
+-- the message of a frame that this call takes fits its fields, and the frame is well formed
+module _ (bytes : List ℕ) (b : Bytes bytes) {f : Frame} (e : Ok f ≡ read_in by_carrier (reading bytes)) where
+  is-read : reading bytes ≡ Ok f
+  is-read = taken-read by_carrier (reading bytes) (sym e)
 
--- and one that is taken is well formed
-pub read-formed : (bytes : List ℕ) → Bytes bytes → {r : Reading} → r ≡ reading bytes → {number : ℕ} → number ≡ form_number (form_in by_carrier r) → number ≡ 0
-    → well_formed r.frame ≡ true
-read-formed bytes b {r} e {number} u n =
-    let good = (form-passed by_carrier r (rw (← u) (eq-eqb number 0 n))).0 in
-    rw e (one-to-one.read_well_formed bytes b (rw e at good))
+  pub read_fits : MessageFits f.message
+  read_fits = ranged-fits f (one-to-one.read_ranged bytes b f is-read)
+
+  pub read-formed : well_formed f ≡ true
+  read-formed = one-to-one.read_well_formed bytes b f is-read

@@ -1,35 +1,23 @@
 -- `take::take_bytes` meets its contract.
-use mathlib.Core.Path.{sym, ◌∙◌}
-use Prim.Native.Nat.{◌≤◌}
-use native.Mathlib.Omega.{arith}
+use Rattle.std.proofs.lemmas.Result.{err_from_is_err_and}
 use Rattle.buffer.proofs.Lent.{bytes-known}
-use Rattle.frame.specs.Reasons.{form_number}
-use Rattle.frame.specs.declared.Form.{Form}
-use Rattle.frame.specs.declared.Form.TheVariants.{Good, TooShort, WrongMap, WrongLength, WrongSense, WrongLamp, WrongGateways, NotTaken}
+use Rattle.gateway.specs.Calls.{by_carrier}
 use Rattle.gateway.proofs.Dispatching.{form-refused, form-taken, read_fits, read-formed}
 use Rattle.take.proofs.take_bytes.Goals as goal
 
-small : (f : Form) → form_number f ≤ 12
-small Good = omega arith
-small TooShort = omega arith
-small WrongMap = omega arith
-small WrongLength = omega arith
-small WrongSense = omega arith
-small WrongLamp = omega arith
-small WrongGateways = omega arith
-small NotTaken = omega arith
-
-pub returns-then-number-ne0 : goal.returns-then-number-ne0
-returns-then-number-ne0 c =
-    let e = c.form_refusal-number.ensures in
-    form-refused _ _ _ _ c.requires c.read-reading.ensures.0 _ (c.numbered.ensures (omega arith) (rw e (small _)) ∙ e)
+pub returns-in_err-frame : goal.returns-in_err-frame
+returns-in_err-frame c =
+    let read = c.in_err-frame.ensures by_carrier (λ f b p. p.1) in
+    let p = err_from_is_err_and c.from_residual.result c.from_residual.ensures.1 in
+    rw p.1 (form-refused _ _ _ _ c.requires read _ p.2)
 
 pub take_checked-requires : goal.take_checked-requires
 take_checked-requires c =
     let b = bytes-known c.args.frame.now c.type_inv.frame in
-    let r = c.read-reading.ensures.0 in
-    (c.requires, read_fits _ b r, read-formed _ b r c.form_refusal-number.ensures c.if-number-ne0.false)
+    let read = c.in_ok-frame.ensures by_carrier (λ f b p. p.1) in
+    (c.requires, read_fits _ b read, read-formed _ b read)
 
 pub returns : goal.returns
 returns c =
-    form-taken _ _ _ _ c.requires c.read-reading.ensures.0 (sym c.if-number-ne0.false ∙ c.form_refusal-number.ensures) c.take_checked.ensures
+    let read = c.in_ok-frame.ensures by_carrier (λ f b p. p.1) in
+    form-taken _ _ _ _ c.requires read c.take_checked.ensures

@@ -1,14 +1,12 @@
 -- `take::take_checked` meets its contract.
-use mathlib.Core.Path.{sym, ◌∙◌}
-use native.Mathlib.Omega.{arith}
-use Rattle.gateway.proofs.Accepting.{refusal-below}
+use Rattle.std.proofs.lemmas.Result.{err_from_is_err_and}
 use Rattle.gateway.proofs.Dispatching.{number-refused, number_passed}
 use Rattle.take.proofs.take_checked.Goals as goal
 
-pub returns-then-number-ne0 : goal.returns-then-number-ne0
-returns-then-number-ne0 c =
-    let e = c.check-number.ensures in
-    number-refused _ _ _ _ _ (c.numbered.ensures (omega arith) (rw e (omega (arith, refusal-below))) ∙ e)
+pub returns-in_err-check : goal.returns-in_err-check
+returns-in_err-check c =
+    let p = err_from_is_err_and c.from_residual.result c.from_residual.ensures.1 in
+    rw (p.1, p.2) (number-refused _ _ _ _ _ c.in_err-check.ensures)
 
 pub returns : goal.returns
-returns c = number_passed _ _ _ _ (sym c.if-number-ne0.false ∙ c.check-number.ensures) c.take_frame.ensures
+returns c = number_passed _ _ _ _ c.in_ok-check.ensures c.take_frame.ensures
