@@ -1,8 +1,6 @@
 // The gateway's calls: what they are told and answer. Their code stands in the crates above.
 #![tactic(auto)]
 
-ghost use Rattle.std.specs.Prelude.{◌≡◌, ◌<◌, ◌≤◌};
-ghost use Rattle.refusal.specs.Numbers.{refusal_number};
 
 use model::LeadTimes;
 use refusal::Refusal;
@@ -28,24 +26,4 @@ pub struct Opening {
     pub q: u32,
     pub u: u32,
     pub hours: LeadTimes,
-}
-
-// The refusal with that number.
-pub fn numbered(number: u8) -> Refusal
-    ensures { 0 < number → number ≤ 12 → refusal_number result ≡ number }
-{
-    match number {
-        1 => Refusal::NoFrame,
-        2 => Refusal::WrongGateway,
-        3 => Refusal::PastLastHour,
-        4 => Refusal::OutOfTurn,
-        5 => Refusal::NoRoom,
-        6 => Refusal::NothingToDo,
-        7 => Refusal::NotOutstanding,
-        8 => Refusal::OutOfRange,
-        9 => Refusal::BelowAgreedTime,
-        10 => Refusal::NotSound,
-        11 => Refusal::WrongLength,
-        _ => Refusal::WrongLamp,
-    }
 }

@@ -29,16 +29,10 @@ use Rattle.gateway.specs.SettingUp.{may_open, settings_of, opening_valid, cut_fr
 use Rattle.gateway.specs.Calls.{left, set_up}
 use Rattle.gateway.specs.Answers.{answer_of}
 use Rattle.gateway.proofs.Dispatching.{refusal-numbered}
-use Rattle.gateway.proofs.Accepting.{refusal-below}
-use Rattle.lists.specs.Lists.{first_number}
-use Rattle.frame.specs.Reasons.{reading, form_in, form_number}
-use Rattle.frame.specs.Limits.{refusal}
-use Rattle.frame.specs.declared.Form.{Form}
-use Rattle.frame.specs.declared.Form.TheVariants.{Good, TooShort, WrongMap, WrongLength, WrongSense, WrongLamp, WrongGateways, NotTaken}
 use Rattle.gateway.specs.declared.Opening.{Opening}
 use Rattle.gateway.proofs.Openings.{length-queued, opened-keeps}
-use Rattle.opening_list.specs.declared.Checked.{Checked}
-use Rattle.opening_list.specs.Inside.Frames.{frames_from, checked_as, opened_header}
+use Rattle.refusal.proofs.Numbers.{refusal-some}
+use Rattle.opening_list.specs.Inside.Frames.{Checked, frames_from, checked_as, opened_header}
 use Rattle.lists.proofs.PieceLaws.{none-refused}
 use Rattle.opening_list.proofs.Checking.{frames-all}
 
@@ -59,33 +53,6 @@ valid-opening o size v =
       q = (settings-facts (settings_of o) s).q;
       long = leb-true (size_for o.q o.u) size (search (and_left, and_right));
     }
-
-form-small : (f : Form) → form_number f ≤ 12
-form-small Good = omega arith
-form-small TooShort = omega arith
-form-small WrongMap = omega arith
-form-small WrongLength = omega arith
-form-small WrongSense = omega arith
-form-small WrongLamp = omega arith
-form-small WrongGateways = omega arith
-form-small NotTaken = omega arith
-
-one-small : (s : Settings) (f : List ℕ) → opening_refusal s f ≤ 12
-unfolding opening_refusal
-one-small s f = by (eqb (form_number (form_in may_open (reading f))) 0)
-  where
-    by : (b : Bool) → cond b (refusal (reading f).frame s.n s.own s.last) (form_number (form_in may_open (reading f))) ≤ 12
-    by true = omega (arith, refusal-below (reading f).frame s.n s.own s.last)
-    by false = form-small (form_in may_open (reading f))
-
-first-small : (s : Settings) (fs : List (List ℕ)) → first_refusal s fs ≤ 12
-unfolding first_number
-first-small s [] = omega arith
-first-small s (f ∷ fs) = by (eqb (opening_refusal s f) 0) (first-small s fs)
-  where
-    by : (b : Bool) → first_refusal s fs ≤ 12 → cond b (first_refusal s fs) (opening_refusal s f) ≤ 12
-    by true rest = rest
-    by false rest = one-small s f
 
 module _ (o : Opening) (list m : List ℕ) where
   refused_as : (why : Refusal) → set_up_refusal o (length m) list ≡ refusal_number why → left (answer_of (Err why)) m [] ≡ set_up o list m
@@ -108,12 +75,11 @@ module _ (o : Opening) (list m : List ℕ) where
         first-is : r.number ≡ first_refusal (settings_of o) (cut_frames (length list) list)
         first-is = ap (λ (x : Checked). x.number) k ∙ rw (t, frames-all list)
 
-        pub frame_refused : (r.number ≡ 0 → ⊥) → (why : Refusal) → (0 < r.number → r.number ≤ 12 → refusal_number why ≡ r.number)
-            → left (answer_of (Err why)) m [] ≡ set_up o list m
+        pub frame_refused : (why : Refusal) → refusal_number why ≡ r.number → left (answer_of (Err why)) m [] ≡ set_up o list m
         unfolding set_up_refusal
-        frame_refused d why n =
-            let small : r.number ≤ 12 = rw first-is (first-small (settings_of o) (cut_frames (length list) list)) in
-            refused_as why (rw (is-valid, ← first-is, ne_eqb r.number 0 d) (sym (n (omega arith) small)))
+        frame_refused why n =
+            let d : r.number ≡ 0 → ⊥ = λ z. refusal-some why (n ∙ z) in
+            refused_as why (rw (is-valid, ← first-is, ne_eqb r.number 0 d) (sym n))
 
         module _ (z : r.number ≡ 0) where
           count-is : r.count ≡ length (cut_frames (length list) list)

@@ -4,7 +4,7 @@ ghost use Rattle.gateway.specs.Answers.{answer_of};
 ghost use Rattle.gateway.specs.Calls.{left, set_up};
 
 use crate::settings::{opened_header, opening_valid, settings_of};
-use gateway::{Opening, numbered};
+use gateway::Opening;
 use header::write_header;
 use opening_list::{check_list, enter_list};
 use refusal::Refusal;
@@ -16,14 +16,11 @@ pub fn set_up(memory: &mut [u8], opening: Opening, list: &[u8]) -> Result<usize,
         return Err(Refusal::OutOfRange);
     }
     let settings = settings_of(opening);
-    let checked = check_list(list, settings);
-    if checked.number != 0 {
-        return Err(numbered(checked.number));
-    }
-    if checked.count > settings.q as usize {
+    let count = check_list(list, settings)?;
+    if count > settings.q as usize {
         return Err(Refusal::NoRoom);
     }
     enter_list(memory, list);
-    write_header(memory, opened_header(opening, settings, checked.count));
+    write_header(memory, opened_header(opening, settings, count));
     Ok(0)
 }

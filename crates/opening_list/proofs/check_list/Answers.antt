@@ -28,7 +28,7 @@ pub loop-at-smaller : goal.loop-at-smaller
 loop-at-smaller c = let b = end-between whole_length whole-some _ _ c.loop-at-test.true c.frame_end-end.ensures in search rules
 
 pub loop-at-preserved : goal.loop-at-preserved
-loop-at-preserved c = pass-turn _ _ _ _ c.loop-at.invariant c.loop-at-test.true c.frame_end-end.ensures c.in-Ok.ensures refl
+loop-at-preserved c = pass-turn _ _ _ _ c.loop-at.invariant c.loop-at-test.true c.frame_end-end.ensures c.in_default.ensures refl
 
 pub returns : goal.returns
 returns c = search pass-end
