@@ -3,10 +3,8 @@ use mathlib.Core.Path.{◌≡◌, refl, ◌∙◌, ap}
 use mathlib.Core.List.{List, [], ◌∷◌, ◌++◌}
 use Prim.Native.Nat.{ℕ, suc, ◌+◌, ◌*◌, ◌≤◌, ◌<◌}
 use native.Mathlib.Omega.{arith}
-use lib.ListN.{length, get_or, set, drop}
-use borrow.Author.Tests.{lt-ltb, le-ltb}
-use Rattle.routing.specs.declared.Gateways.{Gateways}
-use Rattle.packing.specs.Packed.{packed, ReadBack, packed_two, ReadBackTwo, number_at}
+use lib.ListN.{length, set, drop}
+use Rattle.packing.specs.Packed.{packed, ReadBack, packed_two, ReadBackTwo}
 
 -- the sum
 pub packed-sum : (number written count : ℕ) → number + 256 * written + 4294967296 * count ≡ packed number written count
@@ -25,13 +23,6 @@ read-back-two number written h = record { number = omega arith; written = omega 
 pub read_back : (number written count : ℕ) → number < 256 → written < 16777216 → ReadBack number written count
 unfolding packed
 read_back number written count h k = record { number = omega arith; written = omega arith; count = omega arith }
-
--- one of at most two
-pub number-none : (g : Gateways) (i : ℕ) → g.count ≤ i → 65535 ≡ number_at g i
-number-none g i h = rw (le-ltb i g.count h)
-
-pub number-some : (g : Gateways) (i : ℕ) → i < g.count → get_or g.number i 0 ≡ number_at g i
-number-some g i h = rw (lt-ltb i g.count h)
 
 -- the array's front
 next-set : (xs l : List ℕ) (x : ℕ) → length xs < length l → set (xs ++ drop (length xs) l) (length xs) x ≡ (xs ++ (x ∷ [])) ++ drop (suc (length xs)) l

@@ -1,8 +1,10 @@
 -- Figure 2 gives a gateway at most two to hear from and at most two to tell.
 use Prim.Native.Nat.{ℕ, ◌≤◌, ◌<◌}
-use mathlib.Core.List.{List}
+use mathlib.Core.Path.{◌≡◌, refl}
+use mathlib.Core.List.{List, [], ◌∷◌}
 use native.Mathlib.Omega.{arith}
 use lib.ListN.{length, get_or}
+use Rattle.routing.specs.AtMostTwo.{listed, at_most_two}
 use Rattle.routing.specs.Arcs.{from, to, mid0, mid1}
 use Rattle.routing.proofs.Shape.{From, To, from_some, to_some, Split}
 use Rattle.routing.proofs.Reading.{from_is, to_is, mids}
@@ -36,3 +38,10 @@ pub to-few : (N i : ℕ) → i < N → TwoBelow N (to N i)
 to-few N i h =
     let some = to_some N (mid0 N) (mid1 N) i h in
     rw (to_is N i h some.1) (to-two (mids N i (omega arith)).split some.1)
+
+-- a list of at most two by its first two
+pub first-two-of : (l : List ℕ) → length l ≤ 2 → listed (at_most_two l) ≡ l
+first-two-of [] h = refl
+first-two-of (x ∷ []) h = refl
+first-two-of (x ∷ y ∷ []) h = refl
+first-two-of (x ∷ y ∷ z ∷ l) h = absurd (omega arith)

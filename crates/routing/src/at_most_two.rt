@@ -1,5 +1,5 @@
 // At most two values in a given order, as the gateways that a gateway hears from or tells.
-ghost use Rattle.std.specs.Prelude.{◌≡◌, length};
+ghost use Rattle.std.specs.Prelude.{◌≡◌, ◌≤◌, length};
 ghost use Rattle.std.specs.List.{slice_get, All, AllZip};
 
 #[derive(Clone, Copy, PartialEq, Eq)]
@@ -14,7 +14,7 @@ impl<T: Copy> AtMostTwo<T> {
 
     // How many there are.
     pub fn len(self) -> usize
-        ensures { result ≡ length (listed self) }
+        ensures { (result ≡ length (listed self)) × (result ≤ 2) }
     {
         match self {
             AtMostTwo::None => 0,
