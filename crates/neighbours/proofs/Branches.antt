@@ -8,6 +8,7 @@ use Prim.Native.Nat.{ℕ, ◌+◌, ◌*◌, ◌-◌, ◌/◌, ◌^◌, ◌≤◌
 use native.Mathlib.Omega.{arith}
 use Rattle.std.specs.Prelude.{Bool, Ok, Err}
 use Rattle.refusal.specs.declared.Refusal.TheVariants.{OutOfRange}
+use Rattle.routing.specs.declared.Totals.{Totals}
 use Rattle.routing.specs.AtMostTwo.{listed, at_most_two}
 use Rattle.routing.specs.declared.at_most_two.AtMostTwo.{AtMostTwo}
 use Rattle.routing.specs.declared.at_most_two.AtMostTwo.TheVariants.{None, One, Two}
@@ -72,11 +73,10 @@ unfolding totals_of
 no-totals n (inl h) = rw (lt-leb 1 n h)
 no-totals n (inr h) = rw (too_many n h.1)
 
-pub counted : (n : ℕ) {k m : ℕ} → 1 ≤ n → n ≤ 65535 → k ≡ n → m ≡ mid0 k
-    → Ok (record { arcs = n - 1 + m / 2; messages = 2 * (n - 1 + m / 2) + n - 1 }) ≡ totals_of n
+pub totals-found : (n : ℕ) {k : ℕ} {t : Totals} → 1 ≤ n → n ≤ 65535 → k ≡ n → (t.arcs ≡ arc_count k) × (t.messages ≡ round_messages k) → Ok t ≡ totals_of n
 unfolding totals_of
-counted n {k} {m} h l p q =
-    let e : m ≡ mid0 n = q ∙ ap mid0 p in
-    let arcs : n - 1 + m / 2 ≡ arc_count n = omega (arith, count-is n h) in
-    let messages : 2 * (n - 1 + m / 2) + n - 1 ≡ round_messages n = omega (arith, count-is n h, round_is n h) in
-    rw (in-range n h l) (λ i. Ok (record { arcs = arcs i; messages = messages i }))
+totals-found n h l e (a, b) =
+    rw (in-range n h l) (λ i. Ok (record { arcs = (a ∙ ap arc_count e) i; messages = (b ∙ ap round_messages e) i }))
+
+pub counted : (n : ℕ) {m : ℕ} → 1 ≤ n → m ≡ mid0 n → (n - 1 + m / 2 ≡ arc_count n) × (2 * (n - 1 + m / 2) + n - 1 ≡ round_messages n)
+counted n h e = (omega (arith, count-is n h), omega (arith, count-is n h, round_is n h))

@@ -26,17 +26,12 @@ pub fn neighbours_of(n: u32, own: u32) -> Result<Neighbours, Refusal>
     })
 }
 
-// The number of arcs and the messages of a round among n: each gateway but the last tells one, and half of mid0 tell a second.
+// The number of arcs and the messages of a round among n.
 pub fn totals_of(n: u32) -> Result<Totals, Refusal>
     ensures { result ≡ totals_of n }
 {
     if n < 1 || n > 65535 {
         return Err(Refusal::OutOfRange);
     }
-    let middles = Middles::new(n);
-    let arcs = n - 1 + middles.mid0 / 2;
-    Ok(Totals {
-        arcs,
-        messages: 2 * arcs + n - 1,
-    })
+    Ok(Middles::new(n).totals())
 }

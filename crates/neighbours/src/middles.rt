@@ -1,9 +1,10 @@
 // Figure 2's row, the same for all gateways of one n, for a caller that asks for many of them.
 ghost use Rattle.std.specs.Prelude.{◌≡◌, ◌≤◌, ◌<◌};
 ghost use Rattle.routing.specs.Arcs as Arcs;
-ghost use Rattle.routing.specs.Arcs.{from, to};
+ghost use Rattle.routing.specs.Arcs.{from, to, arc_count, round_messages};
 ghost use Rattle.routing.specs.AtMostTwo.{listed};
 
+use routing::Totals;
 use routing::at_most_two::AtMostTwo;
 
 // Whether the two trees of n gateways share the bottom row, Mid0 and Mid1.
@@ -83,6 +84,17 @@ impl Middles {
             AtMostTwo::One(2 * own + 1)
         } else {
             AtMostTwo::One(n - own - 1)
+        }
+    }
+
+    // The number of arcs and the messages of a round: each gateway but the last tells one, and half of mid0 tell a second.
+    pub fn totals(self) -> Totals
+        ensures { (result.arcs ≡ arc_count self.n) × (result.messages ≡ round_messages self.n) }
+    {
+        let arcs = self.n - 1 + self.mid0 / 2;
+        Totals {
+            arcs,
+            messages: 2 * arcs + self.n - 1,
         }
     }
 }

@@ -6,7 +6,6 @@ ghost use Rattle.listing.specs.Output.{listing, without_end, number_in, rendered
 
 use listing::{arcs_length, first_length, put_listing};
 use neighbours::middles::Middles;
-use neighbours::totals_of;
 use refusal::Refusal;
 
 // The text before the line end that may stand last.
@@ -19,11 +18,15 @@ fn without_end(input: &[u8]) -> &[u8]
     }
 }
 
-// N as the input gives it.
+// N as the input gives it, from 1.
 fn number_in(input: &[u8]) -> Option<u32>
-    ensures { (unwrap_or result 0 ≡ number_in input.now) × IfSome result (λ n. n ≤ 65535) }
+    ensures number { unwrap_or result 0 ≡ number_in input.now }
+    ensures range { IfSome result (λ n. (1 ≤ n) × (n ≤ 65535)) }
 {
-    text::spelled_number(without_end(input), 65535)
+    match text::spelled_number(without_end(input), 65535) {
+        Some(n) if n > 0 => Some(n),
+        _ => None,
+    }
 }
 
 fn render_refusal(out: &mut [u8]) -> Result<usize, Refusal>
@@ -42,7 +45,7 @@ fn render_listing(out: &mut [u8], n: u32) -> Result<usize, Refusal>
     ensures { record { answer = result; out = out.new } ≡ rendered (listing n) out.old }
 {
     let middles = Middles::new(n);
-    let totals = totals_of(n)?;
+    let totals = middles.totals();
     let length = first_length(n, totals) + arcs_length(middles);
     if out.len() < length {
         return Err(Refusal::NoRoom);
@@ -56,7 +59,7 @@ pub fn render(input: &[u8], out: &mut [u8]) -> Result<usize, Refusal>
     ensures { record { answer = result; out = out.new } ≡ rendering input.now out.old }
 {
     match number_in(input) {
-        None | Some(0) => render_refusal(out),
         Some(n) => render_listing(out, n),
+        None => render_refusal(out),
     }
 }
