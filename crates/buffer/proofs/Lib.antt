@@ -2,9 +2,9 @@
 pub mod Writes
 pub mod Readings
 pub mod Standing
-pub mod Moves
 pub mod Numbers
 pub mod Equality
 pub mod Putting
 pub mod Lent
 pub mod Copies
+pub mod Runs

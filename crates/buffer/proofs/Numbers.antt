@@ -1,15 +1,14 @@
 -- Laws of numbers as bytes, over the width: each direction undoes the other.
 use mathlib.Core.Path.{◌≡◌, refl, ◌∙◌, ap, ap₂}
-use Prim.Native.Nat.{ℕ, zero, suc, ◌+◌, ◌*◌, ◌/◌, ◌%◌, ◌^◌, ◌<◌, ◌≤◌}
+use Prim.Native.Nat.{ℕ, zero, suc, ◌+◌, ◌*◌, ◌/◌, ◌%◌, ◌^◌, ◌<◌}
 use native.Mathlib.Nat.{pow-succ', add-mul, zero-add, mul_assoc, mod-eq_of_lt, add_assoc}
 use native.Mathlib.Omega.{arith}
 use mathlib.Core.List.{List, [], ◌∷◌}
-use lib.ListN.{length, get_or, set}
+use lib.ListN.{length}
 use lib.Arith.{mod-mul, digits_lt, digits_div, digits_mod}
-use Rattle.buffer.specs.Slice.{Bytes, part, write}
-use Rattle.buffer.proofs.Writes.{part-cons, part-nil, set-write, write-snoc}
+use Rattle.buffer.specs.Slice.{Bytes}
 use Rattle.buffer.specs.Number.{bytes_of, number_from, number_of}
-use Rattle.buffer.specs.Inside.Turning.{Turned}
+use Rattle.std.specs.Int.{from_be_bytes, w16, w32}
 
 pow-positive : (width : ℕ) → 0 < 256 ^ width
 pow-positive zero = omega arith
@@ -66,74 +65,22 @@ pub number-below : (bs : List ℕ) → Bytes bs → number_of bs < 256 ^ length 
 unfolding number_of
 number-below bs h = (from-higher bs 0 h).1
 
--- a number by its bytes in a slice
-pub read-two : (m : List ℕ) (at : ℕ) {a b : ℕ} → at + 2 ≤ length m → a ≡ get_or m at 0 → b ≡ get_or m (at + 1) 0 → a * 256 + b ≡ number_of (part m at 2)
+-- std's number of the same bytes
+pub from-two : (bs : List ℕ) → length bs ≡ 2 → from_be_bytes w16 bs ≡ number_of bs
 unfolding number_of number_from
-read-two m at h p q = rw (part-cons m at 1 (omega arith), part-cons m (at + 1) 0 (omega arith), part-nil) (omega arith)
+from-two [] e = absurd (omega arith)
+from-two (a ∷ []) e = absurd (omega arith)
+from-two (a ∷ b ∷ []) e = omega arith
+from-two (a ∷ b ∷ c ∷ bs) e = absurd (omega arith)
 
-pub read-four : (m : List ℕ) (at : ℕ) {a b c d : ℕ} → at + 4 ≤ length m
-    → a ≡ get_or m at 0 → b ≡ get_or m (at + 1) 0 → c ≡ get_or m (at + 2) 0 → d ≡ get_or m (at + 3) 0
-    → (a * 256 + b) * 65536 + (c * 256 + d) ≡ number_of (part m at 4)
+pub from-four : (bs : List ℕ) → length bs ≡ 4 → from_be_bytes w32 bs ≡ number_of bs
 unfolding number_of number_from
-read-four m at h p q r t =
-    rw (
-      part-cons m at 3 (omega arith),
-      part-cons m (at + 1) 2 (omega arith),
-      part-cons m (at + 1 + 1) 1 (omega arith),
-      part-cons m (at + 1
-          + 1 + 1) 0 (omega arith),
-      part-nil,
-      add_assoc at 1 1,
-      add_assoc at 2 1,
-    )
-    (omega arith)
-
--- a number's bytes stored one behind the other
-pub stored-two : (m : List ℕ) (at n : ℕ) → at + 2 ≤ length m → n < 65536 → set (set m at (n / 256)) (at + 1) (n % 256) ≡ write at (bytes_of 2 n) m
-unfolding bytes_of
-stored-two m at n h small =
-    let high : n / 256 ^ 1 % 256 ≡ n / 256 = omega arith in
-    let low : n / 256 ^ 0 % 256 ≡ n % 256 = omega arith in
-    rw (set-write m at (n / 256) (omega arith), high, low) (write-snoc at (n / 256 ∷ []) m (n % 256) (at + 1) (omega arith) refl)
-
-stored-four : (m : List ℕ) (at n : ℕ) → at + 4 ≤ length m → n < 4294967296
-    → set (set (set (set m at (n / 16777216)) (at + 1) (n / 65536 % 256)) (at + 2) (n / 256 % 256)) (at + 3) (n % 256) ≡ write at (bytes_of 4 n) m
-unfolding bytes_of
-stored-four m at n h small =
-    let a : ℕ = n / 16777216 in
-    let b : ℕ = n / 65536 % 256 in
-    let c : ℕ = n / 256 % 256 in
-    let high : n / 256 ^ 3 % 256 ≡ n / 16777216 = omega arith in
-    let low : n / 256 ^ 0 % 256 ≡ n % 256 = omega arith in
-    rw (
-      set-write m at a (omega arith),
-      write-snoc at (a ∷ []) m b (at + 1) (omega arith) refl,
-      write-snoc at (a ∷ b ∷ []) m c (at + 2)
-          (omega arith) refl,
-      write-snoc at (a ∷ b ∷ c ∷ []) m (n % 256) (at + 3) (omega arith) refl,
-      high,
-      low,
-    )
-
--- four bytes put together, and taken apart again
-apart : (a b c d : ℕ) → a < 256 → b < 256 → c < 256 → d < 256 → (((d * 256 + c) * 65536 + (b * 256 + a)) % 256 ≡ a)
-    × (((d * 256 + c) * 65536 + (b * 256 + a)) / 256 % 256 ≡ b)
-    × (((d * 256 + c) * 65536 + (b * 256 + a)) / 65536 % 256 ≡ c)
-    × (((d * 256 + c) * 65536 + (b * 256 + a)) / 16777216 ≡ d)
-apart a b c d ha hb hc hd =
-    let r : ℕ = (d * 256 + c) * 65536 + (b * 256 + a) in
-    let one : r / 256 ≡ (d * 256 + c) * 256 + b = omega arith in
-    let two : r / 65536 ≡ d * 256 + c = omega arith in
-    (omega arith, rw one (omega arith), rw two (omega arith), omega arith)
-
-pub turn : (n : ℕ) → n < 4294967296 → Turned n ((n % 256 * 256 + n / 256 % 256) * 65536 + (n / 65536 % 256 * 256 + n / 16777216))
-turn n h =
-    let e = apart (n / 16777216) (n / 65536 % 256) (n / 256 % 256) (n % 256) (omega arith) (omega arith) (omega arith) (omega arith) in
-    record { first = e.0; second = e.1; third = e.2; fourth = e.3 }
-
-pub stored-turned : (m : List ℕ) (at n r : ℕ) → at + 4 ≤ length m → n < 4294967296 → Turned n r
-    → set (set (set (set m at (r % 256)) (at + 1) (r / 256 % 256)) (at + 2) (r / 65536 % 256)) (at + 3) (r / 16777216) ≡ write at (bytes_of 4 n) m
-stored-turned m at n r h small t = rw (t.first, t.second, t.third, t.fourth) (stored-four m at n h small)
+from-four [] e = absurd (omega arith)
+from-four (a ∷ []) e = absurd (omega arith)
+from-four (a ∷ b ∷ []) e = absurd (omega arith)
+from-four (a ∷ b ∷ c ∷ []) e = absurd (omega arith)
+from-four (a ∷ b ∷ c ∷ d ∷ []) e = omega arith
+from-four (a ∷ b ∷ c ∷ d ∷ x ∷ bs) e = absurd (omega arith)
 
 -- a number of one byte
 pub one_byte : (n : ℕ) → n < 256 → bytes_of 1 n ≡ n ∷ []

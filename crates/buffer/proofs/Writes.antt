@@ -7,12 +7,21 @@ use native.Mathlib.Omega.{arith}
 use mathlib.Core.List.{List, [], ◌∷◌, ◌++◌, append_assoc}
 use lib.ListN.{length, take, drop, set, get_or, length-append, length-take, length-drop, take-append-drop}
 use lib.Seq.{take_at, drop_at, drop-drop, set_split}
-use lib.Seq.{length-take-le, take-take, drop-append-add, take-nil, drop-cons, take-suc, take_all}
+use lib.Seq.{length-take-le, take-take, drop-append-add, take-nil, drop-cons}
+use borrow.Rule.Slice.PartMut.{put_mid}
+use Rattle.std.proofs.lemmas.Slice.{put_mid-paste}
+use Rattle.std.proofs.lemmas.List.Edits.{paste_all}
+use lib.Seq.{paste}
 use Rattle.buffer.specs.Slice.{part, write}
 
 pub length_part : (m : List ℕ) (at n : ℕ) → at + n ≤ length m → length (part m at n) ≡ n
 unfolding part
 length_part m at n h = simp (length-take, length-drop) (omega arith)
+
+-- the bytes of m from a position to an end
+pub part-between : (m : List ℕ) (at n : ℕ) → take (at + n - at) (drop at m) ≡ part m at n
+unfolding part
+part-between m at n = let e : at + n - at ≡ n = omega arith in rw e
 
 module _ (at : ℕ) (xs m : List ℕ) (fits : at + length xs ≤ length m) where
   pub length-write : length (write at xs m) ≡ length m
@@ -113,15 +122,15 @@ pub part-nil : (m : List ℕ) (at : ℕ) → part m at 0 ≡ []
 unfolding part
 part-nil m at = take_none (drop at m)
 
--- a list copied byte by byte: at the start, after one more byte, at the end
-pub copy_start : (at : ℕ) (source m : List ℕ) → m ≡ write at (take 0 source) m
-copy_start at source m = rw (take_none source) (sym (write-nil at m))
+-- bytes put in the place of a part, and bytes moved within a slice
+pub put_mid-write : (at : ℕ) (source m : List ℕ) {bytes : List ℕ} → bytes ≡ source → put_mid at (at + length source - at) m bytes ≡ write at source m
+unfolding write
+put_mid-write at source m e =
+    put_mid-paste at (at + length source - at) m _ source (length source) e (omega arith) refl ∙ paste_all m at source (length source) refl
 
-pub copy-turn : (at i : ℕ) (source m : List ℕ) {now : List ℕ} → at + length source ≤ length m → i < length source
-    → now ≡ write at (take i source) m → set now (at + i) (get_or source i 0) ≡ write at (take (i + 1) source) m
-copy-turn at i source m fits h e =
-    let l : length (take i source) ≡ i = length-take-le i source (omega arith) in
-    rw (e, add-one, take-suc source i 0 h) (write-snoc at (take i source) m (get_or source i 0) (at + i) (rw l (omega arith)) (rw l))
-
-pub copy-end : (at i : ℕ) (source m : List ℕ) {now : List ℕ} → length source ≤ i → now ≡ write at (take i source) m → now ≡ write at source m
-copy-end at i source m h e = e ∙ rw (take_all i source h)
+pub paste-write : (at from count : ℕ) (m : List ℕ) → from + count ≤ length m → paste m at (drop from m) (from + count - from) ≡ write at (part m from count) m
+unfolding write part
+paste-write at from count m fits =
+    let size : length (take count (drop from m)) ≡ count = length_part m from count fits in
+    let moved : from + count - from ≡ count = omega arith in
+    rw (moved, size) (append_assoc (take at m) (take count (drop from m)) (drop (at + count) m))

@@ -1,4 +1,3 @@
 -- What it means to read and to write bytes of a lent slice.
 pub mod Slice
 pub mod Number
-pub mod Inside

@@ -2,57 +2,79 @@
 // Every function here asks its caller for the room; the calls that a host makes check it first.
 #![tactic(auto)]
 
-ghost use Rattle.std.specs.Prelude.{◌≡◌, ◌+◌, ◌≤◌, length};
+ghost use Rattle.std.specs.Prelude.{◌≡◌, ◌+◌, ◌*◌, ◌≤◌, ℕ, length};
+ghost use Rattle.std.specs.List.{flat_map};
 ghost use Rattle.buffer.specs.Slice.{part, write};
 ghost use Rattle.buffer.specs.Number.{bytes_of, number_of};
-ghost use Rattle.buffer.specs.Inside.Turning.{Turned};
 
-// The number in the two bytes from position at on.
-pub fn read16(bytes: &[u8], at: usize) -> u16
-    requires { at + 2 ≤ length bytes.now }
-    ensures { result ≡ number_of (part bytes.now at 2) }
-{
-    wide16(bytes[at]) * 256 + wide16(bytes[at + 1])
+// A number that stands in a slice high byte first.
+pub trait Number: Copy {
+    ghost value: { Self → ℕ };
+
+    // The bytes that it takes.
+    const WIDTH: usize;
+
+    ghost WIDTH: { ℕ };
+
+    // The number in the bytes from position at on.
+    fn read(bytes: &[u8], at: usize) -> Self
+        requires { at + WIDTH ≤ length bytes.now }
+        ensures { value result ≡ number_of (part bytes.now at WIDTH) };
+
+    // Puts the number into the bytes from position at on.
+    fn write(self, bytes: &mut [u8], at: usize)
+        requires { at + WIDTH ≤ length bytes.old }
+        ensures { bytes.new ≡ write at (bytes_of WIDTH (value self)) bytes.old };
 }
 
-// The number in the four bytes from position at on.
-pub fn read32(bytes: &[u8], at: usize) -> u32
-    requires { at + 4 ≤ length bytes.now }
-    ensures { result ≡ number_of (part bytes.now at 4) }
-{
-    let high = wide32(bytes[at]) * 256 + wide32(bytes[at + 1]);
-    let low = wide32(bytes[at + 2]) * 256 + wide32(bytes[at + 3]);
-    high * 65536 + low
+impl Number for u16 {
+    ghost value = { λ n. n };
+
+    const WIDTH: usize = 2;
+
+    ghost WIDTH = { 2 };
+
+    fn read(bytes: &[u8], at: usize) -> u16 {
+        u16::from_be_bytes(array_at(bytes, at))
+    }
+
+    fn write(self, bytes: &mut [u8], at: usize) {
+        copy(bytes, at, &self.to_be_bytes());
+    }
 }
 
-// Puts a number into the two bytes from position at on.
-pub fn write16(bytes: &mut [u8], at: usize, number: u16)
-    requires { at + 2 ≤ length bytes.old }
-    ensures { bytes.new ≡ write at (bytes_of 2 number) bytes.old }
-{
-    bytes[at] = (number / 256) as u8;
-    bytes[at + 1] = (number % 256) as u8;
+impl Number for u32 {
+    ghost value = { λ n. n };
+
+    const WIDTH: usize = 4;
+
+    ghost WIDTH = { 4 };
+
+    fn read(bytes: &[u8], at: usize) -> u32 {
+        u32::from_be_bytes(array_at(bytes, at))
+    }
+
+    fn write(self, bytes: &mut [u8], at: usize) {
+        copy(bytes, at, &self.to_be_bytes());
+    }
 }
 
-// Puts a number into the four bytes from position at on.
-pub fn write32(bytes: &mut [u8], at: usize, number: u32)
-    requires { at + 4 ≤ length bytes.old }
-    ensures { bytes.new ≡ write at (bytes_of 4 number) bytes.old }
+// Puts numbers one behind the other, from position at on.
+pub fn write_all<T: Number>(bytes: &mut [u8], at: usize, numbers: &[T])
+    requires { at + T.WIDTH * length numbers.now ≤ length bytes.old }
+    ensures { bytes.new ≡ write at (flat_map (λ n. bytes_of T.WIDTH (T.value n)) numbers.now) bytes.old }
 {
-    let other = turned(number);
-    bytes[at] = (other % 256) as u8;
-    bytes[at + 1] = (other / 256 % 256) as u8;
-    bytes[at + 2] = (other / 65536 % 256) as u8;
-    bytes[at + 3] = (other / 16777216) as u8;
+    for (i, &number) in numbers.iter().enumerate() {
+        number.write(bytes, at + T::WIDTH * i);
+    }
 }
 
-// The number with its bytes in the other order: stored low byte first, the four are one store.
-fn turned(number: u32) -> u32
-    ensures { Turned number result }
+// The N bytes from position at on.
+pub fn array_at<const N: usize>(bytes: &[u8], at: usize) -> [u8; N]
+    requires { at + N ≤ length bytes.now }
+    ensures { result ≡ part bytes.now at N }
 {
-    let low = number % 256 * 256 + number / 256 % 256;
-    let high = number / 65536 % 256 * 256 + number / 16777216;
-    low * 65536 + high
+    bytes[at..at + N].try_into().unwrap()
 }
 
 // Copies all of source into bytes, from position at on.
@@ -60,61 +82,41 @@ pub fn copy(bytes: &mut [u8], at: usize, source: &[u8])
     requires { at + length source.now ≤ length bytes.old }
     ensures { bytes.new ≡ write at source.now bytes.old }
 {
-    let mut i = 0;
-    while i < source.len() {
-        bytes[at + i] = source[i];
-        i += 1;
-    }
+    bytes[at..at + source.len()].copy_from_slice(source);
 }
 
-// Copies the two bytes of source from one position into bytes, from another on.
-pub fn copy_two(bytes: &mut [u8], at: usize, source: &[u8], from: usize)
-    requires { (at + 2 ≤ length bytes.old) × (from + 2 ≤ length source.now) }
-    ensures { bytes.new ≡ write at (part source.now from 2) bytes.old }
+// Moves count bytes from one position to another.
+pub fn move_within(bytes: &mut [u8], from: usize, at: usize, count: usize)
+    requires { (from + count ≤ length bytes.old) × (at + count ≤ length bytes.old) }
+    ensures { bytes.new ≡ write at (part bytes.old from count) bytes.old }
 {
-    write16(bytes, at, read16(source, from));
+    bytes.copy_within(from..from + count, at);
 }
 
-// The same for four bytes.
-pub fn copy_four(bytes: &mut [u8], at: usize, source: &[u8], from: usize)
-    requires { (at + 4 ≤ length bytes.old) × (from + 4 ≤ length source.now) }
-    ensures { bytes.new ≡ write at (part source.now from 4) bytes.old }
+pub fn read16(bytes: &[u8], at: usize) -> u16
+    requires { at + 2 ≤ length bytes.now }
+    ensures { result ≡ number_of (part bytes.now at 2) }
 {
-    write32(bytes, at, read32(source, from));
+    u16::read(bytes, at)
 }
 
-fn wide16(byte: u8) -> u16
-    ensures { (result ≡ byte) × (result ≤ 255) }
+pub fn read32(bytes: &[u8], at: usize) -> u32
+    requires { at + 4 ≤ length bytes.now }
+    ensures { result ≡ number_of (part bytes.now at 4) }
 {
-    byte as u16
+    u32::read(bytes, at)
 }
 
-fn wide32(byte: u8) -> u32
-    ensures { (result ≡ byte) × (result ≤ 255) }
+pub fn write16(bytes: &mut [u8], at: usize, number: u16)
+    requires { at + 2 ≤ length bytes.old }
+    ensures { bytes.new ≡ write at (bytes_of 2 number) bytes.old }
 {
-    byte as u32
+    number.write(bytes, at);
 }
 
-// Moves count bytes down from one position to another, the first first.
-pub fn move_down(memory: &mut [u8], from: usize, at: usize, count: usize)
-    requires { (at ≤ from) × (from + count ≤ length memory.old) }
-    ensures { memory.new ≡ write at (part memory.old from count) memory.old }
+pub fn write32(bytes: &mut [u8], at: usize, number: u32)
+    requires { at + 4 ≤ length bytes.old }
+    ensures { bytes.new ≡ write at (bytes_of 4 number) bytes.old }
 {
-    let mut i = 0;
-    while i < count {
-        memory[at + i] = memory[from + i];
-        i += 1;
-    }
-}
-
-// Moves count bytes up from one position to another, the last first.
-pub fn move_up(memory: &mut [u8], from: usize, at: usize, count: usize)
-    requires { (from ≤ at) × (at + count ≤ length memory.old) }
-    ensures { memory.new ≡ write at (part memory.old from count) memory.old }
-{
-    let mut left = count;
-    while left > 0 {
-        left -= 1;
-        memory[at + left] = memory[from + left];
-    }
+    number.write(bytes, at);
 }

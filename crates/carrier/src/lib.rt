@@ -1,76 +1,42 @@
-// A carrier between two gateways that brings the oldest frame first, for the last example. The frames under way stand one behind the
-// other in a lent line.
+// A carrier between the two gateways of the last example that brings the oldest frame first.
 #![tactic(auto)]
 
-ghost use Rattle.std.specs.Prelude.{◌+◌, ◌≤◌, length};
+ghost use Rattle.std.specs.Prelude.{◌≤◌};
 
-use gateway::Answer;
 use limits::addressed_to;
-use lines::{append, put_again, size_at};
+use lines::{Frames, Gateway, append};
 use reader::read;
+use std::alloc::{AllocError, Global};
 use take::take;
 
-// The frames under way: where the oldest begins, and where the last ends.
-#[derive(Clone, Copy)]
-pub struct UnderWay {
-    pub oldest: usize,
-    pub end: usize,
-}
-
-// Brings every frame that is under way once, the oldest first.
+// Brings every frame of a line once, the oldest first, and answers the frames that are then under way.
 pub fn bring_all(
-    first: &mut [u8],
-    second: &mut [u8],
-    line: &mut [u8],
-    oldest: usize,
-    end: usize,
-) -> UnderWay
-    requires { (oldest ≤ end) × (end ≤ length line.old) }
-    ensures { (result.oldest ≤ result.end) × (result.end ≤ length line.old) }
-{
-    let mut at = oldest;
-    let mut last = end;
-    while at < end {
-        let size = size_at(line, at);
-        last = bring(first, second, line, at, size, last);
-        at += size;
+    alloc: Global,
+    gateways: &mut [Gateway; 2],
+    line: &[u8],
+) -> Result<Vec<u8>, AllocError> {
+    let mut behind = Vec::new(alloc);
+    for frame in Frames(line) {
+        bring(gateways, frame, &mut behind)?;
     }
-    UnderWay {
-        oldest: end,
-        end: last,
-    }
+    Ok(behind)
 }
 
-// Brings the frame of so many bytes at a position of the line. What its gateway puts out goes to the end of the line; refused, the
-// frame itself does.
-fn bring(
-    first: &mut [u8],
-    second: &mut [u8],
-    line: &mut [u8],
-    at: usize,
-    size: usize,
-    end: usize,
-) -> usize
-    requires { (at + size ≤ length line.old) × (at ≤ end) × (end ≤ length line.old) }
-    ensures { (end ≤ result) × (result ≤ length line.old) }
-{
-    let behind = at + size;
-    let mut output = io::buffer();
-    let answer = take_at(first, second, &line[at..behind], &mut output);
+// Brings a frame. What its gateway puts out goes to the end of the line; refused, the frame itself does.
+fn bring(gateways: &mut [Gateway; 2], frame: &[u8], line: &mut Vec<u8>) -> Result<(), AllocError> {
+    let mut output = [0u8; 4096];
+    let gateway = &mut gateways[receiver_of(frame)];
+    let answer = take(&mut gateway.memory, frame, &mut output);
     if answer.number != 0 {
-        return put_again(line, at, size, end);
+        return line.extend_from_slice(frame);
     }
-    append(line, end, &output, answer.written)
+    append(line, &output, answer.written)
 }
 
-// The gateway that the frame is addressed to takes it.
-fn take_at(first: &mut [u8], second: &mut [u8], bytes: &[u8], output: &mut [u8]) -> Answer {
-    let reading = read(bytes);
-    let frame = reading.frame;
-    let sense = frame.sense;
-    let message = frame.message;
-    if addressed_to(sense, message) == 0 {
-        return take(first, bytes, output);
-    }
-    take(second, bytes, output)
+// The gateway that a frame is addressed to; the second for a number that no gateway has.
+fn receiver_of(bytes: &[u8]) -> usize
+    ensures { result ≤ 1 }
+{
+    let frame = read(bytes).frame;
+    usize::from(addressed_to(frame.sense, frame.message)).min(1)
 }

@@ -9,7 +9,7 @@ use native.Mathlib.Omega.{arith}
 use lib.ListN.{length, get_or, length-append}
 use borrow.Author.Tests.{lt-ltb, le-ltb, le-leb, lt-leb}
 use Rattle.lists.specs.Inside.Positions.{first_where, without}
-use Rattle.lists.proofs.PositionLaws.{first-bound, without-first}
+use Rattle.lists.proofs.PositionLaws.{without-first}
 use Rattle.buffer.specs.Slice.{part, write, Puts}
 use Rattle.buffer.proofs.Writes.{write-join, length-write, length_part}
 use Rattle.lists.specs.Lists.{◌∈◌, tally}
@@ -86,14 +86,11 @@ module _ (m : List ℕ) (h : Header) (known : Known m h) (k : ℕ)
   position : k ≡ first_where is_processed (decode m).queue
   position = rw (queue-places m h known) (rw (sub-zero, zero-add) at found)
 
-  bound : k ≤ h.queued
-  bound = omega (arith, position, first-bound is_processed (decode m).queue, queue-count m h known)
-
   agreed-here : h.agreed ≡ (decode m).agreed
   unfolding decode
   agreed-here = rw known.header
 
-  pub nothing-to-commit : (output : List ℕ) {r : Answer} → k ≡ h.queued → (r.number ≡ 6) × (r.written ≡ 0) → record {
+  pub nothing-to-commit : (output : List ℕ) {r : Answer} → h.queued ≤ k → (r.number ≡ 6) × (r.written ≡ 0) → record {
     answer = r;
     memory
         = m;
@@ -104,18 +101,14 @@ module _ (m : List ℕ) (h : Header) (known : Known m h) (k : ℕ)
       rw (none-processed (decode m).queue (omega (arith, position, queue-count m h known)))
       (λ i. record { answer = record { number = a i; written = b i }; memory = m; output = output })
 
-  pub place-below : (k ≡ h.queued → ⊥) → k < h.queued
-  place-below n = let b = bound in omega arith
-
-  module _ (n : k ≡ h.queued → ⊥) (entry : Entry) (read : entry ≡ entry_of (part m (queue_at k) queue_size)) where
+  module _ (below : k < h.queued) (entry : Entry) (read : entry ≡ entry_of (part m (queue_at k) queue_size)) where
     here : get_or (decode m).queue (first_where is_processed (decode m).queue) entry ≡ entry
     here =
         rw (← position, queue-places m h known)
-        (place_at entry_of queue_size m header_size h.queued k entry (place-below n) ∙ sym read)
+        (place_at entry_of queue_size m header_size h.queued k entry below ∙ sym read)
 
     oldest : (rest : List Entry) × (processed_of (decode m).queue ≡ entry ∷ rest)
     oldest =
-        let b = place-below n in
         let o = oldest-processed (decode m).queue entry (omega (arith, position, queue-count m h known)) in
         (o.0, rw here at o.1)
 
@@ -130,13 +123,11 @@ module _ (m : List ℕ) (h : Header) (known : Known m h) (k : ℕ)
     unfolding entry_of message_of
     lamp-whole =
         let z = sizes m h known in
-        let b = place-below n in
         let whole = length_part m (queue_at k) queue_size (omega arith) in
         rw read (length_part (part m (queue_at k) queue_size) 12 18 (omega arith))
 
     pub stock-whole : entry.before.stock + quantity_of entry.message.kind ≤ most_stock
     stock-whole =
-        let b = place-below n in
         let stocks = (valid-facts (decode m) (sound-facts m known.soundness).held).stocks in
         rw here at (oldest-stock (decode m).queue entry stocks.saved (omega (arith, position, queue-count m h known)))
 

@@ -41,11 +41,9 @@ fn commit_oldest(memory: &mut [u8], output: &mut [u8], header: Header) -> Answer
     requires { Known memory.old header }
     ensures { Leaves result memory output commit }
 {
-    let queued = header.queued as usize;
-    let k = next_marked(memory, 0, queued, Mark::Processed);
-    if k == queued {
+    let Some(k) = next_marked(memory, 0, header.queued as usize, Mark::Processed) else {
         return refused(6);
-    }
+    };
     let entry = read_entry(memory, HEADER_SIZE + QUEUE_SIZE * k);
     let message = entry.message;
     if header.agreed <= message.hour {

@@ -1,45 +1,27 @@
 // The two gateways of the last example commit what they can.
 #![tactic(auto)]
 
-ghost use Rattle.std.specs.Prelude.{◌≤◌, length};
-
 use commit::commit;
-use lines::{Ends, append};
+use lines::{Gateway, append};
+use std::alloc::AllocError;
 
 // The last step of a turn: gateway 0 commits what it can, then gateway 1.
-pub fn commit_both(
-    first: &mut [u8],
-    second: &mut [u8],
-    record0: &mut [u8],
-    record1: &mut [u8],
-    ends: Ends,
-) -> Ends
-    requires { (ends.first ≤ length record0.old) × (ends.second ≤ length record1.old) }
-    ensures { (result.first ≤ length record0.old) × (result.second ≤ length record1.old) }
-{
-    let end0 = commit_all(first, record0, ends.first);
-    let end1 = commit_all(second, record1, ends.second);
-    Ends {
-        first: end0,
-        second: end1,
+pub fn commit_both(gateways: &mut [Gateway; 2]) -> Result<(), AllocError> {
+    for gateway in gateways.iter_mut() {
+        commit_all(gateway)?;
     }
+    Ok(())
 }
 
 // A gateway commits until it answers other than 0, at most 1000 events.
-fn commit_all(memory: &mut [u8], events: &mut [u8], end: usize) -> usize
-    requires { end ≤ length events.old }
-    ensures { result ≤ length events.old }
-{
-    let mut output = io::buffer();
-    let mut last = end;
-    let mut turns: u32 = 1000;
-    while turns > 0 {
-        let answer = commit(memory, &mut output);
+fn commit_all(gateway: &mut Gateway) -> Result<(), AllocError> {
+    let mut output = [0u8; 4096];
+    for _ in 0..1000 {
+        let answer = commit(&mut gateway.memory, &mut output);
         if answer.number != 0 {
-            return last;
+            break;
         }
-        last = append(events, last, &output, answer.written);
-        turns -= 1;
+        append(&mut gateway.events, &output, answer.written)?;
     }
-    last
+    Ok(())
 }

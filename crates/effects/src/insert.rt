@@ -1,12 +1,11 @@
 // An entry that is not processed, and an entry put into its queue place, those from there on moved up.
 ghost use Rattle.std.specs.Prelude.{◌≡◌, ◌+◌, ◌≤◌, length};
 ghost use Rattle.memory.specs.Layout.{queue_size, queue_at};
-ghost use Rattle.memory.specs.Validity.{no_state};
 ghost use Rattle.gateway.specs.Undoing.{pending_entry};
 ghost use Rattle.gateway.specs.Taking.{waiting_entry};
 ghost use Rattle.effects.specs.Inside.Placed.{entry_inserted};
 
-use buffer::move_up;
+use buffer::move_within;
 use encoding::write_entry;
 use memory::{Entry, HEADER_SIZE, Mark, QUEUE_SIZE};
 use model::{Message, State};
@@ -18,7 +17,7 @@ pub fn pending(message: Message) -> Entry
     Entry {
         message,
         mark: Mark::Pending,
-        before: no_state(),
+        before: State::default(),
     }
 }
 
@@ -29,19 +28,7 @@ pub fn waiting(message: Message) -> Entry
     Entry {
         message,
         mark: Mark::Waiting,
-        before: no_state(),
-    }
-}
-
-// What stands for the state before an entry that is not processed.
-fn no_state() -> State
-    ensures { result ≡ no_state }
-{
-    State {
-        stock: 0,
-        failed: 0,
-        fitted: 0,
-        short: 0,
+        before: State::default(),
     }
 }
 
@@ -51,6 +38,6 @@ pub fn insert_place(memory: &mut [u8], queued: usize, k: usize, entry: Entry)
     ensures { memory.new ≡ entry_inserted queued k entry memory.old }
 {
     let at = HEADER_SIZE + QUEUE_SIZE * k;
-    move_up(memory, at, at + QUEUE_SIZE, QUEUE_SIZE * (queued - k));
+    move_within(memory, at, at + QUEUE_SIZE, QUEUE_SIZE * (queued - k));
     write_entry(memory, at, entry);
 }

@@ -1,14 +1,12 @@
 // What is asked of a stored message: its mark, whether it equals another or is later, the frame that it is, and where it is done.
 #![tactic(auto)]
 
-ghost use Rattle.std.specs.Prelude.{◌≡◌, not};
-ghost use Rattle.model.specs.EventOrder.{different};
+ghost use Rattle.std.specs.Prelude.{◌≡◌};
 ghost use Rattle.memory.specs.Records.{site_of};
-ghost use Rattle.memory.specs.Validity.{pending_mark, processed_mark, waiting_mark, equal, is_after, later, one_waits, frame_if};
+ghost use Rattle.memory.specs.Validity.{pending_mark, processed_mark, waiting_mark, equal, later, one_waits, frame_if};
 
 use frame::{Frame, Sense};
 use memory::{Mark, Settings};
-use model::order::Comparison;
 use model::{Message, Site};
 use order::compare;
 
@@ -16,102 +14,60 @@ use order::compare;
 pub fn is_pending(mark: Mark) -> bool
     ensures { result ≡ pending_mark mark }
 {
-    match mark {
-        Mark::Pending => true,
-        Mark::Processed => false,
-        Mark::Waiting => false,
-    }
+    mark == Mark::Pending
 }
 
 pub fn is_processed(mark: Mark) -> bool
     ensures { result ≡ processed_mark mark }
 {
-    match mark {
-        Mark::Pending => false,
-        Mark::Processed => true,
-        Mark::Waiting => false,
-    }
+    mark == Mark::Processed
 }
 
 pub fn is_waiting(mark: Mark) -> bool
     ensures { result ≡ waiting_mark mark }
 {
-    match mark {
-        Mark::Pending => false,
-        Mark::Processed => false,
-        Mark::Waiting => true,
-    }
+    mark == Mark::Waiting
 }
 
 // Whether one of the two is a waiting cancel and the other is not.
 pub fn one_waits(a: Mark, b: Mark) -> bool
     ensures { result ≡ one_waits a b }
 {
-    if is_waiting(a) {
-        return !is_waiting(b);
-    }
-    is_waiting(b)
+    is_waiting(a) != is_waiting(b)
 }
 
 // Whether two messages are wholly equal.
+#[tactic(auto, unfolding(memory::specs::Validity::equal))]
 pub fn equal(a: Message, b: Message) -> bool
     ensures { result ≡ equal a b }
 {
-    is_same(compare(a, b))
+    compare(a, b).is_eq()
 }
 
 // Whether a is later than b in event order.
+#[tactic(auto, unfolding(memory::specs::Validity::later))]
 pub fn later(a: Message, b: Message) -> bool
     ensures { result ≡ later a b }
 {
-    is_after(compare(a, b))
-}
-
-fn is_same(found: Comparison) -> bool
-    ensures { result ≡ not (different found) }
-{
-    match found {
-        Comparison::Before => false,
-        Comparison::Same => true,
-        Comparison::After => false,
-    }
-}
-
-fn is_after(found: Comparison) -> bool
-    ensures { result ≡ is_after found }
-{
-    match found {
-        Comparison::Before => false,
-        Comparison::Same => false,
-        Comparison::After => true,
-    }
+    compare(a, b).is_gt()
 }
 
 // A message as a frame: a cancel, or plain.
 pub fn frame_if(cancel: bool, message: Message) -> Frame
     ensures { result ≡ frame_if cancel message }
 {
-    if cancel {
-        return Frame {
-            message,
-            sense: Sense::Cancel,
-        };
-    }
-    Frame {
-        message,
-        sense: Sense::Plain,
-    }
+    let sense = if cancel { Sense::Cancel } else { Sense::Plain };
+    Frame { message, sense }
 }
 
 // Where a gateway's messages are done.
 pub fn site_of(settings: Settings) -> Site
     ensures { result ≡ site_of settings }
 {
-    let hours = settings.hours;
     Site {
         own: settings.own,
         supplier: settings.supplier,
         last: settings.last,
-        hours,
+        hours: settings.hours,
     }
 }

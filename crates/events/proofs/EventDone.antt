@@ -1,7 +1,7 @@
 -- Laws of one event of work: that none is left, that there is no room for it, or that it is done.
 use mathlib.Core.Path.{◌≡◌, refl, sym, ◌∙◌, ap, subst}
-use mathlib.Core.Bool.{Bool, true, false, cond, not, ◌&&◌}
-use mathlib.Core.List.{List, [], ◌∷◌, ◌++◌}
+use mathlib.Core.Bool.{Bool, true, false, not, ◌&&◌}
+use mathlib.Core.List.{List, ◌∷◌, ◌++◌}
 use Prim.Native.Nat.{ℕ, suc, ◌+◌, ◌-◌, ◌*◌, ◌≤◌, ◌<◌}
 use native.Mathlib.Nat.{add-zero}
 use native.Mathlib.Omega.{arith}
@@ -11,7 +11,6 @@ use lib.Seq.{length-take-le}
 use borrow.Author.Tests.{le-leb, leb-true, not-true, not-false}
 use Rattle.lists.specs.Lists.{tally}
 use Rattle.lists.specs.Inside.Positions.{first_where}
-use Rattle.lists.proofs.PositionLaws.{first-bound}
 use Rattle.buffer.specs.Slice.{part, write}
 use Rattle.model.specs.Messages.{quantity_of}
 use Rattle.model.specs.Doing.{most_stock, after, reply_to, sent_by}
@@ -19,7 +18,7 @@ use Rattle.model.proofs.Sending.{reply-sends}
 use Rattle.model.specs.declared.Message.{Message}
 use Rattle.model.specs.declared.State.{State}
 use Rattle.model.specs.declared.Site.{Site}
-use Rattle.model.specs.declared.event.Reply.{Reply}
+use Rattle.std.specs.Prelude.{Option, None, Some}
 use Rattle.memory.specs.Layout.{header_size, queue_at, queue_size}
 use Rattle.memory.specs.Records.{Gateway, header_of, site_of}
 use Rattle.memory.specs.Codec.{entry_of, entry_bytes, places_at}
@@ -68,51 +67,38 @@ module _ {before memory : List ℕ} {t : Turn} {g : Gateway} (reached : Reached 
 
   pub none_left : (room : ℕ) {k : ℕ} → k ≡ t.place + first_where (has_mark Pending) (places_at entry_of queue_size memory (header_size + queue_size * t.place)
       (t.header.queued - t.place))
-      → k ≡ t.header.queued → {r : Turn} → r ≡ stopped_with 6 t → Turned (worked 1 (room - t.written) g) before memory t r
+      → t.header.queued ≤ k → {r : Turn} → r ≡ stopped_with 6 t → Turned (worked 1 (room - t.written) g) before memory t r
   none_left room f e i =
       turn_stopped reached 6
       (worked-none (room - t.written) g 0 (none-pending g.queue (omega (arith, found-next f, placed-count reached.placed))))
       i
 
--- a place that the search finds among those used
-pub place-below : (memory : List ℕ) {place queued k : ℕ} → place ≤ queued → k ≡ place + first_where (has_mark Pending) (places_at entry_of queue_size
-    memory (queue_at place) (queued - place))
-    → (k ≡ queued → ⊥) → k < queued
-place-below memory {place} {queued} h f n =
-    let es = places_at entry_of queue_size memory (queue_at place) (queued - place) in
-    omega (arith, first-bound (has_mark Pending) es, length-read entry_of queue_size memory (queue_at place) (queued - place))
-
--- and the message there leaves a stock that is no more than it can come to
+-- the message there leaves a stock that is no more than it can come to
 pub stock-there : (memory : List ℕ) (stock : ℕ) {place queued k : ℕ} → place ≤ queued
-    → k ≡ place + first_where (has_mark Pending) (places_at entry_of queue_size memory (queue_at place) (queued - place)) → (k ≡ queued → ⊥)
+    → k ≡ place + first_where (has_mark Pending) (places_at entry_of queue_size memory (queue_at place) (queued - place)) → k < queued
     → stock + tally still_brings (places_at entry_of queue_size memory (queue_at place) (queued - place)) ≤ most_stock
     → stock + quantity_of (entry_of (part memory (queue_at k) queue_size)).message.kind ≤ most_stock
 stock-there memory stock {place} {queued} {k} h f n room =
     let es = places_at entry_of queue_size memory (queue_at place) (queued - place) in
     let d = entry_of (part memory (queue_at k) queue_size) in
     let few = length-read entry_of queue_size memory (queue_at place) (queued - place) in
-    let below : first_where is_pending es < queued - place = omega (arith, place-below memory h f n) in
+    let below : first_where is_pending es < queued - place = omega (arith, f) in
     let at : queue_at place + queue_size * first_where is_pending es ≡ queue_at k = omega (arith, f) in
     let there : get_or es (first_where is_pending es) d ≡ d = place_at entry_of queue_size memory (queue_at place) (queued - place) (first_where is_pending es) d below ∙ rw at in
     omega (arith, room, rw there at (next-brings es d (omega (arith, few))))
 
 -- what is sent beside the rest of a gateway
-module _ (reply : Reply) (g : Gateway) where
+module _ (reply : Option Message) (g : Gateway) where
   sent-fits : (room : ℕ) → length g.queue ≤ g.settings.q
       → fits room (record { gateway = sent_all false (sent_by reply) g; frames = frames_for false (sent_by reply) })
       ≡ (leb (length g.outstanding + length (sent_by reply)) g.settings.u && leb (length (bytes_of_frames (frames_for false (sent_by reply)))) room)
   unfolding fits sent_all sent_one
-  sent-fits room h = by-case reply.sends
+  sent-fits room h = by-case reply
     where
-      by-case : (b : Bool) → fits room (record {
-        gateway = sent_all false (cond b (reply.sent ∷ []) []) g;
-        frames = frames_for false (cond b
-            (reply.sent ∷ []) []);
-      })
-          ≡ (leb (length g.outstanding + length (cond b (reply.sent ∷ []) [])) g.settings.u && leb (length (bytes_of_frames (frames_for
-          false (cond b (reply.sent ∷ []) [])))) room)
-      by-case true = rw (le-leb (length g.queue) g.settings.q h, length-append)
-      by-case false = rw (le-leb (length g.queue) g.settings.q h, add-zero)
+      by-case : (r : Option Message) → fits room (record { gateway = sent_all false (sent_by r) g; frames = frames_for false (sent_by r) })
+          ≡ (leb (length g.outstanding + length (sent_by r)) g.settings.u && leb (length (bytes_of_frames (frames_for false (sent_by r)))) room)
+      by-case (Some m) = rw (le-leb (length g.queue) g.settings.q h, length-append)
+      by-case None = rw (le-leb (length g.queue) g.settings.q h, add-zero)
 
 -- a header with the state after a message
 abbrev pub header_after : State → Header → Header
@@ -132,7 +118,7 @@ processed_in state g = with_state state (with_queue (processed_next g.state g.qu
 -- doing the message in queue place k
 module _ {before memory : List ℕ} {t : Turn} {g : Gateway} (reached : Reached before memory t g) {k : ℕ} (below : k < t.header.queued)
     (first : k ≡ first_where is_pending g.queue) {e : Entry} (read : e ≡ entry_of (part memory (queue_at k) queue_size))
-    {site : Site} (site-is : site ≡ site_of t.header.settings) (reply : Reply) (gives : reply ≡ reply_to site t.header.state e.message)
+    {site : Site} (site-is : site ≡ site_of t.header.settings) (reply : Option Message) (gives : reply ≡ reply_to site t.header.state e.message)
     {next : State} (next-is : next ≡ after t.header.state e.message.kind) where
   header_is : t.header ≡ header_of g
   header_is = reached.placed.header
@@ -242,7 +228,7 @@ module _ {before memory : List ℕ} {t : Turn} {g : Gateway} (reached : Reached 
               })
 
 -- what sending it asks for
-module _ {memory : List ℕ} {room : ℕ} {t : Turn} (ready : Ready memory room t) (reply : Reply) {has : Bool} (has-is : has ≡ room_for t.header
+module _ {memory : List ℕ} {room : ℕ} {t : Turn} (ready : Ready memory room t) (reply : Option Message) {has : Bool} (has-is : has ≡ room_for t.header
     (room - t.written) reply) (n : not has ≡ false) where
   there-is : room_for t.header (room - t.written) reply ≡ true
   there-is = sym has-is ∙ not-false has n

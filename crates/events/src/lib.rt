@@ -23,13 +23,11 @@ pub fn work_one(memory: &mut [u8], room: usize, turn: Turn) -> Turn
     requires { Ready memory.old room turn }
     ensures { Turns memory.old room memory.new turn result }
 {
-    let header = turn.header;
-    let queued = header.queued as usize;
-    let k = next_marked(memory, turn.place, queued, Mark::Pending);
-    if k == queued {
-        return stopped(turn, 6);
+    let queued = turn.header.queued as usize;
+    match next_marked(memory, turn.place, queued, Mark::Pending) {
+        Some(k) => work_at(memory, room, turn, k),
+        None => stopped(turn, 6),
     }
-    work_at(memory, room, turn, k)
 }
 
 // Does the message in queue place k.

@@ -6,17 +6,18 @@ ghost use Rattle.gateway.specs.Calls.{set_up};
 ghost use Rattle.example_opening.specs.Inside.Settings.{example_opening};
 
 use gateway::Opening;
-use lines::{append, put_plain, town_hours};
+use lines::{Gateway, push_plain, town_hours};
 use model::{Kind, Message};
 use opening::set_up::set_up;
+use std::alloc::{AllocError, Global};
 
 // Sets both gateways up, gateway 0 with the list.
-pub fn set_up_both(first: &mut [u8], second: &mut [u8], list: &[u8])
-    ensures { (first.new ≡ (set_up (example_opening 0 0) list.now first.old).memory)
-        × (second.new ≡ (set_up (example_opening 1 1) [] second.old).memory) }
+pub fn set_up_both(first: &mut Gateway, second: &mut Gateway, list: &[u8])
+    ensures first { first.new.memory.items ≡ (set_up (example_opening 0 0) list.now first.old.memory.items).memory }
+    ensures second { second.new.memory.items ≡ (set_up (example_opening 1 1) [] second.old.memory.items).memory }
 {
-    set_up(first, opening(0, 0), list);
-    set_up(second, opening(1, 1), b"");
+    set_up(&mut first.memory, opening(0, 0), list);
+    set_up(&mut second.memory, opening(1, 1), b"");
 }
 
 // The settings of the example. Supplier of both is gateway 1.
@@ -35,13 +36,13 @@ fn opening(own: u32, stock: u32) -> Opening
     }
 }
 
-// Puts gateway 0's opening list: at hour 10, Failures of L00000000000000001 and L00000000000000002, each of 27 bytes.
-pub fn put_list(list: &mut [u8]) {
-    let mut output = io::buffer();
-    let one = put_plain(&mut output, failure(b'1'));
-    let end = append(list, 0, &output, one);
-    let two = put_plain(&mut output, failure(b'2'));
-    append(list, end, &output, two);
+// Gateway 0's opening list: at hour 10, Failures of L00000000000000001 and L00000000000000002, each of 27 bytes.
+pub fn opening_list(alloc: Global) -> Result<Vec<u8>, AllocError> {
+    let mut list = Vec::new(alloc);
+    for digit in [b'1', b'2'] {
+        push_plain(&mut list, failure(digit))?;
+    }
+    Ok(list)
 }
 
 // The Failure of the lamp that ends in that digit.

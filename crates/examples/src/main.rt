@@ -5,28 +5,18 @@
 ghost use Rattle.std.specs.Prelude.{◌≤◌};
 
 use agreement::compare;
-use example_opening::{put_list, set_up_both};
+use example_opening::{opening_list, set_up_both};
+use lines::Gateway;
 use neighbours::middles::Middles;
 use printing::print_record;
+use std::alloc::Global;
 use std::io;
 use turns::take_turns;
 
 fn main(rt: HostRuntime) -> io::Result<()> {
-    let mut first = [0u8; 65536];
-    let mut second = [0u8; 65536];
-    let mut line = [0u8; 65536];
-    let mut record0 = [0u8; 4096];
-    let mut record1 = [0u8; 4096];
     print_sharing(&rt, 22)?;
     print_sharing(&rt, 23)?;
-    print_example(
-        &rt,
-        &mut first,
-        &mut second,
-        &mut line,
-        &mut record0,
-        &mut record1,
-    )
+    print_example(&rt, rt.alloc())
 }
 
 // Prints whether the two trees of n gateways share a bottom row, as Figure 2's row says.
@@ -40,21 +30,16 @@ fn print_sharing(rt: &impl Print, n: u32) -> io::Result<()>
     }
 }
 
-// Prints the records that the gateways commit, with a carrier between them, then whether the single queue gives the same. The memories
-// and the line of frames under way are lent; a memory with 512 places of each kind has 49,408 bytes.
-fn print_example(
-    rt: &impl Print,
-    first: &mut [u8; 65536],
-    second: &mut [u8; 65536],
-    line: &mut [u8; 65536],
-    record0: &mut [u8; 4096],
-    record1: &mut [u8; 4096],
-) -> io::Result<()> {
-    let mut list = [0u8; 54];
-    put_list(&mut list);
-    set_up_both(first, second, &list);
-    let ends = take_turns(first, second, line, record0, record1);
-    print_record(rt, 0, record0, ends.first)?;
-    print_record(rt, 1, record1, ends.second)?;
-    compare(rt, &list, record0, record1, ends)
+// Prints the records that the gateways commit, with a carrier between them, then whether the single queue gives the same.
+fn print_example(rt: &impl Print, alloc: Global) -> io::Result<()> {
+    let list = opening_list(alloc)?;
+    let mut first = Gateway::new(alloc)?;
+    let mut second = Gateway::new(alloc)?;
+    set_up_both(&mut first, &mut second, &list);
+    let mut gateways = [first, second];
+    take_turns(alloc, &mut gateways)?;
+    for (own, gateway) in gateways.iter().enumerate() {
+        print_record(rt, own, &gateway.events)?;
+    }
+    compare(rt, alloc, &list, &gateways)
 }

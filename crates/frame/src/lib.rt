@@ -10,7 +10,7 @@ pub mod pieces; // pieces.rt: frames one behind the other
 pub mod tables; // tables.rt: the table of kinds, the widths of the fields and the whole length
 
 // What a frame says of its message. A plain message has no sense.
-#[derive(Clone, Copy)]
+#[derive(Clone, Copy, PartialEq, Eq)]
 pub enum Sense {
     Plain,
     Cancel,
@@ -18,7 +18,7 @@ pub enum Sense {
     CancelAcknowledgment,
 }
 
-#[derive(Clone, Copy)]
+#[derive(Clone, Copy, PartialEq, Eq)]
 pub struct Frame {
     pub message: Message,
     pub sense: Sense,

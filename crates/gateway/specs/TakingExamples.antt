@@ -7,7 +7,7 @@ use Rattle.model.specs.declared.Kind.{Kind}
 use Rattle.model.specs.declared.Kind.TheVariants.{Failure, Request, Delivery, Start, Lvt, Update}
 use Rattle.model.specs.declared.Message.{Message}
 use Rattle.model.specs.declared.State.{State}
-use Rattle.model.specs.declared.order.Comparison.TheVariants.{Before}
+use Rattle.std.specs.declared.cmp.Ordering.TheVariants.{Less}
 use Rattle.frame.specs.Writing.{written}
 use Rattle.frame.specs.declared.Frame.{Frame}
 use Rattle.memory.specs.Records.{Gateway}
@@ -167,8 +167,8 @@ pub record TakingExamples : Type 0 where
   pub nothing_to_do : ((worked 1 0 between_rounds).why ≡ 6) × ((worked 1 26 (among_two 0 12 (pending_entry (failure 0 20 49) ∷ []) [])).why ≡ 5)
       × ((worked 1 27 (among_two 0 12 (pending_entry (failure 0 20 49) ∷ []) [])).why ≡ 0)
   -- messages that differ in from alone, or in to alone, are different: that of the lower number comes first
-  pub by_from : compared (key (sent_from 0)) (key (sent_from 1)) ≡ Before
-  pub by_to : compared (key (sent_to 0)) (key (sent_to 1)) ≡ Before
+  pub by_from : compared (key (sent_from 0)) (key (sent_from 1)) ≡ Less
+  pub by_to : compared (key (sent_to 0)) (key (sent_to 1)) ≡ Less
   -- a cancel of one strikes out no other: it waits behind it; and that one does not vanish with it
   pub other_cancel : (taking (frame_if true (sent_from 1)) 28 (among_two 0 12 (pending_entry (sent_from 0) ∷ []) [])).gateway.queue
       ≡ pending_entry (sent_from 0) ∷ waiting_entry (sent_from 1) ∷ []

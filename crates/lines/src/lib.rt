@@ -1,30 +1,36 @@
-// Frames, records and messages in lent buffers, for the last example: what a buffer has no room for is left out, and the program's
-// buffers have room for all.
+// The two gateways of the last example, and frames one behind the other.
 #![tactic(auto)]
 
-ghost use Rattle.std.specs.Prelude.{◌≡◌, ◌+◌, ◌≤◌, ◌<◌, length};
-ghost use Rattle.buffer.specs.Slice.{part};
-ghost use Rattle.memory.specs.Layout.{header_size, queue_at};
+ghost use Rattle.std.specs.Prelude.{◌≡◌, [], ◌++◌, ◌<◌, length, take, drop, OnOk, OnErr, IfOk, vec_len};
+ghost use Rattle.std.specs.Iterator.{at_most};
 ghost use Rattle.gateway.specs.Examples.{town_hours};
-ghost use Rattle.lines.specs.Inside.Putting.{size_at, appended, copied, plain_put, entered_in, reply_entered};
+ghost use Rattle.lines.specs.Inside.Frames.{first_size, plain_frame};
 
-use buffer::{copy, move_up};
-use effects::insert::{insert_place, pending};
 use entries::frame_if;
 use frame::WriteAnswer;
 use frame::tables::whole_length;
-use memory::{HEADER_SIZE, QUEUE_SIZE};
-use model::event::Reply;
 use model::{LeadTimes, Message};
-use places::search::{Search, find};
-use reader::read;
+use std::alloc::{AllocError, Global};
 use writer::write;
 
-// Where the records of the two gateways end.
-#[derive(Clone, Copy)]
-pub struct Ends {
-    pub first: usize,
-    pub second: usize,
+// A gateway: its memory, and the record of the events that it has committed.
+#[derive(Drop)]
+pub struct Gateway {
+    pub memory: Vec<u8>,
+    pub events: Vec<u8>,
+}
+
+impl Gateway {
+    // A gateway before it is set up. A memory with 512 places of each kind has 49,408 bytes.
+    pub fn new(alloc: Global) -> Result<Gateway, AllocError>
+        ensures memory { IfOk result (λ g. vec_len g.memory ≡ 65536) }
+        ensures events { IfOk result (λ g. g.events.items ≡ []) }
+    {
+        Ok(Gateway {
+            memory: vec![in alloc; 0u8; 65536]?,
+            events: Vec::new(alloc),
+        })
+    }
 }
 
 // Request, delivery and life hours of both gateways.
@@ -38,104 +44,54 @@ pub fn town_hours() -> LeadTimes
     }
 }
 
-// The length of the frame at a position, which its map gives; no more than there is.
-pub fn size_at(frames: &[u8], at: usize) -> usize
-    requires { at < length frames.now }
-    ensures { (result ≡ size_at frames.now at) × (1 ≤ result) × (at + result ≤ length frames.now) }
+// The first of some frames, and what stands behind it.
+pub fn split_frame(frames: &[u8]) -> (&[u8], &[u8])
+    requires { 0 < length frames.now }
+    ensures frame { result.0.now ≡ take (first_size frames.now) frames.now }
+    ensures behind { result.1.now ≡ drop (first_size frames.now) frames.now }
+    ensures shorter { length result.1.now < length frames.now }
 {
-    let size = whole_length(frames[at]);
-    if frames.len() - at < size {
-        return frames.len() - at;
-    }
-    size
+    let size = whole_length(frames[0]);
+    frames.split_at(size.min(frames.len()))
 }
 
-// Puts the first so many bytes of the output behind the end of the line, and answers the end.
-pub fn append(line: &mut [u8], end: usize, output: &[u8], count: usize) -> usize
-    requires { end ≤ length line.old }
-    ensures { (record { bytes = line.new; used = result } ≡ copied output.now count line.old end)
-        × (end ≤ result)
-        × (result ≤ length line.old) }
-{
-    if output.len() < count {
-        return end;
-    }
-    if line.len() - end < count {
-        return end;
-    }
-    copy(line, end, &output[..count]);
-    end + count
-}
+// Frames that stand one behind the other, from the first on.
+#[derive(Drop)]
+pub struct Frames<'a>(pub &'a [u8]);
 
-// Puts the frame at a position once more, at the end of the line.
-pub fn put_again(line: &mut [u8], at: usize, size: usize, end: usize) -> usize
-    requires { (at ≤ end) × (end ≤ length line.old) }
-    ensures { (record { bytes = line.new; used = result } ≡ appended size (part line.old at size) line.old end)
-        × (end ≤ result)
-        × (result ≤ length line.old) }
-{
-    if line.len() - end < size {
-        return end;
-    }
-    move_up(line, at, end, size);
-    end + size
-}
+impl<'a> Iterator for Frames<'a> {
+    type Item = &'a [u8];
 
-// Puts a plain message's frame at the beginning of the output, and answers its length, 0 where there is no room.
-pub fn put_plain(output: &mut [u8], message: Message) -> usize
-    ensures { record { bytes = output.new; used = result } ≡ plain_put message output.old }
-{
-    match write(output, frame_if(false, message)) {
-        WriteAnswer::Written(count) => count,
-        WriteAnswer::NoFrame => 0,
-        WriteAnswer::WrongLamp => 0,
-        WriteAnswer::NoRoom => 0,
+    ghost remaining = { λ s. at_most (length s.0.now) };
+
+    fn next(&mut self) -> Option<&'a [u8]> {
+        if self.0.is_empty() {
+            return None;
+        }
+        let (frame, behind) = split_frame(self.0);
+        self.0 = behind;
+        Some(frame)
     }
 }
 
-// Enters each message of the list, and answers how many the queue then has.
-pub fn enter_list(list: &[u8], queue: &mut [u8]) -> usize
-    requires { header_size ≤ length queue.old }
-    ensures { queue_at result ≤ length queue.old }
+// Puts the first so many bytes of an output behind the frames that there are.
+pub fn append(frames: &mut Vec<u8>, output: &[u8], count: usize) -> Result<(), AllocError>
+    ensures ok { OnOk result (frames.new.items ≡ frames.old.items ++ take count output.now) }
+    ensures err { OnErr result (frames.new.items ≡ frames.old.items) }
 {
-    let mut count = 0;
-    let mut at = 0;
-    while at < list.len() {
-        let end = at + size_at(list, at);
-        let reading = read(&list[at..end]);
-        let frame = reading.frame;
-        let message = frame.message;
-        count = enter(queue, count, message);
-        at = end;
-    }
-    count
+    frames.extend_from_slice(&output[..count.min(output.len())])
 }
 
-// Enters a message behind those of so many that are not later, and answers how many there then are.
-pub fn enter(queue: &mut [u8], count: usize, message: Message) -> usize
-    requires { queue_at count ≤ length queue.old }
-    ensures { (record { bytes = queue.new; used = result } ≡ entered_in queue.old count message)
-        × (count ≤ result)
-        × (queue_at result ≤ length queue.old) }
+// Puts a plain message's frame behind the frames that there are. A message that is no frame is left out.
+pub fn push_plain(frames: &mut Vec<u8>, message: Message) -> Result<(), AllocError>
+    ensures ok { OnOk result (frames.new.items ≡ frames.old.items ++ plain_frame message) }
+    ensures err { OnErr result (frames.new.items ≡ frames.old.items) }
 {
-    if queue.len() - QUEUE_SIZE * count < HEADER_SIZE + QUEUE_SIZE {
-        return count;
+    let mut frame = [0u8; 28];
+    match write(&mut frame, frame_if(false, message)) {
+        WriteAnswer::Written(count) => append(frames, &frame, count),
+        WriteAnswer::NoFrame => Ok(()),
+        WriteAnswer::WrongLamp => Ok(()),
+        WriteAnswer::NoRoom => Ok(()),
     }
-    let k = find(queue, count, Search::Later, message);
-    insert_place(queue, count, k, pending(message));
-    count + 1
-}
-
-// Enters what a reply sends, if it sends a message.
-pub fn enter_sent(queue: &mut [u8], count: usize, reply: Reply) -> usize
-    requires { queue_at count ≤ length queue.old }
-    ensures { (record { bytes = queue.new; used = result } ≡ reply_entered queue.old count reply)
-        × (count ≤ result)
-        × (queue_at result ≤ length queue.old) }
-{
-    if !reply.sends {
-        return count;
-    }
-    let message = reply.sent;
-    enter(queue, count, message)
 }

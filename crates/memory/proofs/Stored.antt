@@ -1,12 +1,12 @@
 -- Bytes written one behind the other are one write: the header, a state, a message, a place.
 use mathlib.Core.Path.{◌≡◌, refl, ◌∙◌}
-use Prim.Native.Nat.{ℕ, ◌+◌, ◌-◌, ◌<◌, ◌≤◌}
+use Prim.Native.Nat.{ℕ, ◌+◌, ◌<◌, ◌≤◌}
 use native.Mathlib.Omega.{arith}
 use mathlib.Core.List.{List, [], ◌∷◌, ◌++◌, append_assoc}
-use lib.ListN.{length, set, take, drop, replicate, length-append}
+use lib.ListN.{length, set, replicate, length-append}
 use borrow.Author.Tests.{ne_eqb}
 use Rattle.buffer.proofs.Numbers.{one_byte}
-use Rattle.buffer.specs.Slice.{part, write}
+use Rattle.buffer.specs.Slice.{write}
 use Rattle.buffer.specs.Number.{bytes_of}
 use Rattle.buffer.proofs.Writes.{length-write, write-join, write-snoc, set-write}
 use Rattle.buffer.proofs.Numbers.{length-bytes_of}
@@ -27,11 +27,6 @@ use Rattle.memory.specs.declared.Phase.TheVariants.{Stopped}
 -- a write behind a write of known length
 pub write-behind : (at n k : ℕ) (xs ys m : List ℕ) → length xs ≡ n → k ≡ at + n → k ≤ length m → write k ys (write at xs m) ≡ write at (xs ++ ys) m
 write-behind at n k xs ys m size e fits = rw (e, ← size) (write-join at xs ys m (omega arith))
-
--- the bytes of m from a position to an end
-pub part-between : (m : List ℕ) (at n : ℕ) → take (at + n - at) (drop at m) ≡ part m at n
-unfolding part
-part-between m at n = let e : at + n - at ≡ n = omega arith in rw e
 
 -- one byte, and two
 pub pair-stored : (m : List ℕ) (at a b : ℕ) → at + 2 ≤ length m → a < 256 → b < 256 → set (set m at a) (at + 1) b ≡ write at (bytes_of 1 a ++ bytes_of 1 b) m

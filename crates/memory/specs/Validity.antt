@@ -4,11 +4,10 @@ use Rattle.lists.specs.Lists.{every, tally}
 use Rattle.routing.specs.Arcs.{from, to}
 use Rattle.model.specs.Messages.{kind_number, quantity_of}
 use Rattle.model.specs.Doing.{lead_times_valid, most_stock}
-use Rattle.model.specs.EventOrder.{key, compared, different}
+use Rattle.std.specs.Ordering.{is_eq, is_gt}
+use Rattle.model.specs.EventOrder.{key, compared}
 use Rattle.model.specs.declared.Message.{Message}
 use Rattle.model.specs.declared.State.{State}
-use Rattle.model.specs.declared.order.Comparison.{Comparison}
-use Rattle.model.specs.declared.order.Comparison.TheVariants.{Before, Same, After}
 use Rattle.frame.specs.Kinds.{has_lamp}
 use Rattle.frame.specs.Writing.{well_formed}
 use Rattle.frame.specs.Limits.{numbers_below, nothing_due}
@@ -76,16 +75,11 @@ is_waiting e = waiting_mark e.mark
 
 -- the two messages are wholly equal
 unfoldable pub equal : Message → Message → Bool
-equal a b = not (different (compared (key a) (key b)))
+equal a b = is_eq (compared (key a) (key b))
 
 -- a is later than b in event order
-abbrev pub is_after : Comparison → Bool
-is_after Before = false
-is_after Same = false
-is_after After = true
-
 unfoldable pub later : Message → Message → Bool
-later a b = is_after (compared (key a) (key b))
+later a b = is_gt (compared (key a) (key b))
 
 -- the queue is in event order
 unfoldable pub ordered : List Entry → Bool

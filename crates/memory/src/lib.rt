@@ -26,7 +26,7 @@ pub const OUTSTANDING_COUNT_AT: usize = 12;
 pub const STATE_AT: usize = 38;
 
 // What set up was told. The letters are document 01's: n gateways, last hour H, q queue places, u outstanding places; then the lead times.
-#[derive(Clone, Copy)]
+#[derive(Clone, Copy, PartialEq, Eq)]
 pub struct Settings {
     pub n: u8,
     pub own: u8,
@@ -38,7 +38,7 @@ pub struct Settings {
 }
 
 // What a queue place holds: a plain message not processed, one that is, or a waiting cancel.
-#[derive(Clone, Copy)]
+#[derive(Clone, Copy, PartialEq, Eq)]
 pub enum Mark {
     Pending,
     Processed,
@@ -46,7 +46,7 @@ pub enum Mark {
 }
 
 // A queue place: the message, what it is there as, and for a processed one the state before it, its checkpoint.
-#[derive(Clone, Copy)]
+#[derive(Clone, Copy, PartialEq, Eq)]
 pub struct Entry {
     pub message: Message,
     pub mark: Mark,
@@ -54,14 +54,14 @@ pub struct Entry {
 }
 
 // An outstanding place: a message that was sent and not yet acknowledged, or the cancel of one.
-#[derive(Clone, Copy)]
+#[derive(Clone, Copy, PartialEq, Eq)]
 pub struct Sent {
     pub message: Message,
     pub cancel: bool,
 }
 
 // Where a gateway stands in a round: it waits for its Starts, it has sent its Starts and counts, it has stopped.
-#[derive(Clone, Copy)]
+#[derive(Clone, Copy, PartialEq, Eq)]
 pub enum Phase {
     Idle,
     Counting,

@@ -6,4 +6,3 @@ pub mod Replies
 pub mod Ordered
 pub mod Sending
 pub mod KindNumbers
-pub mod LeadTimeLaws

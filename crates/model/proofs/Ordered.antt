@@ -1,93 +1,31 @@
 -- The laws of the event order: total, antisymmetric, transitive, and equal only for equal messages; the order of hours and kinds.
-use mathlib.Core.Path.{◌≡◌, refl, sym, ◌∙◌, ap, ap₂}
+use mathlib.Core.Path.{◌≡◌, refl, sym, ◌∙◌, ap}
 use Prim.Native.Nat.{ℕ, zero, suc, ◌<◌}
 use native.Mathlib.Omega.{arith}
-use native.Mathlib.Decide.{dec_lt}
 use mathlib.Core.Bool.{cond}
 use mathlib.Core.List.{List, [], ◌∷◌, ◌++◌}
 use lib.Dec.{eqb}
 use lib.ListN.{length, length-append, take, drop}
 use lib.Seq.{take_at, drop_at}
+use Rattle.std.specs.declared.cmp.Ordering.TheVariants.{Less, Equal}
+use Rattle.std.specs.Ordering.{is_eq, nat_cmp}
+use Rattle.std.specs.Cmp.{IsTotalOrder, nat_cmp_total, unsigned_ties, unsigned_Decides, tied_itself}
+use Rattle.std.specs.Cmp.Lexicographic.{slice_cmp, lists_total, lists_ties, pointwise_decides}
 use Rattle.model.specs.Messages.{kind_number, origin_of, quantity_of, kind_of}
-use Rattle.model.specs.EventOrder.{rank, key, compared, numbers, or_else}
-use Rattle.model.specs.Claims.{opposite, EventOrderLaws, HoursAndKinds}
+use Rattle.model.specs.EventOrder.{rank, key, compared}
+use Rattle.model.specs.Claims.{EventOrderLaws, HoursAndKinds}
 use Rattle.model.specs.declared.Kind.{Kind}
 use Rattle.model.specs.declared.Kind.TheVariants.{Failure, Request, Delivery, Restock, Start, Lvt, Update}
 use Rattle.model.specs.declared.Message.{Message}
-use Rattle.model.specs.declared.order.Comparison.{Comparison}
-use Rattle.model.specs.declared.order.Comparison.TheVariants.{Before, Same, After}
-use Rattle.model.proofs.Comparing.{less, more, neither}
-
--- how two numbers stand to each other, with the comparison that says so
-data Stands (x y : ℕ) : Comparison → Type 0 where
-  below : x < y → Stands x y Before
-  equal : x ≡ y → Stands x y Same
-  above : y < x → Stands x y After
-
-stands : (x y : ℕ) → Stands x y (numbers x y)
-stands x y = by_order (dec_lt x y) (dec_lt y x)
-  where
-    by_order : Dec (x < y) → Dec (y < x) → Stands x y (numbers x y)
-    by_order (yes h) d = rw (← less x y h) (below h)
-    by_order (no h) (yes k) = rw (← more x y k) (above k)
-    by_order (no h) (no k) = rw (← neither x y (omega arith) (omega arith)) (equal (omega arith))
+use Rattle.model.proofs.Comparing.{less, same-number}
 
 -- lists of numbers
-pub list-reflexive : (xs : List ℕ) → compared xs xs ≡ Same
+lists : IsTotalOrder (slice_cmp nat_cmp)
+lists = lists_total nat_cmp_total
+
+list-same : (xs ys : List ℕ) → compared xs ys ≡ Equal → xs ≡ ys
 unfolding compared
-list-reflexive [] = refl
-list-reflexive (x ∷ xs) = ap₂ or_else (sym (neither x x (omega arith) (omega arith))) (list-reflexive xs)
-
-pub list_same : (xs ys : List ℕ) → compared xs ys ≡ Same → xs ≡ ys
-unfolding compared
-list_same [] [] e = refl
-list_same [] (y ∷ ys) e = absurd (let z : ◌≡◌ {A = ℕ} 0 1 = cc in omega arith)
-list_same (x ∷ xs) [] e = absurd (let z : ◌≡◌ {A = ℕ} 0 1 = cc in omega arith)
-list_same (x ∷ xs) (y ∷ ys) e = head (numbers x y) (stands x y) e (list_same xs ys)
-  where
-    head : (c : Comparison) → Stands x y c → or_else c (compared xs ys) ≡ Same → (compared xs ys ≡ Same → xs ≡ ys) → x ∷ xs ≡ y ∷ ys
-    head Before w e rest = absurd (let z : ◌≡◌ {A = ℕ} 0 1 = cc in omega arith)
-    head Same (equal p) e rest = ap₂ ◌∷◌ p (rest e)
-    head After w e rest = absurd (let z : ◌≡◌ {A = ℕ} 0 1 = cc in omega arith)
-
-numbers-flip : (x y : ℕ) → numbers y x ≡ opposite (numbers x y)
-numbers-flip x y = seen (numbers x y) (stands x y)
-  where
-    seen : (c : Comparison) → Stands x y c → numbers y x ≡ opposite c
-    seen Before (below h) = sym (more y x h)
-    seen Same (equal e) = sym (neither y x (omega arith) (omega arith))
-    seen After (above h) = sym (less y x h)
-
-opposite-or : (c d : Comparison) → opposite (or_else c d) ≡ or_else (opposite c) (opposite d)
-opposite-or Before d = refl
-opposite-or Same d = refl
-opposite-or After d = refl
-
-pub list-flips : (xs ys : List ℕ) → compared ys xs ≡ opposite (compared xs ys)
-unfolding compared
-list-flips [] [] = refl
-list-flips [] (y ∷ ys) = refl
-list-flips (x ∷ xs) [] = refl
-list-flips (x ∷ xs) (y ∷ ys) = ap₂ or_else (numbers-flip x y) (list-flips xs ys) ∙ sym (opposite-or (numbers x y) (compared xs ys))
-
-pub list-transitive : (xs ys zs : List ℕ) → compared xs ys ≡ Before → compared ys zs ≡ Before → compared xs zs ≡ Before
-unfolding compared
-list-transitive [] [] zs p q = absurd (let z : ◌≡◌ {A = ℕ} 0 1 = cc in omega arith)
-list-transitive [] (y ∷ ys) [] p q = absurd (let z : ◌≡◌ {A = ℕ} 0 1 = cc in omega arith)
-list-transitive [] (y ∷ ys) (z ∷ zs) p q = refl
-list-transitive (x ∷ xs) [] zs p q = absurd (let z : ◌≡◌ {A = ℕ} 0 1 = cc in omega arith)
-list-transitive (x ∷ xs) (y ∷ ys) [] p q = absurd (let z : ◌≡◌ {A = ℕ} 0 1 = cc in omega arith)
-list-transitive (x ∷ xs) (y ∷ ys) (z ∷ zs) p q = heads (numbers x y) (numbers y z) (stands x y) (stands y z) p q (list-transitive xs ys zs)
-  where
-    heads : (c d : Comparison) → Stands x y c → Stands y z d → or_else c (compared xs ys) ≡ Before → or_else d (compared ys zs) ≡ Before
-        → (compared xs ys ≡ Before → compared ys zs ≡ Before → compared xs zs ≡ Before) → or_else (numbers x z) (compared xs zs) ≡ Before
-    heads Before Before (below h) (below k) p q rest = rw (← less x z (omega arith))
-    heads Before Same (below h) (equal k) p q rest = rw (← less x z (omega arith))
-    heads Before After v w p q rest = absurd (let z : ◌≡◌ {A = ℕ} 0 1 = cc in omega arith)
-    heads Same Before (equal h) (below k) p q rest = rw (← less x z (omega arith))
-    heads Same Same (equal h) (equal k) p q rest = rw (← neither x z (omega arith) (omega arith)) (rest p q)
-    heads Same After v w p q rest = absurd (let z : ◌≡◌ {A = ℕ} 0 1 = cc in omega arith)
-    heads After d v w p q rest = absurd (let z : ◌≡◌ {A = ℕ} 0 1 = cc in omega arith)
+list-same xs ys e = (pointwise_decides unsigned_Decides xs ys).0 (lists_ties nat_cmp unsigned_ties xs ys ∙ ap is_eq e)
 
 -- a kind by its number and fields
 pub kind-again : (k : Kind) → kind_of (kind_number k) (origin_of k) (quantity_of k) ≡ k
@@ -163,27 +101,28 @@ key-injective a b e =
     kind = cc (ends, rank-injective a.kind b.kind rankings, kind-again a.kind, kind-again b.kind)
 
 pub event-order : EventOrderLaws
+unfolding compared
 event-order =
     record {
-      reflexive = λ a. list-reflexive (key a);
-      same = λ a b e. key-injective a b (list_same (key a) (key b) e);
-      flips = λ a b. list-flips (key a) (key b);
-      transitive = λ a b c. list-transitive (key a) (key b) (key c);
+      reflexive = λ a. tied_itself lists (key a);
+      same = λ a b e. key-injective a b (list-same (key a) (key b) e);
+      flips = λ a b. lists.antisymm (key b) (key a);
+      transitive = λ a b c. lists.trans (key a) (key b) (key c);
       injective = key-injective;
     }
 
 -- the hour decides, and in one hour the rank
 module _ (a b : Message) where
-  hour-decides : a.hour < b.hour → compared (key a) (key b) ≡ Before
+  hour-decides : a.hour < b.hour → compared (key a) (key b) ≡ Less
   unfolding key compared
-  hour-decides h = rw (← less a.hour b.hour h)
+  hour-decides h = rw (less a.hour b.hour h)
 
-  rank-decides : a.hour ≡ b.hour → rank a.kind < rank b.kind → compared (key a) (key b) ≡ Before
+  rank-decides : a.hour ≡ b.hour → rank a.kind < rank b.kind → compared (key a) (key b) ≡ Less
   unfolding key compared
-  rank-decides e h = rw (← neither a.hour b.hour (omega arith) (omega arith), ← less (rank a.kind) (rank b.kind) h)
+  rank-decides e h = rw (same-number a.hour b.hour e, less (rank a.kind) (rank b.kind) h)
 
   -- two kinds, by their ranks
-  kinds-decide : {j k : Kind} → rank j < rank k → a.hour ≡ b.hour → a.kind ≡ j → b.kind ≡ k → compared (key a) (key b) ≡ Before
+  kinds-decide : {j k : Kind} → rank j < rank k → a.hour ≡ b.hour → a.kind ≡ j → b.kind ≡ k → compared (key a) (key b) ≡ Less
   kinds-decide h e p q = rank-decides e (omega (arith, h, ap rank p, ap rank q))
 
   pub hours-and-kinds : HoursAndKinds a b

@@ -1,9 +1,10 @@
 -- The laws of what doing a message sends.
-use mathlib.Core.Path.{◌≡◌, refl, sym}
+use mathlib.Core.Path.{◌≡◌, refl}
 use Prim.Native.Nat.{ℕ, ◌+◌, ◌≤◌, ◌<◌}
 use native.Mathlib.Omega.{arith}
 use mathlib.Core.List.{List, [], ◌∷◌}
-use mathlib.Core.Bool.{Bool, true, false, cond, true≢false}
+use mathlib.Core.Bool.{Bool, true, false, cond}
+use Rattle.std.specs.Prelude.{Option, IfSome}
 use lib.Dec.{leb, ltb}
 use lib.ListN.{length}
 use borrow.Author.Tests.{leb-true}
@@ -15,7 +16,6 @@ use Rattle.model.specs.declared.Kind.TheVariants.{Failure, Request, Delivery, Re
 use Rattle.model.specs.declared.Message.{Message}
 use Rattle.model.specs.declared.State.{State}
 use Rattle.model.specs.declared.Site.{Site}
-use Rattle.model.specs.declared.event.Reply.{Reply}
 
 -- at most one message, and what holds of it
 data Sends (site : Site) (m : Message) : List Message → Type 0 where
@@ -67,20 +67,20 @@ sending site s m =
       source = λ x e. (told site m sends x e).2;
     }
 
--- a reply sends what doing its message sends
-pub reply-sends : (site : Site) (s : State) (m : Message) {r : Reply} → r ≡ reply_to site s m → sent_by r ≡ sent site s m
+-- the reply is what doing its message sends
+pub reply-sends : (site : Site) (s : State) (m : Message) {r : Option Message} → r ≡ reply_to site s m → sent_by r ≡ sent site s m
 unfolding sent
 reply-sends site s m e = rw e (whole (sends-for site m s m.kind))
   where
-    whole : {l : List Message} → Sends site m l → sent_by (reply_with m l) ≡ l
+    whole : {l : List Message} → Sends site m l → sent_by (reply_with l) ≡ l
     whole nothing = refl
     whole (one x h k f n) = refl
 
 -- and a message that it sends has a lamp
-pub reply-kind : (site : Site) (s : State) (m : Message) {r : Reply} → r ≡ reply_to site s m → r.sends ≡ true → kind_number r.sent.kind ≤ 2
+pub reply-kind : (site : Site) (s : State) (m : Message) {r : Option Message} → r ≡ reply_to site s m → IfSome r (λ x. kind_number x.kind ≤ 2)
 unfolding sent
-reply-kind site s m {r} e t = rw e (few (sends-for site m s m.kind) (rw e at t))
+reply-kind site s m {r} e = rw e (few (sends-for site m s m.kind))
   where
-    few : {l : List Message} → Sends site m l → (reply_with m l).sends ≡ true → kind_number (reply_with m l).sent.kind ≤ 2
-    few nothing d = absurd (true≢false (sym d))
-    few (one x h k f n) d = n
+    few : {l : List Message} → Sends site m l → IfSome (reply_with l) (λ x. kind_number x.kind ≤ 2)
+    few nothing = _
+    few (one x h k f n) = n

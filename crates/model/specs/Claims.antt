@@ -7,32 +7,26 @@ use Rattle.model.specs.declared.Message.{Message}
 use Rattle.model.specs.declared.State.{State}
 use Rattle.model.specs.declared.LeadTimes.{LeadTimes}
 use Rattle.model.specs.declared.Site.{Site}
-use Rattle.model.specs.declared.order.Comparison.{Comparison}
-use Rattle.model.specs.declared.order.Comparison.TheVariants.{Before, Same, After}
-
--- a comparison seen from the other message
-abbrev pub opposite : Comparison → Comparison
-opposite Before = After
-opposite Same = Same
-opposite After = Before
+use Rattle.std.specs.declared.cmp.Ordering.TheVariants.{Less, Equal}
+use Rattle.std.specs.Ordering.{ordering_reverse}
 
 -- the event order is total, antisymmetric and transitive, and only equal messages are the same in it
 pub record EventOrderLaws : Type 0 where
-  pub reflexive : (a : Message) → compared (key a) (key a) ≡ Same
-  pub same : (a b : Message) → compared (key a) (key b) ≡ Same → a ≡ b
-  pub flips : (a b : Message) → compared (key b) (key a) ≡ opposite (compared (key a) (key b))
-  pub transitive : (a b c : Message) → compared (key a) (key b) ≡ Before → compared (key b) (key c) ≡ Before → compared (key a) (key c) ≡ Before
+  pub reflexive : (a : Message) → compared (key a) (key a) ≡ Equal
+  pub same : (a b : Message) → compared (key a) (key b) ≡ Equal → a ≡ b
+  pub flips : (a b : Message) → compared (key b) (key a) ≡ ordering_reverse (compared (key a) (key b))
+  pub transitive : (a b c : Message) → compared (key a) (key b) ≡ Less → compared (key b) (key c) ≡ Less → compared (key a) (key c) ≡ Less
   pub injective : (a b : Message) → key a ≡ key b → a ≡ b
 
 -- the hour weighs most; in one hour Failures come first, then Restocks, then Requests, then Deliveries, whatever their other fields
 pub record HoursAndKinds (a b : Message) : Type 0 where
-  pub hour : a.hour < b.hour → compared (key a) (key b) ≡ Before
-  pub failure_restock : {i q : ℕ} → a.hour ≡ b.hour → a.kind ≡ Failure i → b.kind ≡ Restock q → compared (key a) (key b) ≡ Before
-  pub failure_request : {i j : ℕ} → a.hour ≡ b.hour → a.kind ≡ Failure i → b.kind ≡ Request j → compared (key a) (key b) ≡ Before
-  pub failure_delivery : {i j : ℕ} → a.hour ≡ b.hour → a.kind ≡ Failure i → b.kind ≡ Delivery j → compared (key a) (key b) ≡ Before
-  pub restock_request : {q i : ℕ} → a.hour ≡ b.hour → a.kind ≡ Restock q → b.kind ≡ Request i → compared (key a) (key b) ≡ Before
-  pub restock_delivery : {q i : ℕ} → a.hour ≡ b.hour → a.kind ≡ Restock q → b.kind ≡ Delivery i → compared (key a) (key b) ≡ Before
-  pub request_delivery : {i j : ℕ} → a.hour ≡ b.hour → a.kind ≡ Request i → b.kind ≡ Delivery j → compared (key a) (key b) ≡ Before
+  pub hour : a.hour < b.hour → compared (key a) (key b) ≡ Less
+  pub failure_restock : {i q : ℕ} → a.hour ≡ b.hour → a.kind ≡ Failure i → b.kind ≡ Restock q → compared (key a) (key b) ≡ Less
+  pub failure_request : {i j : ℕ} → a.hour ≡ b.hour → a.kind ≡ Failure i → b.kind ≡ Request j → compared (key a) (key b) ≡ Less
+  pub failure_delivery : {i j : ℕ} → a.hour ≡ b.hour → a.kind ≡ Failure i → b.kind ≡ Delivery j → compared (key a) (key b) ≡ Less
+  pub restock_request : {q i : ℕ} → a.hour ≡ b.hour → a.kind ≡ Restock q → b.kind ≡ Request i → compared (key a) (key b) ≡ Less
+  pub restock_delivery : {q i : ℕ} → a.hour ≡ b.hour → a.kind ≡ Restock q → b.kind ≡ Delivery i → compared (key a) (key b) ≡ Less
+  pub request_delivery : {i j : ℕ} → a.hour ≡ b.hour → a.kind ≡ Request i → b.kind ≡ Delivery j → compared (key a) (key b) ≡ Less
 
 -- each of the hours is at least 1
 pub record AtLeastOne (hours : LeadTimes) : Type 0 where

@@ -1,12 +1,11 @@
 -- Doing a message: the state after it, and what it sends.
-use Rattle.std.specs.Prelude.{ℕ, ◌+◌, ◌-◌, min, Bool, true, false, cond, ◌&&◌, List, [], ◌∷◌, leb, ltb}
+use Rattle.std.specs.Prelude.{ℕ, ◌+◌, ◌-◌, min, Bool, cond, ◌&&◌, List, [], ◌∷◌, Option, None, Some, leb, ltb}
 use Rattle.model.specs.declared.Kind.{Kind}
 use Rattle.model.specs.declared.Kind.TheVariants.{Failure, Request, Delivery, Restock, Start, Lvt, Update}
 use Rattle.model.specs.declared.Message.{Message}
 use Rattle.model.specs.declared.State.{State}
 use Rattle.model.specs.declared.LeadTimes.{LeadTimes}
 use Rattle.model.specs.declared.Site.{Site}
-use Rattle.model.specs.declared.event.Reply.{Reply}
 
 -- a message must be later than its cause: each lead time is 1 to 1,000,000 hours
 abbrev pub hours_in_range : ℕ → Bool
@@ -76,15 +75,16 @@ sent_for site s m Update = []
 unfoldable pub sent : Site → State → Message → List Message
 sent site s m = sent_for site s m m.kind
 
--- a reply with what is sent; where nothing is sent it holds the cause
-abbrev pub reply_with : Message → List Message → Reply
-reply_with cause [] = record { sends = false; sent = cause }
-reply_with cause (m ∷ ms) = record { sends = true; sent = m }
+-- the first message of a list, if it has one
+abbrev pub reply_with : List Message → Option Message
+reply_with [] = None
+reply_with (m ∷ ms) = Some m
 
--- the reply to m, done in that state
-abbrev pub reply_to : Site → State → Message → Reply
-reply_to site s m = reply_with m (sent site s m)
+-- the message that doing m in that state sends, if it sends one
+abbrev pub reply_to : Site → State → Message → Option Message
+reply_to site s m = reply_with (sent site s m)
 
--- the message that a reply sends, if it sends one
-abbrev pub sent_by : Reply → List Message
-sent_by r = cond r.sends (r.sent ∷ []) []
+-- that message as a list
+abbrev pub sent_by : Option Message → List Message
+sent_by None = []
+sent_by (Some m) = m ∷ []

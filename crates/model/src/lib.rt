@@ -1,16 +1,13 @@
 // The lamp model: messages, a gateway's state, the event order, and what doing a message changes and sends.
 #![tactic(auto)]
 
-pub mod event; // event.rt: what doing a message sends
-pub mod order; // order.rt: how two messages compare
-
 ghost use Rattle.std.specs.Prelude.{◌≡◌};
 ghost use Rattle.model.specs.Messages.{kind_number, origin_of, quantity_of, kind_of};
 ghost use Rattle.model.specs.Doing.{hours_in_range, lead_times_valid};
 
 // A message's kind, with the kind's own fields. The first four are events of the forecast. The last three are the
 // round's: no queue holds them, and doing one would change nothing.
-#[derive(Clone, Copy)]
+#[derive(Clone, Copy, PartialEq, Eq)]
 pub enum Kind {
     Failure { origin: u8 },
     Request { origin: u8 },
@@ -22,7 +19,7 @@ pub enum Kind {
 }
 
 // A message: its hour, its two gateways, its kind, and beside the kind the lamp. What a kind lacks is zero.
-#[derive(Clone, Copy)]
+#[derive(Clone, Copy, PartialEq, Eq)]
 pub struct Message {
     pub hour: u32,
     pub from: u8,
@@ -32,7 +29,7 @@ pub struct Message {
 }
 
 // A gateway's state.
-#[derive(Clone, Copy)]
+#[derive(Clone, Copy, PartialEq, Eq, Default)]
 pub struct State {
     pub stock: u32,
     pub failed: u32,
@@ -41,7 +38,7 @@ pub struct State {
 }
 
 // The lead times of a gateway: the hours from a message that it does to the Request, the Delivery or the next Failure that it sends.
-#[derive(Clone, Copy)]
+#[derive(Clone, Copy, PartialEq, Eq)]
 pub struct LeadTimes {
     pub request: u32,
     pub delivery: u32,
@@ -49,7 +46,7 @@ pub struct LeadTimes {
 }
 
 // Where a message is done: the gateway's own number, its supplier, the forecast's last hour and the gateway's lead times.
-#[derive(Clone, Copy)]
+#[derive(Clone, Copy, PartialEq, Eq)]
 pub struct Site {
     pub own: u8,
     pub supplier: u8,
@@ -58,26 +55,18 @@ pub struct Site {
 }
 
 // Whether each lead time is in its range.
+#[tactic(auto, unfolding(crate::specs::Doing::lead_times_valid))]
 pub fn lead_times_valid(hours: LeadTimes) -> bool
     ensures { result ≡ lead_times_valid hours }
 {
-    if !hours_in_range(hours.request) {
-        return false;
-    }
-    if !hours_in_range(hours.delivery) {
-        return false;
-    }
-    hours_in_range(hours.life)
+    hours_in_range(hours.request) && hours_in_range(hours.delivery) && hours_in_range(hours.life)
 }
 
 // Whether a lead time is 1 to 1,000,000 hours.
 fn hours_in_range(hours: u32) -> bool
     ensures { result ≡ hours_in_range hours }
 {
-    if hours < 1 {
-        return false;
-    }
-    hours <= 1000000
+    (1..=1_000_000).contains(&hours)
 }
 
 // The kind's number.
@@ -85,10 +74,10 @@ pub fn kind_number(kind: Kind) -> u8
     ensures { result ≡ kind_number kind }
 {
     match kind {
-        Kind::Failure { origin: _ } => 0,
-        Kind::Request { origin: _ } => 1,
-        Kind::Delivery { origin: _ } => 2,
-        Kind::Restock { quantity: _ } => 3,
+        Kind::Failure { .. } => 0,
+        Kind::Request { .. } => 1,
+        Kind::Delivery { .. } => 2,
+        Kind::Restock { .. } => 3,
         Kind::Start => 4,
         Kind::Lvt => 5,
         Kind::Update => 6,
@@ -100,13 +89,8 @@ pub fn origin_of(kind: Kind) -> u8
     ensures { result ≡ origin_of kind }
 {
     match kind {
-        Kind::Failure { origin } => origin,
-        Kind::Request { origin } => origin,
-        Kind::Delivery { origin } => origin,
-        Kind::Restock { quantity: _ } => 0,
-        Kind::Start => 0,
-        Kind::Lvt => 0,
-        Kind::Update => 0,
+        Kind::Failure { origin } | Kind::Request { origin } | Kind::Delivery { origin } => origin,
+        Kind::Restock { .. } | Kind::Start | Kind::Lvt | Kind::Update => 0,
     }
 }
 
@@ -115,13 +99,9 @@ pub fn quantity_of(kind: Kind) -> u16
     ensures { result ≡ quantity_of kind }
 {
     match kind {
-        Kind::Failure { origin: _ } => 0,
-        Kind::Request { origin: _ } => 0,
-        Kind::Delivery { origin: _ } => 0,
         Kind::Restock { quantity } => quantity,
-        Kind::Start => 0,
-        Kind::Lvt => 0,
-        Kind::Update => 0,
+        Kind::Failure { .. } | Kind::Request { .. } | Kind::Delivery { .. } => 0,
+        Kind::Start | Kind::Lvt | Kind::Update => 0,
     }
 }
 

@@ -83,9 +83,7 @@ pub fn opened_header(opening: Opening, settings: Settings, count: usize) -> Head
         settings,
         state: State {
             stock: opening.stock,
-            failed: 0,
-            fitted: 0,
-            short: 0,
+            ..State::default()
         },
         agreed: 0,
         round: Round {

@@ -28,8 +28,7 @@ use Rattle.gateway.specs.Undoing.{pending_entry}
 use Rattle.lists.specs.Lists.{before_first, from_first}
 use Rattle.gateway.specs.Taking.{is_later}
 use Rattle.gateway.specs.SettingUp.{queued}
-use Rattle.places.specs.Inside.Searching.{passes, entries_in}
-use Rattle.places.specs.declared.search.Search.TheVariants.{Later}
+use Rattle.places.specs.Inside.Searching.{entries_in}
 use Rattle.gateway.proofs.Openings.{length-entered}
 use Rattle.gateway.proofs.ReadMessages.{reading-fits}
 use Rattle.lists.specs.Inside.Pieces.{piece_end}
@@ -38,7 +37,7 @@ use Rattle.frame.specs.Layout.{whole_length}
 use Rattle.frame.proofs.Sizes.{whole-some}
 use Rattle.opening_list.specs.Inside.Frames.{frames_from, memory_entered}
 
-pub entered_at : (count : ℕ) (m : Message) (memory : List ℕ) {k : ℕ} {e : Entry} {after : List ℕ} → k ≡ first_where (passes Later m)
+pub entered_at : (count : ℕ) (m : Message) (memory : List ℕ) {k : ℕ} {e : Entry} {after : List ℕ} → k ≡ first_where (is_later m)
     (entries_in memory count) → e ≡ pending_entry m
     → after ≡ write (queue_at k) (entry_bytes e) (write (queue_at k + queue_size) (part memory (queue_at k) (queue_size * (count - k))) memory)
     → after ≡ memory_entered count m memory
@@ -52,7 +51,7 @@ module _ (before : List ℕ) (es : List Entry) (m : Message) (fits : All EntryFi
   news = before_first (is_later m) es ++ (pending_entry m ∷ from_first (is_later m) es)
 
   cut : ℕ
-  cut = first_where (passes Later m) es
+  cut = first_where (is_later m) es
 
   -- cut at that place
   news-cut : news ≡ take cut es ++ (pending_entry m ∷ drop cut es)
@@ -87,7 +86,7 @@ module _ (before : List ℕ) (es : List Entry) (m : Message) (fits : All EntryFi
 
   within : cut ≤ length es
   unfolding cut
-  within = first-bound (passes Later m) es
+  within = first-bound (is_later m) es
 
   front : length (take cut es) ≡ cut
   front = length-take-le cut es within

@@ -18,7 +18,7 @@ use frame::{Frame, Reading};
 use limits::check;
 use memory::Settings;
 use model::{Message, kind_number};
-use places::search::{Search, find};
+use places::search::place_for;
 use reader::read;
 
 // What the pass over the opening list finds: the first refusal, or 0, and how many frames stand before it or in all.
@@ -112,6 +112,6 @@ fn enter(memory: &mut [u8], count: usize, message: Message)
     requires { queue_at count + queue_size ≤ length memory.old }
     ensures { memory.new ≡ memory_entered count message memory.old }
 {
-    let k = find(memory, count, Search::Later, message);
+    let k = place_for(memory, count, message);
     insert_place(memory, count, k, pending(message));
 }

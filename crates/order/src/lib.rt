@@ -3,39 +3,30 @@
 
 ghost use Rattle.std.specs.Prelude.{◌≡◌, [], ◌∷◌};
 ghost use Rattle.model.specs.Messages.{origin_of, quantity_of};
-ghost use Rattle.model.specs.EventOrder.{rank, key, compared, or_else, numbers, different};
+ghost use Rattle.model.specs.EventOrder.{rank, key, compared};
 
-use model::order::Comparison;
 use model::{Kind, Message, origin_of, quantity_of};
+use std::cmp::Ordering;
 
 // The event order of two messages. The lamps are looked at only where what comes before them is equal.
-pub fn compare(a: Message, b: Message) -> Comparison
+pub fn compare(a: Message, b: Message) -> Ordering
     ensures { result ≡ compared (key a) (key b) }
 {
-    let first = before_lamp(a, b);
-    if differs(first) {
-        return first;
-    }
-    let left = a.lamp;
-    let right = b.lamp;
-    let middle = lamps(left, right);
-    if differs(middle) {
-        return middle;
-    }
-    after_lamp(a, b)
+    before_lamp(a, b)
+        .then_with(|| a.lamp.cmp(&b.lamp))
+        .then_with(|| after_lamp(a, b))
 }
 
 // By hour, rank and origin.
-fn before_lamp(a: Message, b: Message) -> Comparison
+fn before_lamp(a: Message, b: Message) -> Ordering
     ensures { result ≡ compared
         (a.hour ∷ rank a.kind ∷ origin_of a.kind ∷ [])
         (b.hour ∷ rank b.kind ∷ origin_of b.kind ∷ []) }
 {
-    let left = a.kind;
-    let right = b.kind;
-    let origins = bytes(origin_of(left), origin_of(right));
-    let ranks = bytes(rank(left), rank(right));
-    or_else(numbers(a.hour, b.hour), or_else(ranks, origins))
+    a.hour
+        .cmp(&b.hour)
+        .then(rank(a.kind).cmp(&rank(b.kind)))
+        .then(origin_of(a.kind).cmp(&origin_of(b.kind)))
 }
 
 // The kind's rank within an hour.
@@ -43,10 +34,10 @@ fn rank(kind: Kind) -> u8
     ensures { result ≡ rank kind }
 {
     match kind {
-        Kind::Failure { origin: _ } => 0,
-        Kind::Restock { quantity: _ } => 1,
-        Kind::Request { origin: _ } => 2,
-        Kind::Delivery { origin: _ } => 3,
+        Kind::Failure { .. } => 0,
+        Kind::Restock { .. } => 1,
+        Kind::Request { .. } => 2,
+        Kind::Delivery { .. } => 3,
         Kind::Start => 4,
         Kind::Lvt => 5,
         Kind::Update => 6,
@@ -54,68 +45,11 @@ fn rank(kind: Kind) -> u8
 }
 
 // By quantity, from and to.
-fn after_lamp(a: Message, b: Message) -> Comparison
+fn after_lamp(a: Message, b: Message) -> Ordering
     ensures { result ≡ compared (quantity_of a.kind ∷ a.from ∷ a.to ∷ []) (quantity_of b.kind ∷ b.from ∷ b.to ∷ []) }
 {
-    let left = a.kind;
-    let right = b.kind;
-    let quantities = numbers(quantity_of(left) as u32, quantity_of(right) as u32);
-    or_else(
-        quantities,
-        or_else(bytes(a.from, b.from), bytes(a.to, b.to)),
-    )
-}
-
-// By all eighteen bytes of the lamp, the first first.
-fn lamps(a: [u8; 18], b: [u8; 18]) -> Comparison
-    ensures { result ≡ compared a b }
-{
-    let mut i = 0;
-    while i < 18 {
-        if a[i] != b[i] {
-            return bytes(a[i], b[i]);
-        }
-        i += 1;
-    }
-    Comparison::Same
-}
-
-fn numbers(a: u32, b: u32) -> Comparison
-    ensures { result ≡ numbers a b }
-{
-    if a < b {
-        return Comparison::Before;
-    }
-    if b < a {
-        return Comparison::After;
-    }
-    Comparison::Same
-}
-
-fn bytes(a: u8, b: u8) -> Comparison
-    ensures { result ≡ numbers a b }
-{
-    numbers(a as u32, b as u32)
-}
-
-// Whether a comparison found a difference.
-fn differs(found: Comparison) -> bool
-    ensures { result ≡ different found }
-{
-    match found {
-        Comparison::Before => true,
-        Comparison::Same => false,
-        Comparison::After => true,
-    }
-}
-
-// The first comparison decides unless it finds no difference.
-fn or_else(first: Comparison, rest: Comparison) -> Comparison
-    ensures { result ≡ or_else first rest }
-{
-    match first {
-        Comparison::Before => Comparison::Before,
-        Comparison::Same => rest,
-        Comparison::After => Comparison::After,
-    }
+    quantity_of(a.kind)
+        .cmp(&quantity_of(b.kind))
+        .then(a.from.cmp(&b.from))
+        .then(a.to.cmp(&b.to))
 }

@@ -12,13 +12,8 @@ use Rattle.memory.specs.Validity.{is_processed}
 use Rattle.memory.specs.declared.Entry.{Entry}
 use Rattle.memory.specs.declared.Sent.{Sent}
 use Rattle.gateway.specs.Rounds.{least_outstanding, least_queued}
-use Rattle.places.specs.Inside.Searching.{due_hour}
+use Rattle.places.specs.Inside.Searching.{due_hour, least_of}
 use Rattle.places.proofs.Positions.{more}
-
--- the least of the numbers that elements come to, nothing due if there is none
-pub least_of : {A : Type 0} → (A → ℕ) → List A → ℕ
-least_of due [] = nothing_due
-least_of due (x ∷ xs) = min (due x) (least_of due xs)
 
 least-bound : {A : Type 0} (due : A → ℕ) (xs : List A) → least_of due xs ≤ nothing_due
 unfolding least_of
@@ -26,12 +21,12 @@ least-bound due [] = omega arith
 least-bound due (x ∷ xs) = let h = least-bound due xs in omega arith
 
 -- both least hours are of that form
-sent-least : (xs : List Sent) → least_outstanding xs ≡ least_of (λ x. x.message.hour) xs
+pub sent-least : (xs : List Sent) → least_outstanding xs ≡ least_of (λ x. x.message.hour) xs
 unfolding least_of least_outstanding
 sent-least [] = refl
 sent-least (x ∷ xs) = ap (min x.message.hour) (sent-least xs)
 
-queued-least : (es : List Entry) → least_queued es ≡ least_of due_hour es
+pub queued-least : (es : List Entry) → least_queued es ≡ least_of due_hour es
 unfolding least_of least_queued
 queued-least [] = refl
 queued-least (e ∷ es) = here (is_processed e) (queued-least es) (least-bound due_hour es)
@@ -59,12 +54,3 @@ module _ {A : Type 0} (decode : List ℕ → A) (due : A → ℕ) (size base : �
   pub least-end : (i least : ℕ) → count ≤ i → least ≤ 4294967295 → Lowering i least → least ≡ whole
   unfolding least_of places_at
   least-end i least h k l = let e : count - i ≡ 0 = omega arith in sym (l ∙ rw e (omega arith))
-
--- the two passes
-pub sent-start : (size base : ℕ) (m : List ℕ) (count : ℕ) (decode : List ℕ → Sent)
-    → Lowering decode (λ x. x.message.hour) size base m count (least_outstanding (places_at decode size m base count)) 0 4294967295
-sent-start size base m count decode = least_start decode (λ x. x.message.hour) size base m count _ (sent-least (places_at decode size m base count))
-
-pub queued-start : (size base : ℕ) (m : List ℕ) (count : ℕ) (decode : List ℕ → Entry)
-    → Lowering decode due_hour size base m count (least_queued (places_at decode size m base count)) 0 4294967295
-queued-start size base m count decode = least_start decode due_hour size base m count _ (queued-least (places_at decode size m base count))

@@ -4,3 +4,4 @@ pub mod Matching
 pub mod Counts
 pub mod Changing
 pub mod LeastHours
+pub mod Found

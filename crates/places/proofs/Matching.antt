@@ -3,13 +3,10 @@ use mathlib.Core.Path.{◌≡◌, ◌∙◌}
 use mathlib.Core.Bool.{Bool, true, false, not}
 use borrow.Author.Tests.{not-true, not-false}
 use Rattle.model.specs.declared.Message.{Message}
-use Rattle.memory.specs.Validity.{equal, later, waiting_mark}
+use Rattle.memory.specs.Validity.{equal, waiting_mark}
 use Rattle.memory.specs.declared.Entry.{Entry}
 use Rattle.memory.specs.declared.Sent.{Sent}
 use Rattle.gateway.specs.Taking.{is_cancel_of, is_plain, is_sent}
-use Rattle.places.specs.Inside.Searching.{passes}
-use Rattle.places.specs.declared.search.Search.{Search}
-use Rattle.places.specs.declared.search.Search.TheVariants.{CancelOf, Later}
 
 -- a waiting cancel of the message, and a plain message that equals it
 module _ (m : Message) (e : Entry) {waits : Bool} (w : waits ≡ waiting_mark e.mark) where
@@ -38,11 +35,3 @@ module _ (cancel : Bool) (m : Message) (x : Sent) where
 
   pub both-plain : {r : Bool} → cancel ≡ false → x.cancel ≡ false → r ≡ equal x.message m → r ≡ is_sent cancel m x
   both-plain e f k = k ∙ rw (e, f)
-
--- what a search tests
-module _ (m : Message) (e : Entry) {search : Search} {r : Bool} where
-  pub passes-cancel : search ≡ CancelOf → r ≡ is_cancel_of m e → r ≡ passes search m e
-  passes-cancel s k = k ∙ rw s
-
-  pub passes-later : search ≡ Later → r ≡ later e.message m → r ≡ passes search m e
-  passes-later s k = k ∙ rw s

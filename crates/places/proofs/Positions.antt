@@ -12,8 +12,8 @@ use Rattle.memory.specs.Codec.{places_at, entry_of}
 use Rattle.memory.specs.Layout.{header_size, queue_size}
 use Rattle.memory.proofs.Places.{length-read}
 use Rattle.model.specs.declared.Message.{Message}
-use Rattle.places.specs.Inside.Searching.{passes, entries_in}
-use Rattle.places.specs.declared.search.Search.TheVariants.{Later}
+use Rattle.gateway.specs.Taking.{is_later}
+use Rattle.places.specs.Inside.Searching.{entries_in}
 
 -- the places from place i on, by the first of them
 pub more : {A : Type 0} (decode : List ℕ → A) (size base : ℕ) (m : List ℕ) (count i : ℕ) → i < count → places_at decode size m (base + size * i) (count - i)
@@ -86,10 +86,10 @@ module _ {A : Type 0} (decode : List ℕ → A) (f : A → Bool) (size base : �
   last_none whole left h l = let e : left ≡ 0 = omega arith in sym (l ∙ rw e)
 
 -- where a message enters
-pub place-within : (count : ℕ) (m : Message) (memory : List ℕ) {k : ℕ} → k ≡ first_where (passes Later m) (entries_in memory count) → k ≤ count
+pub place-within : (count : ℕ) (m : Message) (memory : List ℕ) {k : ℕ} → k ≡ first_where (is_later m) (entries_in memory count) → k ≤ count
 place-within count m memory e = rw e (omega (
   arith,
-  first-bound (passes Later m) (entries_in memory count),
+  first-bound (is_later m) (entries_in memory count),
   length-read entry_of queue_size
       memory header_size count,
 ))

@@ -1,12 +1,13 @@
 // The least hours in a gateway's memory.
-ghost use Rattle.std.specs.Prelude.{◌≡◌, ◌≤◌, min, length};
+ghost use Rattle.std.specs.Prelude.{◌≡◌, ◌+◌, ◌*◌, ◌≤◌, ℕ, length};
 ghost use Rattle.memory.specs.Layout.{queue_at, outstanding_at};
+ghost use Rattle.memory.specs.Codec.{places_at};
 ghost use Rattle.gateway.specs.Rounds.{least_outstanding, least_queued};
-ghost use Rattle.places.specs.Inside.Searching.{entries_in, sent_in, due_hour};
+ghost use Rattle.places.specs.Inside.Searching.{Answers, entries_in, sent_in, due_hour, least_of};
 
-use decoding::{read_entry, read_sent};
+use crate::place::{Place, place_at};
 use entries::is_processed;
-use memory::{Entry, HEADER_SIZE, OUTSTANDING_SIZE, QUEUE_SIZE};
+use memory::{Entry, HEADER_SIZE, QUEUE_SIZE, Sent};
 
 // The hour that means nothing due.
 const NOTHING_DUE: u32 = 4294967295;
@@ -17,15 +18,7 @@ pub fn least_outstanding(memory: &[u8], q: usize, count: usize) -> u32
     ensures { result ≡ least_outstanding (sent_in q memory.now count) }
 {
     let base = HEADER_SIZE + QUEUE_SIZE * q;
-    let mut least = NOTHING_DUE;
-    let mut i = 0;
-    while i < count {
-        let sent = read_sent(memory, base + OUTSTANDING_SIZE * i);
-        let message = sent.message;
-        least = lesser(least, message.hour);
-        i += 1;
-    }
-    least
+    least(memory, base, count, |sent: Sent| sent.message.hour)
 }
 
 // The least hour of what is not processed in the first count queue places.
@@ -33,33 +26,29 @@ pub fn least_queued(memory: &[u8], count: usize) -> u32
     requires { queue_at count ≤ length memory.now }
     ensures { result ≡ least_queued (entries_in memory.now count) }
 {
-    let mut least = NOTHING_DUE;
-    let mut i = 0;
-    while i < count {
-        let entry = read_entry(memory, HEADER_SIZE + QUEUE_SIZE * i);
-        least = lesser(least, due_hour(entry));
-        i += 1;
-    }
-    least
+    least(memory, HEADER_SIZE, count, |entry: Entry| due_hour(entry))
 }
 
 // An entry's hour, nothing due if it is processed.
 fn due_hour(entry: Entry) -> u32
     ensures { result ≡ due_hour entry }
 {
-    let mark = entry.mark;
-    let message = entry.message;
-    if is_processed(mark) {
-        return NOTHING_DUE;
+    if is_processed(entry.mark) {
+        NOTHING_DUE
+    } else {
+        entry.message.hour
     }
-    message.hour
 }
 
-pub fn lesser(a: u32, b: u32) -> u32
-    ensures { result ≡ min a b }
+// The least hour that count places from position base on come to, nothing due if there is none.
+fn least<P: Place, F: Fn(P) -> u32>(memory: &[u8], base: usize, count: usize, hour: F) -> u32
+    requires callable { F.IsAlwaysCallable hour }
+    requires inside { base + P.SIZE * count ≤ length memory.now }
+    ensures { (f : P → ℕ) → Answers (F.post hour) f → result ≡ least_of f (places_at P.held P.SIZE memory.now base count) }
 {
-    if a < b {
-        return a;
+    let mut least = NOTHING_DUE;
+    for k in 0..count {
+        least = least.min(hour(place_at(memory, base, k)));
     }
-    b
+    least
 }

@@ -3,4 +3,5 @@
 
 pub mod changes; // changes.rt: changes of the memory
 pub mod least; // least.rt: the least hours in the memory
+pub mod place; // place.rt: the two kinds of places
 pub mod search; // search.rt: looking through the places

@@ -1,37 +1,66 @@
 // Looking through the places of a gateway's memory.
-ghost use Rattle.std.specs.Prelude.{◌≡◌, ◌+◌, ◌≤◌, length};
+ghost use Rattle.std.specs.Prelude.{◌≡◌, ◌+◌, ◌*◌, ◌-◌, ◌≤◌, Bool, ℕ, length};
 ghost use Rattle.memory.specs.Layout.{queue_at, outstanding_at};
+ghost use Rattle.memory.specs.Codec.{places_at};
 ghost use Rattle.lists.specs.Inside.Positions.{first_where, past_last};
-ghost use Rattle.gateway.specs.Taking.{is_cancel_of, is_plain, is_sent};
-ghost use Rattle.places.specs.Inside.Searching.{passes, has_mark, same_mark, entries_in, entries_from, sent_in};
+ghost use Rattle.gateway.specs.Taking.{is_cancel_of, is_later, is_plain, is_sent};
+ghost use Rattle.places.specs.Inside.Searching.{has_mark, same_mark, entries_in, entries_from, sent_in, place_below, place_before, Answers};
 
-use decoding::{read_entry, read_sent};
+use crate::place::{Place, place_at};
 use entries::{equal, is_pending, is_processed, is_waiting, later};
 use memory::{Entry, HEADER_SIZE, Mark, OUTSTANDING_SIZE, QUEUE_SIZE, Sent};
 use model::Message;
 
-// What a search of the queue looks for: a waiting cancel of a message, or a message later than it.
-#[derive(Clone, Copy)]
-pub enum Search {
-    CancelOf,
-    Later,
+// The first place from place start on, of count from position base on, that passes the test.
+fn first<P: Place, F: Fn(P) -> bool>(
+    memory: &[u8],
+    base: usize,
+    start: usize,
+    count: usize,
+    test: F,
+) -> Option<usize>
+    requires callable { F.IsAlwaysCallable test }
+    requires order { start ≤ count }
+    requires inside { base + P.SIZE * count ≤ length memory.now }
+    ensures { (f : P → Bool) → Answers (F.post test) f
+        → result ≡ place_below count (start + first_where f (places_at P.held P.SIZE memory.now (base + P.SIZE * start) (count - start))) }
+{
+    for k in start..count {
+        if test(place_at(memory, base, k)) {
+            return Some(k);
+        }
+    }
+    None
 }
 
-// The first queue place from place start on whose entry has that mark, or the number of places used.
-pub fn next_marked(memory: &[u8], start: usize, queued: usize, mark: Mark) -> usize
-    requires { (start ≤ queued) × (queue_at queued ≤ length memory.now) }
-    ensures { result ≡ start + first_where (has_mark mark) (entries_from memory.now start queued) }
+// The last place, of count from position base on, that passes the test.
+fn last<P: Place, F: Fn(P) -> bool>(
+    memory: &[u8],
+    base: usize,
+    count: usize,
+    test: F,
+) -> Option<usize>
+    requires callable { F.IsAlwaysCallable test }
+    requires inside { base + P.SIZE * count ≤ length memory.now }
+    ensures { (f : P → Bool) → Answers (F.post test) f
+        → result ≡ place_before (past_last f (places_at P.held P.SIZE memory.now base count)) }
 {
-    let mut i = start;
-    while i < queued {
-        let entry = read_entry(memory, HEADER_SIZE + QUEUE_SIZE * i);
-        let found = entry.mark;
-        if marked(mark, found) {
-            return i;
+    for k in (0..count).rev() {
+        if test(place_at(memory, base, k)) {
+            return Some(k);
         }
-        i += 1;
     }
-    queued
+    None
+}
+
+// The first queue place from place start on whose entry has that mark.
+pub fn next_marked(memory: &[u8], start: usize, queued: usize, mark: Mark) -> Option<usize>
+    requires { (start ≤ queued) × (queue_at queued ≤ length memory.now) }
+    ensures { result ≡ place_below queued (start + first_where (has_mark mark) (entries_from memory.now start queued)) }
+{
+    first(memory, HEADER_SIZE, start, queued, |entry: Entry| {
+        marked(mark, entry.mark)
+    })
 }
 
 fn marked(sought: Mark, found: Mark) -> bool
@@ -44,105 +73,50 @@ fn marked(sought: Mark, found: Mark) -> bool
     }
 }
 
-// The first queue place that passes the search, or the number of places used.
-pub fn find(memory: &[u8], queued: usize, search: Search, message: Message) -> usize
+// The first queue place that holds an equal cancel that waits.
+pub fn cancel_of(memory: &[u8], queued: usize, message: Message) -> Option<usize>
     requires { queue_at queued ≤ length memory.now }
-    ensures { result ≡ first_where (passes search message) (entries_in memory.now queued) }
+    ensures { result ≡ place_below queued (first_where (is_cancel_of message) (entries_in memory.now queued)) }
 {
-    let mut i = 0;
-    while i < queued {
-        let entry = read_entry(memory, HEADER_SIZE + QUEUE_SIZE * i);
-        if passing(search, message, entry) {
-            return i;
-        }
-        i += 1;
-    }
-    queued
+    first(memory, HEADER_SIZE, 0, queued, |entry: Entry| {
+        is_waiting(entry.mark) && equal(entry.message, message)
+    })
 }
 
-fn passing(search: Search, message: Message, entry: Entry) -> bool
-    ensures { result ≡ passes search message entry }
-{
-    let stored = entry.message;
-    match search {
-        Search::CancelOf => cancel_of(message, entry),
-        Search::Later => later(stored, message),
-    }
-}
-
-fn cancel_of(message: Message, entry: Entry) -> bool
-    ensures { result ≡ is_cancel_of message entry }
-{
-    let stored = entry.message;
-    let mark = entry.mark;
-    if !is_waiting(mark) {
-        return false;
-    }
-    equal(stored, message)
-}
-
-// The place behind the last plain message that equals this one, or 0.
-pub fn past_last_equal(memory: &[u8], queued: usize, message: Message) -> usize
+// The queue place that a message enters: the first that holds a later one, or else the one behind all.
+pub fn place_for(memory: &[u8], queued: usize, message: Message) -> usize
     requires { queue_at queued ≤ length memory.now }
-    ensures { result ≡ past_last (is_plain message) (entries_in memory.now queued) }
+    ensures { result ≡ first_where (is_later message) (entries_in memory.now queued) }
 {
-    let mut left = queued;
-    while left > 0 {
-        let entry = read_entry(memory, HEADER_SIZE + QUEUE_SIZE * (left - 1));
-        if plain(message, entry) {
-            return left;
-        }
-        left -= 1;
-    }
-    0
+    let found = first(memory, HEADER_SIZE, 0, queued, |entry: Entry| {
+        later(entry.message, message)
+    });
+    found.unwrap_or(queued)
 }
 
-fn plain(message: Message, entry: Entry) -> bool
-    ensures { result ≡ is_plain message entry }
+// The last queue place that holds an equal plain message.
+pub fn last_equal(memory: &[u8], queued: usize, message: Message) -> Option<usize>
+    requires { queue_at queued ≤ length memory.now }
+    ensures { result ≡ place_before (past_last (is_plain message) (entries_in memory.now queued)) }
 {
-    let stored = entry.message;
-    let mark = entry.mark;
-    if is_waiting(mark) {
-        return false;
-    }
-    equal(stored, message)
+    last(memory, HEADER_SIZE, queued, |entry: Entry| {
+        !is_waiting(entry.mark) && equal(entry.message, message)
+    })
 }
 
-// The first outstanding place, behind q queue places, that holds this message or its cancel, or the number of places used.
+// The first outstanding place, behind q queue places, that holds this message or its cancel.
 pub fn find_sent(
     memory: &[u8],
     q: usize,
     outstanding: usize,
     cancel: bool,
     message: Message,
-) -> usize
+) -> Option<usize>
     requires { outstanding_at q outstanding ≤ length memory.now }
-    ensures { result ≡ first_where (is_sent cancel message) (sent_in q memory.now outstanding) }
+    ensures { result ≡ place_below outstanding (first_where (is_sent cancel message) (sent_in q memory.now outstanding)) }
 {
     let base = HEADER_SIZE + QUEUE_SIZE * q;
-    let mut i = 0;
-    while i < outstanding {
-        let sent = read_sent(memory, base + OUTSTANDING_SIZE * i);
-        if same_sent(cancel, message, sent) {
-            return i;
-        }
-        i += 1;
-    }
-    outstanding
-}
-
-fn same_sent(cancel: bool, message: Message, sent: Sent) -> bool
-    ensures { result ≡ is_sent cancel message sent }
-{
-    let stored = sent.message;
-    if cancel {
-        if sent.cancel {
-            return equal(stored, message);
-        }
-        return false;
-    }
-    if sent.cancel {
-        return false;
-    }
-    equal(stored, message)
+    first(memory, base, 0, outstanding, |sent: Sent| {
+        sent.cancel == cancel && equal(sent.message, message)
+    })
 }

@@ -1,7 +1,7 @@
 // What an event sends: whether there is room for it, and sending it.
 #![tactic(auto)]
 
-ghost use Rattle.std.specs.Prelude.{◌≡◌, true, ◌≤◌};
+ghost use Rattle.std.specs.Prelude.{◌≡◌, ◌≤◌, Some, IfSome};
 ghost use Rattle.model.specs.Messages.{kind_number};
 ghost use Rattle.replies.specs.Inside.Turns.{reply_bytes, room_for, MaySendReply, SendsReply};
 
@@ -9,7 +9,7 @@ use effects::send::{header_sent, outstanding_at};
 use encoding::write_sent;
 use frame::lamps::PLAIN_LENGTH;
 use memory::{Header, Sent};
-use model::event::Reply;
+use model::Message;
 
 // Where work stands between two events: the header so far, which is written last, the bytes of output that the replies so far take,
 // the place from which on the next unprocessed plain message stands, and why work stops, 0 while it goes on.
@@ -22,40 +22,40 @@ pub struct Turn {
 }
 
 // How many bytes of output what doing a message sends takes: nothing, or a plain message with a lamp.
-pub fn reply_bytes(reply: Reply) -> usize
-    requires { reply.sends ≡ true → kind_number reply.sent.kind ≤ 2 }
+pub fn reply_bytes(reply: Option<Message>) -> usize
+    requires { IfSome reply (λ message. kind_number message.kind ≤ 2) }
     ensures { result ≡ reply_bytes reply }
 {
-    if !reply.sends {
-        return 0;
+    match reply {
+        Some(message) => message_bytes(message),
+        None => 0,
     }
+}
+
+// How many bytes of output a message with a lamp takes: as many as any other.
+fn message_bytes(_message: Message) -> usize
+    requires { kind_number _message.kind ≤ 2 }
+    ensures { result ≡ reply_bytes (Some _message) }
+{
     PLAIN_LENGTH
 }
 
 // Whether there are outstanding places and bytes of output for what doing a message sends.
-pub fn has_room(header: Header, reply: Reply, bytes: usize, room: usize) -> bool
+pub fn has_room(header: Header, reply: Option<Message>, bytes: usize, room: usize) -> bool
     requires { (header.outstanding ≤ header.settings.u) × (bytes ≡ reply_bytes reply) }
     ensures { result ≡ room_for header room reply }
 {
-    if !reply.sends {
-        return true;
-    }
-    let settings = header.settings;
-    if header.outstanding >= settings.u {
-        return false;
-    }
-    bytes <= room
+    reply.is_none() || header.outstanding < header.settings.u && bytes <= room
 }
 
 // Sends what doing a message sends: it stands in an outstanding place. Gives the header after it.
-pub fn send_reply(memory: &mut [u8], header: Header, reply: Reply) -> Header
+pub fn send_reply(memory: &mut [u8], header: Header, reply: Option<Message>) -> Header
     requires { MaySendReply memory.old header reply }
     ensures { SendsReply memory.old memory.new header reply result }
 {
-    if !reply.sends {
+    let Some(message) = reply else {
         return header;
-    }
-    let message = reply.sent;
+    };
     let sent = Sent {
         message,
         cancel: false,

@@ -1,6 +1,6 @@
 -- Laws of what a call looks at before its first store, and of entering a queue place.
 use mathlib.Core.Path.{◌≡◌, refl, sym, ◌∙◌, ap}
-use mathlib.Core.Bool.{Bool, true, false, cond, not, ◌&&◌}
+use mathlib.Core.Bool.{Bool, true, false, not, ◌&&◌}
 use mathlib.Core.List.{List, [], ◌∷◌, ◌++◌}
 use Prim.Native.Nat.{ℕ, ◌+◌, ◌-◌, ◌*◌, ◌≤◌, ◌<◌}
 use native.Mathlib.Omega.{arith}
@@ -9,11 +9,13 @@ use lib.ListN.{length, take, drop, length-append, take-append-drop}
 use lib.Seq.{length-take-le}
 use borrow.Author.Tests.{le-leb, lt-leb, not-true, not-false}
 use Rattle.buffer.specs.Slice.{part, write}
-use Rattle.model.specs.Doing.{reply_to}
+use Rattle.model.specs.Doing.{reply_to, sent_by}
 use Rattle.model.proofs.Sending.{reply-sends}
 use Rattle.model.specs.declared.Message.{Message}
 use Rattle.model.specs.declared.Site.{Site}
-use Rattle.model.specs.declared.event.Reply.{Reply}
+use Rattle.std.specs.Prelude.{Option, None, Some}
+use Rattle.std.specs.Option.{is_some}
+use Rattle.std.specs.Int.{from_bool}
 use Rattle.frame.specs.declared.Sense.TheVariants.{Acknowledgment, CancelAcknowledgment}
 use Rattle.memory.specs.Layout.{header_size, queue_at, queue_size}
 use Rattle.memory.specs.Records.{Gateway}
@@ -48,22 +50,23 @@ module _ (queued q used u bytes room : ℕ) where
   pub output-decides : queued ≤ q → used ≤ u → leb bytes room ≡ (leb queued q && leb used u && leb bytes room)
   output-decides h k = rw (le-leb queued q h, le-leb used u k)
 
+one-or-none : (reply : Option Message) → (from_bool (is_some reply) ≡ length (sent_by reply)) × (from_bool (is_some reply) ≤ 1)
+one-or-none None = (refl, omega arith)
+one-or-none (Some m) = (refl, omega arith)
+
 -- how many messages an entry's event had sent
 module _ (site : Site) (e : Entry) {processed : Bool} (test : processed ≡ processed_mark e.mark) where
   pub none-sent-by : not processed ≡ true → (0 ≡ length (sent_back site (processed_of (e ∷ [])))) × (0 ≤ 1)
   unfolding sent_back
   none-sent-by h = (rw (processed-no e (sym test ∙ not-true processed h)), omega arith)
 
-  module _ (h : not processed ≡ false) {made : Site} (site-is : made ≡ site) (reply : Reply)
+  module _ (h : not processed ≡ false) {made : Site} (site-is : made ≡ site) {reply : Option Message}
       (gives : reply ≡ reply_to made e.before e.message) where
-    had : sent_back site (processed_of (e ∷ [])) ≡ cond reply.sends (reply.sent ∷ []) []
+    had : sent_back site (processed_of (e ∷ [])) ≡ sent_by reply
     had = rw (processed-one e (sym test ∙ not-false processed h)) (back_one e site ∙ rw (← site-is) (sym (reply-sends made e.before e.message gives)))
 
-    pub one-sent-by : reply.sends ≡ true → (1 ≡ length (sent_back site (processed_of (e ∷ [])))) × (1 ≤ 1)
-    one-sent-by k = (rw (had, k), omega arith)
-
-    pub nothing-sent-by : reply.sends ≡ false → (0 ≡ length (sent_back site (processed_of (e ∷ [])))) × (0 ≤ 1)
-    nothing-sent-by k = (rw (had, k), omega arith)
+    pub counted-sent : {n : ℕ} → n ≡ from_bool (is_some reply) → (n ≡ length (sent_back site (processed_of (e ∷ [])))) × (n ≤ 1)
+    counted-sent k = rw (had, k) (one-or-none reply)
 
 -- counting them place by place
 module _ (site : Site) (m : List ℕ) (queued whole : ℕ) where

@@ -1,6 +1,6 @@
 -- Laws of undoing on memory: an event, the event in a queue place, and the events from a queue place on.
 use mathlib.Core.Path.{◌≡◌, refl, sym, ◌∙◌, ap, subst}
-use mathlib.Core.Bool.{Bool, true, false, cond, not}
+use mathlib.Core.Bool.{Bool, true, false, not}
 use mathlib.Core.List.{List, [], ◌∷◌, ◌++◌, map, append_assoc, append-nil}
 use Prim.Native.Nat.{ℕ, suc, ◌+◌, ◌-◌, ◌≤◌, ◌<◌}
 use native.Mathlib.Nat.{add-zero}
@@ -11,11 +11,11 @@ use borrow.Author.Tests.{not-true, not-false}
 use Rattle.lists.specs.Lists.{All, cons}
 use Rattle.lists.proofs.ListLaws.{all_right}
 use Rattle.buffer.specs.Slice.{part, write}
-use Rattle.model.specs.Doing.{sent, reply_to}
+use Rattle.model.specs.Doing.{sent, reply_to, sent_by}
 use Rattle.model.proofs.Sending.{reply-sends}
 use Rattle.model.specs.declared.Message.{Message}
 use Rattle.model.specs.declared.Site.{Site}
-use Rattle.model.specs.declared.event.Reply.{Reply}
+use Rattle.std.specs.Prelude.{Option, None, Some}
 use Rattle.memory.specs.Layout.{queue_at, queue_size, outstanding_at, outstanding_size}
 use Rattle.memory.specs.Records.{Gateway, site_of}
 use Rattle.memory.specs.Codec.{entry_of, entry_bytes, sent_bytes}
@@ -42,7 +42,7 @@ module _ {before memory : List ℕ} {g : Gateway} {header : Header} {e : Entry} 
   pub left_alone : not processed ≡ true → Placed before memory header (rolled_back (processed_of (e ∷ [])) g)
   left_alone h = rw (processed-no e (sym test ∙ not-true processed h), rolled-none g) may.placed
 
-  module _ (h : not processed ≡ false) {site : Site} (site-is : site ≡ site_of header.settings) (reply : Reply)
+  module _ (h : not processed ≡ false) {site : Site} (site-is : site ≡ site_of header.settings) {reply : Option Message}
       (gives : reply ≡ reply_to site e.before e.message) where
     -- the state before it
     abbrev restored : Header
@@ -61,29 +61,29 @@ module _ {before memory : List ℕ} {g : Gateway} {header : Header} {e : Entry} 
     is-processed : processed_of (e ∷ []) ≡ e ∷ []
     is-processed = processed-one e (sym test ∙ not-false processed h)
 
-    had-sent : sent (site_of g.settings) e.before e.message ≡ cond reply.sends (reply.sent ∷ []) []
+    had-sent : sent (site_of g.settings) e.before e.message ≡ sent_by reply
     had-sent = rw (← settings-are, ← site-is) (sym (reply-sends site e.before e.message gives))
 
-    messages : sent_by_entries g (e ∷ []) ≡ cond reply.sends (reply.sent ∷ []) []
+    messages : sent_by_entries g (e ∷ []) ≡ sent_by reply
     messages = rw is-processed (back_one e (site_of g.settings) ∙ had-sent)
 
-    rolled : rolled_back (processed_of (e ∷ [])) g ≡ sent_all true (cond reply.sends (reply.sent ∷ []) []) (with_state e.before g)
+    rolled : rolled_back (processed_of (e ∷ [])) g ≡ sent_all true (sent_by reply) (with_state e.before g)
     rolled = rw is-processed (rolled-one e g ∙ rw had-sent)
 
     placed-restored : Placed before memory restored (with_state e.before g)
     placed-restored = placed-state may.placed fits.before refl
 
-    pub only-restored : not reply.sends ≡ true → Placed before memory restored (rolled_back (processed_of (e ∷ [])) g)
+    pub only-restored : reply ≡ None → Placed before memory restored (rolled_back (processed_of (e ∷ [])) g)
     unfolding sent_all
-    only-restored k = rw (rolled, not-true reply.sends k) placed-restored
+    only-restored k = rw (rolled, k) placed-restored
 
-    module _ (k : not reply.sends ≡ false) {place : ℕ} (at : place ≡ outstanding_at header.settings.q header.outstanding) where
-      one-message : sent_by_entries g (e ∷ []) ≡ reply.sent ∷ []
-      one-message = messages ∙ rw (not-false reply.sends k)
+    module _ {m : Message} (k : reply ≡ Some m) {place : ℕ} (at : place ≡ outstanding_at header.settings.q header.outstanding) where
+      one-message : sent_by_entries g (e ∷ []) ≡ m ∷ []
+      one-message = messages ∙ rw k
 
-      all-cancelled : All Cancelled (reply.sent ∷ [])
+      all-cancelled : All Cancelled (m ∷ [])
       all-cancelled =
-          subst (λ (l : List Message). All Cancelled l) (had-sent ∙ rw (not-false reply.sends k))
+          subst (λ (l : List Message). All Cancelled l) (had-sent ∙ rw k)
           (sent-cancelled g.settings may.placed.fits.header.settings e.message fits.message e.before)
 
       the-fits : {ms : List Message} {x : Message} → All Cancelled (x ∷ ms) → MessageFits x
@@ -105,12 +105,12 @@ module _ {before memory : List ℕ} {g : Gateway} {header : Header} {e : Entry} 
       pub counted : header.outstanding < 65535
       counted = let i = placed-inside may.placed in omega (arith, i.u, place-left)
 
-      pub sent-one : {memory' : List ℕ} {r : Header} → memory' ≡ write place (sent_bytes (record { message = reply.sent; cancel = true })) memory
-          → r ≡ header_sent reply.sent.hour restored → Placed before memory' r (rolled_back (processed_of (e ∷ [])) g)
+      pub sent-one : {memory' : List ℕ} {r : Header} → memory' ≡ write place (sent_bytes (record { message = m; cancel = true })) memory
+          → r ≡ header_sent m.hour restored → Placed before memory' r (rolled_back (processed_of (e ∷ [])) g)
       unfolding sent_all
       sent-one stored is =
-          rw (rolled, not-false reply.sends k)
-          (placed-sent placed-restored true reply.sent (the-fits all-cancelled) place-left (rw at at stored) is)
+          rw (rolled, k)
+          (placed-sent placed-restored true m (the-fits all-cancelled) place-left (rw at at stored) is)
 
 -- the entry in a queue place
 module _ {before memory : List ℕ} {g : Gateway} {header : Header} {k : ℕ} {xs : List Entry} {e : Entry} {zs : List Entry} (b : Between k g.queue xs e zs)

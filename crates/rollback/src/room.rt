@@ -78,10 +78,7 @@ fn sent_by(header: Header, entry: Entry) -> usize
     let before = entry.before;
     let message = entry.message;
     let reply = reply_to(site_of(settings), before, message);
-    if reply.sends {
-        return 1;
-    }
-    0
+    usize::from(reply.is_some())
 }
 
 // Puts an entry into queue place k, and the header last.

@@ -55,10 +55,9 @@ pub fn undo_entry(memory: &mut [u8], header: Header, entry: Entry) -> Header
     let reply = reply_to(site_of(settings), before, message);
     let mut next = header;
     next.state = before;
-    if !reply.sends {
+    let Some(sent) = reply else {
         return next;
-    }
-    let sent = reply.sent;
+    };
     let cancel = Sent {
         message: sent,
         cancel: true,

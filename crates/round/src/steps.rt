@@ -9,7 +9,7 @@ use gateway::{Answer, refused};
 use memory::Header;
 use model::Kind;
 use phases::{changed, counting, is_idle, no_round};
-use places::least::{least_outstanding, least_queued, lesser};
+use places::least::{least_outstanding, least_queued};
 
 // With all Lvts in: gateway 0 closes the round and sends Updates, another sends its Lvt along from.
 pub fn finish(memory: &mut [u8], output: &mut [u8], header: Header, value: u32) -> Answer
@@ -47,7 +47,7 @@ pub fn begin(memory: &mut [u8], output: &mut [u8], header: Header) -> Answer
     let settings = header.settings;
     let note = least_outstanding(memory, settings.q as usize, header.outstanding as usize);
     if settings.own + 1 == settings.n {
-        let value = lesser(note, least_queued(memory, header.queued as usize));
+        let value = note.min(least_queued(memory, header.queued as usize));
         return finish(memory, output, header, value);
     }
     let next = changed(header, header.agreed, counting(note));

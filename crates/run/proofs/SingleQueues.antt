@@ -19,7 +19,8 @@ use Rattle.model.specs.declared.State.{State}
 use Rattle.memory.proofs.LeadTimeFacts.{at_least_one}
 use Rattle.model.proofs.Sending.{sending}
 use Rattle.frame.specs.Limits.{nothing_due}
-use Rattle.memory.specs.Validity.{later, is_after}
+use Rattle.memory.specs.Validity.{later}
+use Rattle.std.specs.Ordering.{is_gt}
 use Rattle.event_steps.specs.Models.{Model, ModelLaws, NotLater, state_after, sent_by}
 use Rattle.event_steps.specs.SingleQueue as Theory
 use Rattle.event_steps.proofs.OrderLaws.{order-refl, order-antisym, message-eq}
@@ -75,7 +76,7 @@ module _ (n last : ℕ) (setups : ℕ → SetUpInput) where
   -- the two machines choose alike
   chooses : (m e : Message) → cond (later m e) e m ≡ cond (Theory.is_not_later (key m) (key e)) m e
   unfolding later
-  chooses m e = rw (keys-agree (key m) (key e)) (by-case (is_after (compared (key m) (key e))))
+  chooses m e = rw (keys-agree (key m) (key e)) (by-case (is_gt (compared (key m) (key e))))
     where
       by-case : (t : Bool) → cond t e m ≡ cond (not t) m e
       by-case true = refl
@@ -83,7 +84,7 @@ module _ (n last : ℕ) (setups : ℕ → SetUpInput) where
 
   leaves : (m e : Message) (k l : List Message) → cond (later m e) k l ≡ cond (Theory.is_not_later (key m) (key e)) l k
   unfolding later
-  leaves m e k l = rw (keys-agree (key m) (key e)) (by-case (is_after (compared (key m) (key e))))
+  leaves m e k l = rw (keys-agree (key m) (key e)) (by-case (is_gt (compared (key m) (key e))))
     where
       by-case : (t : Bool) → cond t k l ≡ cond (not t) l k
       by-case true = refl

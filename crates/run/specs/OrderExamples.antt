@@ -5,7 +5,7 @@ use Rattle.model.specs.declared.Kind.{Kind}
 use Rattle.model.specs.declared.Kind.TheVariants.{Failure, Request, Delivery, Restock}
 use Rattle.model.specs.declared.Message.{Message}
 use Rattle.model.specs.declared.State.{State}
-use Rattle.model.specs.declared.order.Comparison.TheVariants.{Before}
+use Rattle.std.specs.declared.cmp.Ordering.TheVariants.{Less}
 use Rattle.frame.specs.Writing.{written}
 use Rattle.memory.specs.Codec.{entry_bytes, encode}
 use Rattle.memory.specs.Records.{Gateway}
@@ -152,9 +152,9 @@ same_hour_record i =
 
 pub record OrderWithinAnHour : Type 0 where
   -- the rank weighs more than the origin, this more than the lamp; of two Restocks the smaller quantity comes first
-  pub rank_first : compared (key (message_at 7 (Request 1))) (key (message_at 7 (Delivery 0))) ≡ Before
-  pub then_origin : compared (key (about_lamp 50 7 (Request 0))) (key (about_lamp 49 7 (Request 1))) ≡ Before
-  pub by_quantity : compared (key (restock 5)) (key (restock 6)) ≡ Before
+  pub rank_first : compared (key (message_at 7 (Request 1))) (key (message_at 7 (Delivery 0))) ≡ Less
+  pub then_origin : compared (key (about_lamp 50 7 (Request 0))) (key (about_lamp 49 7 (Request 1))) ≡ Less
+  pub by_quantity : compared (key (restock 5)) (key (restock 6)) ≡ Less
   -- set up: the Failure comes before the Restock, whichever stands first in the list
   pub opening : (queued [] (plain (restock 5) ∷ plain failure ∷ []) ≡ map pending_entry (failure ∷ restock 5 ∷ []))
       × (queued [] (plain failure ∷ plain (restock 5) ∷ []) ≡ map pending_entry (failure ∷ restock 5 ∷ []))

@@ -21,7 +21,7 @@ use Rattle.soundness.specs.declared.Passed.{Passed}
 use Rattle.memory.specs.declared.Settings.{Settings}
 use Rattle.memory.specs.declared.Entry.{Entry}
 use Rattle.memory.specs.declared.Sent.{Sent}
-use Rattle.memory.proofs.Stored.{part-between}
+use Rattle.buffer.proofs.Writes.{part-between}
 use Rattle.memory.proofs.Validated.{still-less}
 use Rattle.memory.proofs.Places.{length-read, places-map, next_place, no_place}
 use Rattle.memory.proofs.FromBytes.{read_all, entry-fits}

@@ -2,10 +2,10 @@
 use mathlib.Core.Path.{◌≡◌}
 use mathlib.Core.Bool.{Bool}
 use mathlib.Core.List.{List}
-use Prim.Native.Nat.{ℕ, ◌<◌}
+use Prim.Native.Nat.{ℕ, ◌<◌, ◌≤◌}
 use native.Mathlib.Omega.{arith}
 use Rattle.lists.specs.Inside.Positions.{first_where, without}
-use Rattle.lists.proofs.PositionLaws.{first-bound, any_found, any_none, without-first}
+use Rattle.lists.proofs.PositionLaws.{any_found, any_none, without-first}
 use Rattle.buffer.proofs.Writes.{write-nil}
 use Rattle.model.specs.declared.Message.{Message}
 use Rattle.memory.specs.Codec.{decode, encode}
@@ -23,27 +23,18 @@ module _ (m : List ℕ) (h : Header) (known : Known m h) (cancel : Bool) (messag
   position : k ≡ first_where (is_sent cancel message) (decode m).outstanding
   position = rw (outstanding-places m h known) found
 
-  pub acknowledgment-of-none : k ≡ h.outstanding → {r : Answer} → (r.number ≡ 7) × (r.written ≡ 0)
+  pub acknowledgment-of-none : h.outstanding ≤ k → {r : Answer} → (r.number ≡ 7) × (r.written ≡ 0)
       → (output : List ℕ) → record { answer = r; memory = m; output = output } ≡ leaving (take_acknowledgment cancel message (decode m)) m output
   unfolding leaving take_acknowledgment
   acknowledgment-of-none e {r} (a, b) output =
       let none = any_none (is_sent cancel message) (decode m).outstanding (omega (arith, position, outstanding-count m h known)) in
       rw none (λ i. record { answer = record { number = a i; written = b i }; memory = m; output = output })
 
-  pub acknowledgment-below : (k ≡ h.outstanding → ⊥) → k < h.outstanding
-  acknowledgment-below n = omega (arith, position, outstanding-count m h known, first-bound (is_sent cancel message) (decode m).outstanding)
-
-  pub acknowledgment-of-one : (k ≡ h.outstanding → ⊥) → {after : List ℕ}
+  pub acknowledgment-of-one : k < h.outstanding → {after : List ℕ}
       → after ≡ encode (with_outstanding (without k (decode m).outstanding) (decode m)) m
       → (output : List ℕ) → record { answer = record { number = 0; written = 0 }; memory = after; output = output } ≡ leaving
       (take_acknowledgment cancel message (decode m)) m output
   unfolding leaving take_acknowledgment
   acknowledgment-of-one n e output =
-      let some = any_found (is_sent cancel message) (decode m).outstanding (omega (
-        arith,
-        position,
-        outstanding-count m h known,
-        first-bound
-            (is_sent cancel message) (decode m).outstanding,
-      )) in
+      let some = any_found (is_sent cancel message) (decode m).outstanding (omega (arith, position, outstanding-count m h known)) in
       rw (some, e, without-first (is_sent cancel message) (decode m).outstanding, ← position, write-nil)

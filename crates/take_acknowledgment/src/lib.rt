@@ -19,15 +19,15 @@ pub fn take_acknowledgment(
     requires { Known memory.old header }
     ensures { LeavesMemory result memory (take_acknowledgment cancel message) }
 {
-    let settings = header.settings;
-    let outstanding = header.outstanding as usize;
-    let k = find_sent(memory, settings.q as usize, outstanding, cancel, message);
-    if k == outstanding {
-        return refused(7);
-    }
-    remove_sent(memory, header, k);
-    Answer {
-        number: 0,
-        written: 0,
+    let q = header.settings.q as usize;
+    match find_sent(memory, q, header.outstanding as usize, cancel, message) {
+        Some(k) => {
+            remove_sent(memory, header, k);
+            Answer {
+                number: 0,
+                written: 0,
+            }
+        }
+        None => refused(7),
     }
 }

@@ -29,9 +29,8 @@ use Rattle.gateway.specs.Undoing.{processed_of, sent_back}
 use Rattle.gateway.specs.Taking.{acknowledgment, is_plain, waiting_entry, take_cancel, waits, is_later}
 use Rattle.gateway.specs.Calls.{CallResult, leaving}
 use Rattle.gateway.specs.Inside.Premises.{Known}
-use Rattle.places.specs.Inside.Searching.{passes, entries_in}
+use Rattle.places.specs.Inside.Searching.{entries_in}
 use Rattle.gateway.specs.declared.Answer.{Answer}
-use Rattle.places.specs.declared.search.Search.TheVariants.{Later}
 use Rattle.effects.specs.Inside.Placed.{Placed}
 use Rattle.effects.specs.Inside.Sending.{stored_frames}
 use Rattle.effects.proofs.PlacedLaws.{placed_first, placed-rest, placed-last}
@@ -56,38 +55,42 @@ module _ (m output : List ℕ) (h : Header) (known : Known m h) (x : Message) (p
   unfolding take_cancel
   cancel-waits e p = p ∙ rw (none-past (is_plain x) (decode m).queue (sym position ∙ e))
 
-  module _ (n : past ≡ 0 → ⊥) where
-    pub last-below : past - 1 < h.queued
-    last-below = omega (arith, position, past_bound (is_plain x) (decode m).queue, queue-count m h known)
+-- the last one's place
+module _ (m output : List ℕ) (h : Header) (known : Known m h) (x : Message) (k : ℕ) (found : k + 1 ≡ past_last (is_plain x) (entries_in m h.queued)) where
+  behind : past_last (is_plain x) (decode m).queue ≡ k + 1
+  behind = sym (rw (queue-places m h known) found)
 
-    pub last-struck : {l : CallResult Answer} → l ≡ leaving (settled (length output) (decode m) (struck_out (past - 1) x (decode m))) m output
-        → l ≡ leaving (settled (length output) (decode m) (take_cancel x (decode m))) m output
-    unfolding take_cancel struck_out taken_out
-    last-struck p =
-        let some : any (is_plain x) (decode m).queue ≡ true = any-past (is_plain x) (decode m).queue (omega (arith, position)) in
-        p ∙ rw (
-          some,
-          before_last_lem (is_plain x) (decode m).queue some,
-          from_last_lem (is_plain x) (decode m).queue some,
-          ← position,
-          tail-drop
-              (past - 1) (decode m).queue,
-        )
+  pub last-below : k < h.queued
+  last-below = omega (arith, behind, past_bound (is_plain x) (decode m).queue, queue-count m h known)
+
+  pub last-struck : {l : CallResult Answer} → l ≡ leaving (settled (length output) (decode m) (struck_out k x (decode m))) m output
+      → l ≡ leaving (settled (length output) (decode m) (take_cancel x (decode m))) m output
+  unfolding take_cancel struck_out taken_out
+  last-struck p =
+      let some : any (is_plain x) (decode m).queue ≡ true = any-past (is_plain x) (decode m).queue (omega (arith, behind)) in
+      let at : past_last (is_plain x) (decode m).queue - 1 ≡ k = omega (arith, behind) in
+      p ∙ rw (
+        some,
+        before_last_lem (is_plain x) (decode m).queue some,
+        from_last_lem (is_plain x) (decode m).queue some,
+        at,
+        tail-drop k (decode m).queue,
+      )
 
 -- a cancel waits in queue place k: what the code looks at is what it comes to
 module _ (m output : List ℕ) (h : Header) (known : Known m h) (bytes : Bytes m) (x : Message) (fits-x : MessageFits x) (few : kind_number x.kind ≤ 2)
-    (k : ℕ) (found : k ≡ first_where (passes Later x) (entries_in m h.queued)) where
+    (k : ℕ) (found : k ≡ first_where (is_later x) (entries_in m h.queued)) where
   abbrev g : Gateway
   g = decode m
 
   first : Placed m m h g
   first = placed_first m h bytes known
 
-  place : k ≡ first_where (passes Later x) g.queue
+  place : k ≡ first_where (is_later x) g.queue
   place = rw (queue-places m h known) found
 
   place-bound : k ≤ length g.queue
-  place-bound = omega (arith, place, first-bound (passes Later x) g.queue)
+  place-bound = omega (arith, place, first-bound (is_later x) g.queue)
 
   abbrev waiting : Effect
   waiting = record { gateway = with_queue (take k g.queue ++ (waiting_entry x ∷ drop k g.queue)) g; frames = acknowledgment true x ∷ [] }

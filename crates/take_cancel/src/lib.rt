@@ -11,7 +11,7 @@ ghost use Rattle.gateway.specs.Inside.Premises.{Known, Leaves};
 ghost use Rattle.rollback.specs.Inside.Entering.{struck_out};
 ghost use Rattle.rollback.specs.Inside.Undone.{CanTakeOut, TakesOut};
 
-use buffer::{move_down, write16};
+use buffer::{move_within, write16};
 use decoding::read_entry;
 use effects::insert::{insert_place, waiting};
 use effects::send::{outstanding_at, put_frames};
@@ -19,7 +19,7 @@ use gateway::{Answer, refused};
 use header::write_header;
 use memory::{HEADER_SIZE, Header, QUEUE_SIZE, QUEUED_AT};
 use model::Message;
-use places::search::{Search, find, past_last_equal};
+use places::search::{last_equal, place_for};
 use rollback::room::{acknowledgment, count_sent, has_room};
 use rollback::undo::{undo, undo_entry};
 use writer::outgoing::put_frame;
@@ -31,11 +31,10 @@ pub fn take_cancel(memory: &mut [u8], output: &mut [u8], header: Header, message
     if message.hour < header.agreed {
         return refused(9);
     }
-    let past = past_last_equal(memory, header.queued as usize, message);
-    if past == 0 {
-        return enter_cancel(memory, output, header, message);
+    match last_equal(memory, header.queued as usize, message) {
+        Some(k) => strike_out(memory, output, header, k, message),
+        None => enter_cancel(memory, output, header, message),
     }
-    strike_out(memory, output, header, past - 1, message)
 }
 
 // The cancel waits in a queue place, after its equals. Of the header the count alone is written: nothing else of it changes.
@@ -44,7 +43,7 @@ fn enter_cancel(memory: &mut [u8], output: &mut [u8], header: Header, message: M
     ensures { Leaves result memory output (settling (waits message)) }
 {
     let queued = header.queued as usize;
-    let k = find(memory, queued, Search::Later, message);
+    let k = place_for(memory, queued, message);
     if !has_room(header, queued + 1, 0, output.len()) {
         return refused(5);
     }
@@ -83,7 +82,7 @@ fn take_out(memory: &mut [u8], header: Header, k: usize) -> Header
 {
     let at = HEADER_SIZE + QUEUE_SIZE * k;
     let entry = read_entry(memory, at);
-    move_down(
+    move_within(
         memory,
         at + QUEUE_SIZE,
         at,

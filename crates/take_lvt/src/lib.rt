@@ -14,7 +14,7 @@ use gateway::{Answer, refused};
 use memory::{Header, Phase};
 use model::{Kind, Message};
 use phases::{awaited, changed, is_idle, stopped};
-use places::least::{least_queued, lesser};
+use places::least::least_queued;
 use round::steps::finish;
 use routing::at_most_two::AtMostTwo;
 
@@ -50,7 +50,7 @@ fn take_lvt(memory: &mut [u8], output: &mut [u8], header: Header, k: u8, hour: u
     if !awaited(bit, round.arrived) {
         return refused(4);
     }
-    let value = lesser(value_in(memory, header), hour);
+    let value = value_in(memory, header).min(hour);
     lvt_in(
         memory,
         output,
@@ -89,7 +89,7 @@ fn value_in(memory: &[u8], header: Header) -> u32
     let phase = round.phase;
     match phase {
         Phase::Idle => 0,
-        Phase::Counting => lesser(round.note, least_queued(memory, header.queued as usize)),
+        Phase::Counting => round.note.min(least_queued(memory, header.queued as usize)),
         Phase::Stopped => round.note,
     }
 }

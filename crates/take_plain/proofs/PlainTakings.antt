@@ -28,9 +28,8 @@ use Rattle.gateway.specs.Undoing.{processed_of, pending_entry, undone, sent_back
 use Rattle.gateway.specs.Taking.{acknowledgment, is_cancel_of, take_plain, entered, is_later}
 use Rattle.gateway.specs.Calls.{CallResult, leaving}
 use Rattle.gateway.specs.Inside.Premises.{Known}
-use Rattle.places.specs.Inside.Searching.{passes, entries_in}
+use Rattle.places.specs.Inside.Searching.{entries_in}
 use Rattle.gateway.specs.declared.Answer.{Answer}
-use Rattle.places.specs.declared.search.Search.TheVariants.{CancelOf, Later}
 use Rattle.lists.proofs.BoolLaws.{and_left, and_right}
 use Rattle.places.proofs.Changing.{length_without}
 use Rattle.effects.specs.Inside.Placed.{Placed}
@@ -47,7 +46,7 @@ use Rattle.rollback.proofs.Settling.{fits_by, no_room, with-room}
 use Rattle.gateway.proofs.Knowing.{outstanding-count, queue-count, queue-places, settings-are, sizes}
 
 -- whether an equal cancel waits
-module _ (m output : List ℕ) (h : Header) (known : Known m h) (x : Message) (k : ℕ) (found : k ≡ first_where (passes CancelOf x) (entries_in m h.queued)) where
+module _ (m output : List ℕ) (h : Header) (known : Known m h) (x : Message) (k : ℕ) (found : k ≡ first_where (is_cancel_of x) (entries_in m h.queued)) where
   position : k ≡ first_where (is_cancel_of x) (decode m).queue
   position = rw (queue-places m h known) found
 
@@ -82,11 +81,11 @@ pub reply-room : (cancel : Bool) (x : Message) → length x.lamp ≡ 18 → kind
 reply-room cancel x lamp few r l = rw (r, reply-size cancel x lamp few) (omega arith)
 
 -- where a message enters
-pub later-bound : (m : List ℕ) (h : Header) (known : Known m h) (x : Message) (k : ℕ) → k ≡ first_where (passes Later x) (entries_in m
+pub later-bound : (m : List ℕ) (h : Header) (known : Known m h) (x : Message) (k : ℕ) → k ≡ first_where (is_later x) (entries_in m
     h.queued) → k ≤ h.queued
 later-bound m h known x k found =
-    let place : k ≡ first_where (passes Later x) (decode m).queue = rw (queue-places m h known) found in
-    omega (arith, place, first-bound (passes Later x) (decode m).queue, queue-count m h known)
+    let place : k ≡ first_where (is_later x) (decode m).queue = rw (queue-places m h known) found in
+    omega (arith, place, first-bound (is_later x) (decode m).queue, queue-count m h known)
 
 -- the message and its cancel vanish
 module _ (m output : List ℕ) (h : Header) (known : Known m h) (k : ℕ) (below : k < h.queued) (x : Message) (lamp : length x.lamp ≡ 18)
@@ -129,7 +128,7 @@ module _ (m output : List ℕ) (h : Header) (known : Known m h) (k : ℕ) (below
 
 -- a plain message enters the queue before place k: what the code counts is what it comes to
 module _ (m output : List ℕ) (h : Header) (known : Known m h) (bytes : Bytes m) (x : Message) (fits-x : MessageFits x) (few : kind_number x.kind ≤ 2)
-    (k : ℕ) (found : k ≡ first_where (passes Later x) (entries_in m h.queued))
+    (k : ℕ) (found : k ≡ first_where (is_later x) (entries_in m h.queued))
     (sent : ℕ) (counted : sent ≡ length (sent_back (site_of h.settings) (processed_of (places_at entry_of queue_size m (queue_at k) (h.queued - k))))) where
   abbrev g : Gateway
   g = decode m
@@ -140,11 +139,11 @@ module _ (m output : List ℕ) (h : Header) (known : Known m h) (bytes : Bytes m
   first : Placed m m h g
   first = placed_first m h bytes known
 
-  place : k ≡ first_where (passes Later x) g.queue
+  place : k ≡ first_where (is_later x) g.queue
   place = rw (queue-places m h known) found
 
   pub place-bound : k ≤ length g.queue
-  place-bound = omega (arith, place, first-bound (passes Later x) g.queue)
+  place-bound = omega (arith, place, first-bound (is_later x) g.queue)
 
   sent_is : sent ≡ length ms
   sent_is = counted ∙ rw (placed-rest first k (omega (arith, place-bound, queue-count m h known)), settings-are m h known)

@@ -17,7 +17,7 @@ use gateway::{Answer, refused};
 use memory::Header;
 use model::Message;
 use places::changes::remove_entry;
-use places::search::{Search, find};
+use places::search::{cancel_of, place_for};
 use rollback::room::{acknowledgment, count_sent, enter, has_room};
 use rollback::undo::undo;
 use writer::outgoing::put_frame;
@@ -29,12 +29,10 @@ pub fn take_plain(memory: &mut [u8], output: &mut [u8], header: Header, message:
     if message.hour < header.agreed {
         return refused(9);
     }
-    let queued = header.queued as usize;
-    let k = find(memory, queued, Search::CancelOf, message);
-    if k < queued {
-        return meet_cancel(memory, output, header, k, message);
+    match cancel_of(memory, header.queued as usize, message) {
+        Some(k) => meet_cancel(memory, output, header, k, message),
+        None => enter_plain(memory, output, header, message),
     }
-    enter_plain(memory, output, header, message)
 }
 
 // The message and the equal cancel that waits in queue place k vanish.
@@ -62,7 +60,7 @@ fn enter_plain(memory: &mut [u8], output: &mut [u8], header: Header, message: Me
     ensures { Leaves result memory output (settling (entered message)) }
 {
     let queued = header.queued as usize;
-    let k = find(memory, queued, Search::Later, message);
+    let k = place_for(memory, queued, message);
     let sent = count_sent(memory, header, k);
     if !has_room(header, queued + 1, sent, output.len()) {
         return refused(5);

@@ -2,11 +2,11 @@
 use mathlib.Core.Path.{◌≡◌, refl, sym, ◌∙◌, ap}
 use mathlib.Core.Bool.{cond}
 use mathlib.Core.List.{List, [], ◌∷◌, ◌++◌, append_assoc, append-nil}
-use Prim.Native.Nat.{ℕ, zero, suc, ◌+◌, ◌≤◌, ◌<◌}
+use Prim.Native.Nat.{ℕ, zero, suc, ◌+◌, ◌-◌, ◌≤◌, ◌<◌}
 use native.Mathlib.Omega.{arith}
 use native.Mathlib.Decide.{ℕ_discrete}
 use lib.Dec.{eqb, lit<}
-use lib.ListN.{length, set, get_or, length-append, length-set}
+use lib.ListN.{length, take, drop, set, get_or, length-append, length-set}
 use borrow.Author.Tests.{eq-eqb, ne_eqb}
 use Rattle.lists.specs.Lists.{joined}
 use Rattle.buffer.specs.Slice.{Bytes, part, write, Puts}
@@ -16,7 +16,7 @@ use Rattle.buffer.proofs.Lent.{bytes-part}
 use Rattle.buffer.proofs.Putting.{puts-more, puts-length}
 use Rattle.frame.proofs.Output.{puts-as}
 use Rattle.buffer.proofs.Numbers.{one_byte}
-use Rattle.buffer.proofs.Writes.{length_part, length-write, part-cons, part-nil, write-join, set-write, write-snoc}
+use Rattle.buffer.proofs.Writes.{part-between, length_part, length-write, part-cons, part-nil, write-join, set-write, write-snoc}
 use Rattle.model.specs.Messages.{kind_number, origin_of, quantity_of}
 use Rattle.frame.proofs.Presence.{lamp-fields, restock-fields}
 use Rattle.memory.specs.Layout.{state_size}
@@ -300,15 +300,9 @@ module _ (field : StockField) (at : ℕ) (m s v : List ℕ) (is : v ≡ front_of
 
 -- an old state, copied behind two zero bytes
 module _ (at from : ℕ) (m s : List ℕ) (room : at + 16 ≤ length m) (long : from + 14 ≤ length s) where
-  pub old-copied : {one two three : List ℕ} → one ≡ write at (bytes_of 2 0) m → two ≡ write (at + 2) (part s from 2) one
-      → three ≡ write (at + 4) (part s (from + 2) 12) two → three ≡ write at (0 ∷ 0 ∷ part s from 14) m
-  unfolding bytes_of
-  old-copied {one} {two} {three} p q r =
-      let same : length one ≡ length m = ap length p ∙ length-write at (bytes_of 2 0) m (omega arith) in
-      let behind : at + 4 ≡ at + 2 + 2 = omega arith in
-      let state : three ≡ write (at + 2) (part s from 14) one =
-      copy_more s one (at + 2) from 2 (omega arith) (omega arith) q 12 (r ∙ ap (λ (k : ℕ). write k (part s (from + 2) 12) two) behind) in
-      state ∙ rw p (write-join at (0 ∷ 0 ∷ []) (part s from 14) m (omega arith))
+  pub old-copied : {one two : List ℕ} → one ≡ write at (0 ∷ 0 ∷ []) m → two ≡ write (at + 2) (take (from + 14 - from) (drop from s)) one
+      → two ≡ write at (0 ∷ 0 ∷ part s from 14) m
+  old-copied p q = q ∙ rw (p, part-between) (write-join at (0 ∷ 0 ∷ []) (part s from 14) m (omega arith))
 
 -- its front, of a Restock and of any other
 module _ (at : ℕ) (m s : List ℕ) (room : at + length (front_of s) ≤ length m) where

@@ -13,7 +13,7 @@ ghost use Rattle.views.specs.Viewing.{view_for, viewed};
 ghost use Rattle.views.specs.declared.Reader.TheVariants.{Purchasing, Maintenance};
 ghost use Rattle.views.specs.Inside.Parts.{length_for, measured_as, head_of, front_of, state_from, widened};
 
-use buffer::{copy_four, copy_two, write16};
+use buffer::copy;
 use frame::lamps::{LAMP_END, LAMP_PLACE};
 use frame::tables::{HOUR_PLACE, ORIGIN_PLACE, QUANTITY_END, QUANTITY_PLACE};
 use memory::STATE_SIZE;
@@ -193,7 +193,7 @@ fn put_front(output: &mut [u8], at: usize, event: &[u8], stock: StockField) -> F
 {
     if event[1] == 3 {
         put_head(output, at, PURCHASING_RESTOCK_MAP, event);
-        copy_two(output, at + 6, event, QUANTITY_PLACE);
+        copy(output, at + 6, &event[QUANTITY_PLACE..QUANTITY_END]);
         return Front {
             position: at + 8,
             state: RESTOCK_STATE,
@@ -216,7 +216,7 @@ fn put_for_maintenance(output: &mut [u8], at: usize, event: &[u8], stock: StockF
         return at + 6;
     }
     put_head(output, at, MAINTENANCE_MAP, event);
-    copy_lamp(output, at + 6, event);
+    copy(output, at + 6, &event[LAMP_PLACE..LAMP_END]);
     output[at + 24] = event[ORIGIN_PLACE];
     at + 25
 }
@@ -227,7 +227,7 @@ fn put_head(output: &mut [u8], at: usize, map: u8, event: &[u8])
     ensures { output.new ≡ write at (head_of map event.now) output.old }
 {
     output[at] = map;
-    copy_four(output, at + 1, event, HOUR_PLACE);
+    copy(output, at + 1, &event[HOUR_PLACE..ORIGIN_PLACE]);
     output[at + 5] = event[1];
 }
 
@@ -237,18 +237,9 @@ fn put_state(output: &mut [u8], at: usize, event: &[u8], from: usize, stock: Sto
     ensures { output.new ≡ write at (widened stock (part event.now from (state_size_of stock))) output.old }
 {
     match stock {
-        StockField::Present => copy_state(output, at, event, from),
+        StockField::Present => copy(output, at, &event[from..from + STATE_SIZE]),
         StockField::Old => copy_old_state(output, at, event, from),
     }
-}
-
-// Copies the sixteen bytes of a state.
-fn copy_state(output: &mut [u8], at: usize, event: &[u8], from: usize)
-    requires { (at + 16 ≤ length output.old) × (from + 16 ≤ length event.now) }
-    ensures { output.new ≡ write at (part event.now from 16) output.old }
-{
-    copy_four(output, at, event, from);
-    copy_counters(output, at + 4, event, from + 4);
 }
 
 // Copies the fourteen bytes of a state with the old stock behind two zero bytes.
@@ -256,29 +247,6 @@ fn copy_old_state(output: &mut [u8], at: usize, event: &[u8], from: usize)
     requires { (at + 16 ≤ length output.old) × (from + 14 ≤ length event.now) }
     ensures { output.new ≡ write at (0 ∷ 0 ∷ part event.now from 14) output.old }
 {
-    write16(output, at, 0);
-    copy_two(output, at + 2, event, from);
-    copy_counters(output, at + 4, event, from + 2);
-}
-
-// Copies the twelve bytes of failed, fitted and short.
-fn copy_counters(output: &mut [u8], at: usize, event: &[u8], from: usize)
-    requires { (at + 12 ≤ length output.old) × (from + 12 ≤ length event.now) }
-    ensures { output.new ≡ write at (part event.now from 12) output.old }
-{
-    copy_four(output, at, event, from);
-    copy_four(output, at + 4, event, from + 4);
-    copy_four(output, at + 8, event, from + 8);
-}
-
-// Copies the eighteen bytes of the lamp.
-fn copy_lamp(output: &mut [u8], at: usize, event: &[u8])
-    requires { (at + 18 ≤ length output.old) × (27 ≤ length event.now) }
-    ensures { output.new ≡ write at (part event.now 9 18) output.old }
-{
-    copy_four(output, at, event, LAMP_PLACE);
-    copy_four(output, at + 4, event, LAMP_PLACE + 4);
-    copy_four(output, at + 8, event, LAMP_PLACE + 8);
-    copy_four(output, at + 12, event, LAMP_PLACE + 12);
-    copy_two(output, at + 16, event, LAMP_PLACE + 16);
+    copy(output, at, &[0, 0]);
+    copy(output, at + 2, &event[from..from + 14]);
 }

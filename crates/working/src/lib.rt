@@ -1,47 +1,39 @@
 // The two gateways of the last example work, and gateway 0 starts a round unless the agreed time is nothing due.
 #![tactic(auto)]
 
-ghost use Rattle.std.specs.Prelude.{◌≤◌, length};
-
-use lines::append;
+use lines::{Gateway, append};
 use round::agreed::agreed_time;
 use round::start::start;
+use std::alloc::AllocError;
 use work::work;
 
 // Whether the agreed time is nothing due.
-pub fn nothing_due(memory: &[u8]) -> bool {
-    let agreed = agreed_time(memory);
-    agreed.hour == 4294967295
+pub fn nothing_due(gateway: &Gateway) -> bool {
+    let agreed = agreed_time(&gateway.memory);
+    agreed.hour == u32::MAX
 }
 
 // Gateway 0 works, then gateway 1.
-pub fn work_both(first: &mut [u8], second: &mut [u8], line: &mut [u8], end: usize) -> usize
-    requires { end ≤ length line.old }
-    ensures { (end ≤ result) × (result ≤ length line.old) }
-{
-    let behind = work_off(first, line, end);
-    work_off(second, line, behind)
+pub fn work_both(gateways: &mut [Gateway; 2], line: &mut Vec<u8>) -> Result<(), AllocError> {
+    for gateway in gateways.iter_mut() {
+        work_off(gateway, line)?;
+    }
+    Ok(())
 }
 
 // A gateway works with B = 4.
-fn work_off(memory: &mut [u8], line: &mut [u8], end: usize) -> usize
-    requires { end ≤ length line.old }
-    ensures { (end ≤ result) × (result ≤ length line.old) }
-{
-    let mut output = io::buffer();
-    let worked = work(memory, &mut output, 4);
-    append(line, end, &output, worked.written)
+fn work_off(gateway: &mut Gateway, line: &mut Vec<u8>) -> Result<(), AllocError> {
+    let mut output = [0u8; 4096];
+    let worked = work(&mut gateway.memory, &mut output, 4);
+    append(line, &output, worked.written)
 }
 
 // The start call, unless the agreed time is nothing due. It is refused while a round is open.
-pub fn start_if_due(memory: &mut [u8], line: &mut [u8], end: usize) -> usize
-    requires { end ≤ length line.old }
-    ensures { (end ≤ result) × (result ≤ length line.old) }
-{
-    if nothing_due(memory) {
-        return end;
+pub fn start_if_due(gateway: &mut Gateway, line: &mut Vec<u8>) -> Result<(), AllocError> {
+    if nothing_due(gateway) {
+        return Ok(());
     }
-    let mut output = io::buffer();
-    let answer = start(memory, &mut output);
-    append(line, end, &output, answer.written)
+    let mut output = [0u8; 4096];
+    let answer = start(&mut gateway.memory, &mut output);
+    append(line, &output, answer.written)
 }

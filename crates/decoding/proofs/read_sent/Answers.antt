@@ -1,6 +1,6 @@
 -- `decoding::read_sent` meets its contract.
 use Rattle.memory.specs.Layout.{outstanding_size}
-use Rattle.memory.proofs.Stored.{part-between}
+use Rattle.buffer.proofs.Writes.{part-between}
 use Rattle.decoding.proofs.read_sent.Goals as goal
 
 pub returns : goal.returns

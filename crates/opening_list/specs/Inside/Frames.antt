@@ -12,9 +12,9 @@ use Rattle.memory.specs.declared.Header.{Header}
 use Rattle.gateway.specs.Undoing.{pending_entry}
 use Rattle.gateway.specs.Rounds.{idle}
 use Rattle.gateway.specs.SettingUp.{settings_of, opening_refusal, first_refusal}
-use Rattle.places.specs.Inside.Searching.{passes, entries_in}
+use Rattle.gateway.specs.Taking.{is_later}
+use Rattle.places.specs.Inside.Searching.{entries_in}
 use Rattle.gateway.specs.declared.Opening.{Opening}
-use Rattle.places.specs.declared.search.Search.TheVariants.{Later}
 use Rattle.effects.specs.Inside.Placed.{entry_inserted}
 use Rattle.opening_list.specs.declared.Checked.{Checked}
 
@@ -29,7 +29,7 @@ checked_as s frames = record { number = first_refusal s frames; count = length (
 -- the memory after a message has entered the first count queue places, behind those that are not later
 unfoldable pub memory_entered : ℕ → Message → List ℕ → List ℕ
 memory_entered count m memory =
-    entry_inserted count (first_where (passes Later m) (entries_in memory count)) (pending_entry m) memory
+    entry_inserted count (first_where (is_later m) (entries_in memory count)) (pending_entry m) memory
 
 -- the header of a gateway just set up, with so many messages in its queue
 abbrev pub opened_header : Opening → ℕ → Header

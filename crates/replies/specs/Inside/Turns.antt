@@ -1,9 +1,9 @@
 -- One event of work and several, on the memory: what the functions inside work are told and promise.
-use Rattle.std.specs.Prelude.{◌≡◌, ℕ, ◌+◌, ◌-◌, ◌≤◌, Bool, true, false, ◌&&◌, List, leb, length, drop}
+use Rattle.std.specs.Prelude.{◌≡◌, ℕ, ◌+◌, ◌-◌, ◌≤◌, Bool, true, false, ◌&&◌, List, Option, leb, length, drop}
 use Rattle.lists.specs.Lists.{tally}
 use Rattle.lists.specs.Inside.Positions.{first_where}
 use Rattle.model.specs.Doing.{most_stock, sent_by}
-use Rattle.model.specs.declared.event.Reply.{Reply}
+use Rattle.model.specs.declared.Message.{Message}
 use Rattle.memory.specs.Records.{Gateway}
 use Rattle.memory.specs.Layout.{queue_size, queue_at, size_for}
 use Rattle.memory.specs.Codec.{entry_of, places_at}
@@ -58,21 +58,21 @@ abbrev pub stopped_with : ℕ → Turn → Turn
 stopped_with why t = record { header = t.header; written = t.written; place = t.place; why = why }
 
 -- the bytes of output that what doing a message sends takes
-abbrev pub reply_bytes : Reply → ℕ
+abbrev pub reply_bytes : Option Message → ℕ
 reply_bytes reply = length (bytes_of_frames (frames_for false (sent_by reply)))
 
 -- there are outstanding places and bytes of output for what doing a message sends
-abbrev pub room_for : Header → ℕ → Reply → Bool
+abbrev pub room_for : Header → ℕ → Option Message → Bool
 room_for h room reply = leb (h.outstanding + length (sent_by reply)) h.settings.u && leb (reply_bytes reply) room
 
 -- there are outstanding places for it in the memory
-pub record MaySendReply (memory : List ℕ) (h : Header) (reply : Reply) : Type 0 where
+pub record MaySendReply (memory : List ℕ) (h : Header) (reply : Option Message) : Type 0 where
   pub long : size_for h.settings.q h.settings.u ≤ length memory
   pub outstanding-places : h.settings.u ≤ 512
   pub outstanding : h.outstanding + length (sent_by reply) ≤ h.settings.u
 
 -- it is sent, for every gateway that the memory may hold
-abbrev pub SendsReply : List ℕ → List ℕ → Header → Reply → Header → Type 0
+abbrev pub SendsReply : List ℕ → List ℕ → Header → Option Message → Header → Type 0
 SendsReply memory memory' h reply r =
     (before : List ℕ) (g : Gateway) → Placed before memory h g → GatewayFits (sent_all false (sent_by reply) g)
     → Placed before memory' r (sent_all false (sent_by reply) g)

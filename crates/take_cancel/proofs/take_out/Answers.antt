@@ -32,8 +32,8 @@ pub overflow_mul-header : goal.overflow_mul-header
 overflow_mul-header c =
     let v = movable c.requires.1 c.requires.2 in search rules
 
-pub move_down-requires : goal.move_down-requires
-move_down-requires c =
+pub move_within-requires : goal.move_within-requires
+move_within-requires c =
     let v = movable c.requires.1 c.requires.2 in (omega arith, omega (arith, v.long))
 
 pub overflow_sub-next : goal.overflow_sub-next
@@ -42,7 +42,7 @@ overflow_sub-next c =
 
 pub undo-behind-requires : goal.undo-behind-requires
 undo-behind-requires c =
-    let d = may-undo-behind c.requires.1 c.requires.2 c.read_entry-entry.ensures c.move_down.ensures in (
+    let d = may-undo-behind c.requires.1 c.requires.2 c.read_entry-entry.ensures c.move_within.ensures in (
       _,
       _,
       d.0,
@@ -51,16 +51,16 @@ undo-behind-requires c =
 
 pub undo_entry-requires : goal.undo_entry-requires
 undo_entry-requires c =
-    let d = may-undo-behind c.requires.1 c.requires.2 c.read_entry-entry.ensures c.move_down.ensures in
-    let l = may-undo-last c.requires.1 c.requires.2 c.read_entry-entry.ensures c.move_down.ensures
+    let d = may-undo-behind c.requires.1 c.requires.2 c.read_entry-entry.ensures c.move_within.ensures in
+    let l = may-undo-last c.requires.1 c.requires.2 c.read_entry-entry.ensures c.move_within.ensures
     (c.undo-behind.ensures _ _ d.0 d.1) in
     (_, _, l.0, l.1)
 
 pub returns : goal.returns
 returns c =
     λ g low may.
-    let d = may-undo-behind low may c.read_entry-entry.ensures c.move_down.ensures in
+    let d = may-undo-behind low may c.read_entry-entry.ensures c.move_within.ensures in
     let u = c.undo-behind.ensures _ _ d.0 d.1 in
-    let l = may-undo-last low may c.read_entry-entry.ensures c.move_down.ensures u in
-    taken_out_lem low may c.read_entry-entry.ensures c.move_down.ensures u (c.undo_entry.ensures _ _
+    let l = may-undo-last low may c.read_entry-entry.ensures c.move_within.ensures u in
+    taken_out_lem low may c.read_entry-entry.ensures c.move_within.ensures u (c.undo_entry.ensures _ _
     l.0 l.1)

@@ -33,4 +33,4 @@ pub returns : goal.returns
 returns c =
     lvt-awaited _ _ c.requires c.args.output.now _ c.is_idle.ensures c.told-among.result
     c.bit_of-bit.ensures.0 c.awaited.ensures _ c.if-is_idle.false c.told-among.ensures (ap not c.if-not-awaited.false)
-    c.all_bits.ensures c.value_in.ensures c.lesser-value.ensures c.lvt_in.ensures
+    c.all_bits.ensures c.value_in.ensures c.min-value.ensures c.lvt_in.ensures

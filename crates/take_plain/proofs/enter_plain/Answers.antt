@@ -8,12 +8,12 @@ use Rattle.take_plain.proofs.PlainTakings.{later-bound, place-bound, entered-wit
 use Rattle.gateway.proofs.Knowing.{sizes}
 use Rattle.take_plain.proofs.enter_plain.Goals as goal
 
-pub find-k-requires : goal.find-k-requires
-find-k-requires c = let z = sizes _ _ c.requires.0 in omega (arith, z.long, z.queued)
+pub place_for-k-requires : goal.place_for-k-requires
+place_for-k-requires c = let z = sizes _ _ c.requires.0 in omega (arith, z.long, z.queued)
 
 pub count_sent-sent-requires : goal.count_sent-sent-requires
 count_sent-sent-requires c =
-    let z = sizes _ _ c.requires.0 in (later-bound _ _ c.requires.0 _ _ c.find-k.ensures, omega (arith, z.long, z.queued))
+    let z = sizes _ _ c.requires.0 in (later-bound _ _ c.requires.0 _ _ c.place_for-k.ensures, omega (arith, z.long, z.queued))
 
 pub has_room-requires : goal.has_room-requires
 has_room-requires c =
@@ -22,40 +22,40 @@ has_room-requires c =
 pub returns-then-not-has_room : goal.returns-then-not-has_room
 returns-then-not-has_room c =
     let b : Bytes c.args.memory.now = search bytes-known in
-    entered-without-room c.args.memory.now c.args.output.now _ c.requires.0 b _ c.requires.1 c.requires.2 _ c.find-k.ensures _
+    entered-without-room c.args.memory.now c.args.output.now _ c.requires.0 b _ c.requires.1 c.requires.2 _ c.place_for-k.ensures _
     c.count_sent-sent.ensures.0
     c.has_room.ensures (ap not c.if-not-has_room.true) c.refused.ensures
 
 pub undo-next-requires : goal.undo-next-requires
 undo-next-requires c =
     let b : Bytes c.args.memory.now = search bytes-known in
-    let low = place-bound c.args.memory.now c.args.output.now _ c.requires.0 b _ c.requires.1 c.requires.2 _ c.find-k.ensures _
+    let low = place-bound c.args.memory.now c.args.output.now _ c.requires.0 b _ c.requires.1 c.requires.2 _ c.place_for-k.ensures _
     c.count_sent-sent.ensures.0 in
-    let may = may-send c.args.memory.now c.args.output.now _ c.requires.0 b _ c.requires.1 c.requires.2 _ c.find-k.ensures _
+    let may = may-send c.args.memory.now c.args.output.now _ c.requires.0 b _ c.requires.1 c.requires.2 _ c.place_for-k.ensures _
     c.count_sent-sent.ensures.0 c.has_room.ensures (ap not c.if-not-has_room.false) in
     (_, _, low, may)
 
 pub put_frames-end-requires : goal.put_frames-end-requires
 put_frames-end-requires c =
     let b : Bytes c.args.memory.now = search bytes-known in
-    let low = place-bound c.args.memory.now c.args.output.now _ c.requires.0 b _ c.requires.1 c.requires.2 _ c.find-k.ensures _
+    let low = place-bound c.args.memory.now c.args.output.now _ c.requires.0 b _ c.requires.1 c.requires.2 _ c.place_for-k.ensures _
     c.count_sent-sent.ensures.0 in
-    let may = may-send c.args.memory.now c.args.output.now _ c.requires.0 b _ c.requires.1 c.requires.2 _ c.find-k.ensures _
+    let may = may-send c.args.memory.now c.args.output.now _ c.requires.0 b _ c.requires.1 c.requires.2 _ c.place_for-k.ensures _
     c.count_sent-sent.ensures.0 c.has_room.ensures (ap not c.if-not-has_room.false) in
-    may-put-all c.args.memory.now c.args.output.now _ c.requires.0 b _ c.requires.1 c.requires.2 _ c.find-k.ensures _
+    may-put-all c.args.memory.now c.args.output.now _ c.requires.0 b _ c.requires.1 c.requires.2 _ c.place_for-k.ensures _
     c.count_sent-sent.ensures.0 c.has_room.ensures (ap not c.if-not-has_room.false)
     (c.undo-next.ensures _ _ low may) c.acknowledgment-reply.ensures c.outstanding_at.ensures
 
 pub enter-requires : goal.enter-requires
 enter-requires c =
     let b : Bytes c.args.memory.now = search bytes-known in
-    let low = place-bound c.args.memory.now c.args.output.now _ c.requires.0 b _ c.requires.1 c.requires.2 _ c.find-k.ensures _
+    let low = place-bound c.args.memory.now c.args.output.now _ c.requires.0 b _ c.requires.1 c.requires.2 _ c.place_for-k.ensures _
     c.count_sent-sent.ensures.0 in
-    let may = may-send c.args.memory.now c.args.output.now _ c.requires.0 b _ c.requires.1 c.requires.2 _ c.find-k.ensures _
+    let may = may-send c.args.memory.now c.args.output.now _ c.requires.0 b _ c.requires.1 c.requires.2 _ c.place_for-k.ensures _
     c.count_sent-sent.ensures.0 c.has_room.ensures (ap not c.if-not-has_room.false) in (
       _,
       _,
-      may-enter c.args.memory.now c.args.output.now _ c.requires.0 b _ c.requires.1 c.requires.2 _ c.find-k.ensures _
+      may-enter c.args.memory.now c.args.output.now _ c.requires.0 b _ c.requires.1 c.requires.2 _ c.place_for-k.ensures _
           c.count_sent-sent.ensures.0 c.has_room.ensures (ap not c.if-not-has_room.false)
           (c.undo-next.ensures _ _ low may) c.pending.ensures,
     )
@@ -63,15 +63,15 @@ enter-requires c =
 pub returns : goal.returns
 returns c =
     let b : Bytes c.args.memory.now = search bytes-known in
-    let low = place-bound c.args.memory.now c.args.output.now _ c.requires.0 b _ c.requires.1 c.requires.2 _ c.find-k.ensures _
+    let low = place-bound c.args.memory.now c.args.output.now _ c.requires.0 b _ c.requires.1 c.requires.2 _ c.place_for-k.ensures _
     c.count_sent-sent.ensures.0 in
-    let may = may-send c.args.memory.now c.args.output.now _ c.requires.0 b _ c.requires.1 c.requires.2 _ c.find-k.ensures _
+    let may = may-send c.args.memory.now c.args.output.now _ c.requires.0 b _ c.requires.1 c.requires.2 _ c.place_for-k.ensures _
     c.count_sent-sent.ensures.0 c.has_room.ensures (ap not c.if-not-has_room.false) in
     let u = c.undo-next.ensures _ _ low may in
-    let there = may-enter c.args.memory.now c.args.output.now _ c.requires.0 b _ c.requires.1 c.requires.2 _ c.find-k.ensures _
+    let there = may-enter c.args.memory.now c.args.output.now _ c.requires.0 b _ c.requires.1 c.requires.2 _ c.place_for-k.ensures _
     c.count_sent-sent.ensures.0 c.has_room.ensures (ap not c.if-not-has_room.false)
     u c.pending.ensures in
-    entered-done c.args.memory.now c.args.output.now _ c.requires.0 b _ c.requires.1 c.requires.2 _ c.find-k.ensures _
+    entered-done c.args.memory.now c.args.output.now _ c.requires.0 b _ c.requires.1 c.requires.2 _ c.place_for-k.ensures _
     c.count_sent-sent.ensures.0 c.has_room.ensures (ap not c.if-not-has_room.false)
     u c.acknowledgment-reply.ensures c.outstanding_at.ensures c.put_frames-end.ensures
     c.pending.ensures (c.enter.ensures _ _ there)

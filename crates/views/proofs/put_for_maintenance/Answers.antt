@@ -1,11 +1,13 @@
 -- `views::put_for_maintenance` meets its contract.
 use native.Mathlib.Omega.{arith}
 use Rattle.buffer.proofs.Lent.{bytes-known}
+use Rattle.buffer.specs.Slice.{part}
 use Rattle.records.proofs.EventParts.{kind-inside}
 use Rattle.records.specs.Events.{event_of}
 use Rattle.views.specs.Bytes.{event_view}
 use Rattle.views.specs.declared.Reader.TheVariants.{Maintenance}
 use Rattle.views.proofs.ViewParts.{restock-long, maintenance-restock, lamp-long, maintenance-lamp, front-room, front-put, lamp-room, lamp-fits, lamp-length, lamp-put}
+use Rattle.buffer.proofs.Writes.{length_part}
 use borrow.Author.Rules.{rules}
 use Rattle.views.proofs.put_for_maintenance.Goals as goal
 
@@ -42,13 +44,22 @@ put_head-requires-2 c =
     let room = lamp-room c.args.at c.args.output.now s (event_view Maintenance (event_of c.args.stock s)) (maintenance-lamp c.args.stock s b c.requires.0 k) long c.requires.1 in
     (omega arith, omega arith)
 
-pub copy_lamp-requires : goal.copy_lamp-requires
-copy_lamp-requires c =
+pub slice_bounds-copy-end : goal.slice_bounds-copy-end
+slice_bounds-copy-end c =
+    let s = c.args.event.now in
+    let b = bytes-known s c.type_inv.event in
+    let long = lamp-long c.args.stock s b c.requires.0 c.if-event-eq3.false in
+    omega arith
+
+pub copy-requires : goal.copy-requires
+unfolding part
+copy-requires c =
     let s = c.args.event.now in
     let b = bytes-known s c.type_inv.event in
     let k = c.if-event-eq3.false in
     let long = lamp-long c.args.stock s b c.requires.0 k in
-    (lamp-fits c.args.at c.args.output.now s (event_view Maintenance (event_of c.args.stock s)) (maintenance-lamp c.args.stock s b c.requires.0 k) long c.requires.1 c.put_head-2.ensures, omega arith)
+    let fits = lamp-fits c.args.at c.args.output.now s (event_view Maintenance (event_of c.args.stock s)) (maintenance-lamp c.args.stock s b c.requires.0 k) long c.requires.1 c.put_head-2.ensures in
+    omega (arith, length_part s 9 18 (omega arith))
 
 pub bounds-event-8 : goal.bounds-event-8
 bounds-event-8 c =
@@ -59,28 +70,31 @@ bounds-event-8 c =
     search rules
 
 pub bounds-output-at : goal.bounds-output-at
+unfolding part
 bounds-output-at c =
     let s = c.args.event.now in
     let b = bytes-known s c.type_inv.event in
     let k = c.if-event-eq3.false in
     let long = lamp-long c.args.stock s b c.requires.0 k in
     let room = lamp-room c.args.at c.args.output.now s (event_view Maintenance (event_of c.args.stock s)) (maintenance-lamp c.args.stock s b c.requires.0 k) long c.requires.1 in
-    let same = lamp-length c.args.at c.args.output.now s (event_view Maintenance (event_of c.args.stock s)) (maintenance-lamp c.args.stock s b c.requires.0 k) long c.requires.1 c.put_head-2.ensures c.copy_lamp.ensures in
+    let same = lamp-length c.args.at c.args.output.now s (event_view Maintenance (event_of c.args.stock s)) (maintenance-lamp c.args.stock s b c.requires.0 k) long c.requires.1 c.put_head-2.ensures c.copy.ensures in
     search rules
 
 pub shape_of-output : goal.shape_of-output
+unfolding part
 shape_of-output c =
     let s = c.args.event.now in
     let b = bytes-known s c.type_inv.event in
     let k = c.if-event-eq3.false in
     let long = lamp-long c.args.stock s b c.requires.0 k in
-    let same = lamp-length c.args.at c.args.output.now s (event_view Maintenance (event_of c.args.stock s)) (maintenance-lamp c.args.stock s b c.requires.0 k) long c.requires.1 c.put_head-2.ensures c.copy_lamp.ensures in
+    let same = lamp-length c.args.at c.args.output.now s (event_view Maintenance (event_of c.args.stock s)) (maintenance-lamp c.args.stock s b c.requires.0 k) long c.requires.1 c.put_head-2.ensures c.copy.ensures in
     search (same, rules)
 
 pub returns : goal.returns
+unfolding part
 returns c =
     let s = c.args.event.now in
     let b = bytes-known s c.type_inv.event in
     let k = c.if-event-eq3.false in
     let long = lamp-long c.args.stock s b c.requires.0 k in
-    lamp-put c.args.at c.args.output.now s (event_view Maintenance (event_of c.args.stock s)) (maintenance-lamp c.args.stock s b c.requires.0 k) long c.requires.1 c.put_head-2.ensures c.copy_lamp.ensures
+    lamp-put c.args.at c.args.output.now s (event_view Maintenance (event_of c.args.stock s)) (maintenance-lamp c.args.stock s b c.requires.0 k) long c.requires.1 c.put_head-2.ensures c.copy.ensures

@@ -1,15 +1,13 @@
 -- `places::changes::remove_sent` meets its contract.
-use Rattle.places.proofs.Changing.{without-sent}
-use Rattle.buffer.proofs.Lent.{bytes-known}
+use mathlib.Core.Path.{refl}
 use native.Mathlib.Omega.{arith}
+use Rattle.buffer.proofs.Lent.{bytes-known}
 use Rattle.gateway.proofs.Knowing.{sizes}
+use Rattle.places.proofs.Changing.{without-sent}
 use Rattle.places.proofs.changes.remove_sent.Goals as goal
 
-pub move_down-requires : goal.move_down-requires
-move_down-requires c = let z = sizes _ _ c.requires.0 in (omega arith, omega arith)
-
-pub write16-requires : goal.write16-requires
-write16-requires c = let z = sizes _ _ c.requires.0 in omega arith
+pub remove-requires : goal.remove-requires
+remove-requires c = let z = sizes _ _ c.requires.0 in record { below = c.requires.1; header = omega arith; inside = omega arith }
 
 pub returns : goal.returns
-returns c = search (without-sent, bytes-known)
+returns c = without-sent c.args.memory.now c.args.header (search bytes-known) c.requires.0 c.args.k c.requires.1 refl c.remove.ensures

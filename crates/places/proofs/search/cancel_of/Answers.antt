@@ -1,9 +1,8 @@
 -- `places::search::cancel_of` meets its contract.
-use Rattle.places.proofs.Matching.{no-cancel, cancel-met}
+use native.Mathlib.Nat.{zero-add, sub-zero}
+use Rattle.std.proofs.Common.{rules}
+use Rattle.gateway.specs.Taking.{is_cancel_of}
 use Rattle.places.proofs.search.cancel_of.Goals as goal
 
-pub returns-then-not-is_waiting : goal.returns-then-not-is_waiting
-returns-then-not-is_waiting c = search no-cancel
-
 pub returns : goal.returns
-returns c = search cancel-met
+returns c = rw (zero-add, sub-zero) at (c.first.ensures (is_cancel_of c.args.message) (λ e r h. search rules))

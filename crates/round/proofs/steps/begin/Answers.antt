@@ -24,7 +24,7 @@ pub returns-then-settings : goal.returns-then-settings
 returns-then-settings c =
     as-effect c.args.memory.now c.args.output.now c.finish.ensures (stopping-at-once _ _ c.requires _ _ _
     c.if-settings.true c.least_outstanding-note.ensures c.least_queued.ensures
-    c.lesser-value.ensures)
+    c.min-value.ensures)
 
 pub told-requires : goal.told-requires
 told-requires c =

@@ -1,2 +1,0 @@
--- Laws of stored messages.
-pub mod Framed

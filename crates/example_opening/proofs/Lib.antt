@@ -1,2 +1,0 @@
--- Laws of the example's set up.
-pub mod SetUps

@@ -1,2 +1,0 @@
--- Laws of the example's buffers.
-pub mod Branches

@@ -1,2 +1,0 @@
--- Laws of the single queue's shelves.
-pub mod Growing
