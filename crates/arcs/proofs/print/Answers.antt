@@ -1,12 +1,13 @@
-use Rattle.std.proofs.Common.{rules, ◌≡◌, ◌≤◌, length, IfOk, ℕ, ◌+◌, ◌-◌, ◌*◌, ◌<◌, ◌/◌, ◌%◌, Bool, true, false, nat_eq, nat_lt, List, [], ◌∷◌, ◌++◌, slice_index_or, slice_set, bit_and, bit_or, Fits, w8, w32, w64, Bor, MutBor}
-use Rattle.buffer.specs.Slice.{write}
-use Rattle.listing.specs.Output.{printed, rendering}
+-- `print` writes what `render` put, which is within the output.
+use mathlib.Core.Path.{sym}
+use native.Mathlib.Omega.{arith}
+use lib.Seq.{length-take-le}
+use Rattle.rendering.proofs.Whole.{put-within}
 use Rattle.arcs.proofs.print.Goals as goal
 
--- src/main.rt:31:36
 pub slice_bounds-write_all-end : goal.slice_bounds-write_all-end
-slice_bounds-write_all-end g c = ?
+slice_bounds-write_all-end g c = omega (arith, put-within _ _ c.render.ensures c.in-Ok.is, c.render.auto.out)
 
--- src/main.rt:31:36
 pub slice_bounds-write_all-end-in-Ok : goal.slice_bounds-write_all-end-in-Ok
-slice_bounds-write_all-end-in-Ok g c = ?
+slice_bounds-write_all-end-in-Ok g c =
+    sym (length-take-le _ _ (omega (arith, put-within _ _ c.render.ensures c.in-Ok.is, c.render.auto.out)))
