@@ -1,12 +1,11 @@
 -- The tests of validity, a law for each branch of the code that makes them where a chain of tests does not say it.
 use mathlib.Core.Path.{◌≡◌, ◌∙◌, ap}
-use Prim.Native.Nat.{ℕ, ◌<◌}
-use native.Mathlib.Omega.{arith}
+use Prim.Native.Nat.{ℕ}
 use mathlib.Core.List.{List}
 use lib.ListN.{length}
 use mathlib.Core.Bool.{Bool, true, false}
 use lib.Dec.{leb}
-use borrow.Author.Tests.{eq-eqb, ne_eqb, le-leb, lt-ltb}
+use borrow.Author.Tests.{eq-eqb, ne_eqb}
 use Rattle.routing.specs.Arcs.{from, to}
 use Rattle.model.specs.declared.Message.{Message}
 use Rattle.frame.specs.Writing.{well_formed}
