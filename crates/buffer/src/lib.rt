@@ -27,6 +27,22 @@ pub trait Number: Copy {
         ensures { bytes.new ≡ write at (bytes_of WIDTH (value self)) bytes.old };
 }
 
+impl Number for u8 {
+    ghost value = { λ n. n };
+
+    const WIDTH: usize = 1;
+
+    ghost WIDTH = { 1 };
+
+    fn read(bytes: &[u8], at: usize) -> u8 {
+        bytes[at]
+    }
+
+    fn write(self, bytes: &mut [u8], at: usize) {
+        bytes[at] = self;
+    }
+}
+
 impl Number for u16 {
     ghost value = { λ n. n };
 

@@ -6,8 +6,7 @@ ghost use Rattle.memory.specs.Layout.{queue_size, outstanding_size, message_size
 ghost use Rattle.buffer.specs.Slice.{part};
 ghost use Rattle.memory.specs.Codec.{mark_of, state_of, message_of, entry_of, sent_of};
 
-use buffer::{read16, read32};
-use frame::lamps::read_lamp;
+use buffer::{Number, array_at};
 use memory::{Entry, MESSAGE_SIZE, Mark, OUTSTANDING_SIZE, QUEUE_SIZE, Sent, ZEROS_AT};
 use model::{Message, State, kind_of};
 
@@ -16,8 +15,7 @@ pub fn read_entry(memory: &[u8], at: usize) -> Entry
     requires { at + queue_size ≤ length memory.now }
     ensures { result ≡ entry_of (part memory.now at queue_size) }
 {
-    let end = at + QUEUE_SIZE;
-    entry_of(&memory[at..end])
+    entry_of(&memory[at..at + QUEUE_SIZE])
 }
 
 // The outstanding place from position at on.
@@ -25,8 +23,7 @@ pub fn read_sent(memory: &[u8], at: usize) -> Sent
     requires { at + outstanding_size ≤ length memory.now }
     ensures { result ≡ sent_of (part memory.now at outstanding_size) }
 {
-    let end = at + OUTSTANDING_SIZE;
-    sent_of(&memory[at..end])
+    sent_of(&memory[at..at + OUTSTANDING_SIZE])
 }
 
 // The entry that a queue place's bytes hold.
@@ -34,13 +31,10 @@ pub fn entry_of(place: &[u8]) -> Entry
     requires { queue_size ≤ length place.now }
     ensures { result ≡ entry_of place.now }
 {
-    let message = message_of(place);
-    let mark = mark_of(place[0]);
-    let before = state_of(&place[MESSAGE_SIZE..ZEROS_AT]);
     Entry {
-        message,
-        mark,
-        before,
+        message: message_of(place),
+        mark: mark_of(place[0]),
+        before: state_of(&place[MESSAGE_SIZE..ZEROS_AT]),
     }
 }
 
@@ -49,9 +43,8 @@ pub fn sent_of(place: &[u8]) -> Sent
     requires { outstanding_size ≤ length place.now }
     ensures { result ≡ sent_of place.now }
 {
-    let message = message_of(place);
     Sent {
-        message,
+        message: message_of(place),
         cancel: place[0] == 1,
     }
 }
@@ -61,14 +54,12 @@ fn message_of(place: &[u8]) -> Message
     requires { message_size ≤ length place.now }
     ensures { result ≡ message_of place.now }
 {
-    let kind = kind_of(place[1], place[8], read16(place, 10));
-    let lamp = read_lamp(place, 12);
     Message {
-        hour: read32(place, 4),
+        hour: u32::read(place, 4),
         from: place[2],
         to: place[3],
-        kind,
-        lamp,
+        kind: kind_of(place[1], place[8], u16::read(place, 10)),
+        lamp: array_at(place, 12),
     }
 }
 
@@ -77,13 +68,14 @@ pub fn state_of(bytes: &[u8]) -> State
     ensures { result ≡ state_of bytes.now }
 {
     State {
-        stock: read32(bytes, 0),
-        failed: read32(bytes, 4),
-        fitted: read32(bytes, 8),
-        short: read32(bytes, 12),
+        stock: u32::read(bytes, 0),
+        failed: u32::read(bytes, 4),
+        fitted: u32::read(bytes, 8),
+        short: u32::read(bytes, 12),
     }
 }
 
+// Any number past 1 is read as Waiting.
 fn mark_of(number: u8) -> Mark
     ensures { result ≡ mark_of number }
 {

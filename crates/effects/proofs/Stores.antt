@@ -1,31 +1,17 @@
 -- Laws of the header after sending: the note, and one more that is counted.
 use mathlib.Core.Path.{◌≡◌}
-use Prim.Native.Nat.{ℕ, ◌+◌, ◌≤◌, ◌<◌}
+use Prim.Native.Nat.{ℕ, ◌+◌}
 use native.Mathlib.Numerals.{add-one}
-use native.Mathlib.Omega.{arith}
 use Rattle.memory.specs.declared.Header.{Header}
 use Rattle.memory.specs.declared.Round.{Round}
-use Rattle.memory.specs.declared.Phase.TheVariants.{Idle, Counting, Stopped}
 use Rattle.gateway.specs.Effects.{lowered_in, noted}
 use Rattle.effects.specs.Inside.Sending.{header_sent}
 
 -- the note in each phase
 module _ (hour : ℕ) (r : Round) where
-  with-note : (note : ℕ) → note ≡ lowered_in r.phase r.note hour → record { phase = r.phase; arrived = r.arrived; note = note } ≡ noted hour r
+  pub with-note : (note : ℕ) → note ≡ lowered_in r.phase r.note hour → record { phase = r.phase; arrived = r.arrived; note = note } ≡ noted hour r
   unfolding noted
   with-note note e = λ i. record { phase = r.phase; arrived = r.arrived; note = e i }
-
-  pub note-idle : r.phase ≡ Idle → r ≡ noted hour r
-  note-idle e = with-note r.note (rw e)
-
-  pub note-stopped : r.phase ≡ Stopped → r ≡ noted hour r
-  note-stopped e = with-note r.note (rw e)
-
-  pub note-stays : r.phase ≡ Counting → r.note ≤ hour → r ≡ noted hour r
-  note-stays e h = with-note r.note (rw e (omega arith))
-
-  pub note-lowered : r.phase ≡ Counting → hour < r.note → record { phase = r.phase; arrived = r.arrived; note = hour } ≡ noted hour r
-  note-lowered e h = with-note hour (rw e (omega arith))
 
 -- one more is counted
 pub header-counted : (h : Header) (hour : ℕ) {round : Round} → round ≡ noted hour h.round

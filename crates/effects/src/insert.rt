@@ -1,8 +1,7 @@
 // An entry that is not processed, and an entry put into its queue place, those from there on moved up.
 ghost use Rattle.std.specs.Prelude.{◌≡◌, ◌+◌, ◌≤◌, length};
 ghost use Rattle.memory.specs.Layout.{queue_size, queue_at};
-ghost use Rattle.gateway.specs.Undoing.{pending_entry};
-ghost use Rattle.gateway.specs.Taking.{waiting_entry};
+ghost use Rattle.memory.specs.Validity.{no_state};
 ghost use Rattle.effects.specs.Inside.Placed.{entry_inserted};
 
 use buffer::move_within;
@@ -10,24 +9,13 @@ use encoding::write_entry;
 use memory::{Entry, HEADER_SIZE, Mark, QUEUE_SIZE};
 use model::{Message, State};
 
-// A plain message that is not processed.
-pub fn pending(message: Message) -> Entry
-    ensures { result ≡ pending_entry message }
+// An entry that is not processed: a plain message, or a cancel that waits.
+pub fn unprocessed(message: Message, mark: Mark) -> Entry
+    ensures { result ≡ record { message = message; mark = mark; before = no_state } }
 {
     Entry {
         message,
-        mark: Mark::Pending,
-        before: State::default(),
-    }
-}
-
-// A cancel that waits.
-pub fn waiting(message: Message) -> Entry
-    ensures { result ≡ waiting_entry message }
-{
-    Entry {
-        message,
-        mark: Mark::Waiting,
+        mark,
         before: State::default(),
     }
 }

@@ -10,15 +10,14 @@ use decoding::read_sent;
 use entries::frame_if;
 use frame::Frame;
 use memory::{HEADER_SIZE, Header, OUTSTANDING_SIZE, Phase, QUEUE_SIZE, Round};
-use writer::outgoing::{position, put_next, writer_at};
+use writer::put;
 
 // Where the next outstanding place begins.
 pub fn outstanding_at(header: Header) -> usize
     ensures { result ≡ outstanding_at header.settings.q header.outstanding }
 {
-    let settings = header.settings;
     HEADER_SIZE
-        + QUEUE_SIZE * (settings.q as usize)
+        + QUEUE_SIZE * (header.settings.q as usize)
         + OUTSTANDING_SIZE * (header.outstanding as usize)
 }
 
@@ -28,15 +27,11 @@ pub fn put_stored(memory: &[u8], output: &mut [u8], place: usize, count: usize) 
         × (length (bytes_of_frames (stored_frames memory.now place count)) ≤ length output.old) }
     ensures { Puts 0 (bytes_of_frames (stored_frames memory.now place count)) output.old output.new result }
 {
-    if count == 0 {
-        return 0;
-    }
-    let first = stored_frame(memory, place, 0);
-    put_frames(memory, output, first, place + OUTSTANDING_SIZE, count - 1)
+    put_behind(memory, output, 0, place, count)
 }
 
 // Puts a frame, and behind it the frames of what count outstanding places hold, from position place of the memory on; gives the
-// position behind the last. One writer holds the output over all of them.
+// position behind the last.
 pub fn put_frames(
     memory: &[u8],
     output: &mut [u8],
@@ -48,13 +43,22 @@ pub fn put_frames(
         × (length (bytes_of_frames (first ∷ stored_frames memory.now place count)) ≤ length output.old) }
     ensures { Puts 0 (bytes_of_frames (first ∷ stored_frames memory.now place count)) output.old output.new result }
 {
-    let mut writer = put_next(writer_at(output, 0), first);
-    let mut k = 0;
-    while k < count {
-        writer = put_next(writer, stored_frame(memory, place, k));
-        k += 1;
+    let behind = put(output, 0, first);
+    put_behind(memory, output, behind, place, count)
+}
+
+// Puts the frames of what count outstanding places hold, from position place of the memory on, into the output from position at on;
+// gives the position behind the last.
+fn put_behind(memory: &[u8], output: &mut [u8], at: usize, place: usize, count: usize) -> usize
+    requires { (place + outstanding_size * count ≤ length memory.now)
+        × (at + length (bytes_of_frames (stored_frames memory.now place count)) ≤ length output.old) }
+    ensures { Puts at (bytes_of_frames (stored_frames memory.now place count)) output.old output.new result }
+{
+    let mut behind = at;
+    for k in 0..count {
+        behind = put(output, behind, stored_frame(memory, place, k));
     }
-    position(writer)
+    behind
 }
 
 // The frame of what the outstanding place holds that is k places behind the one at position place.
@@ -71,26 +75,22 @@ pub fn header_sent(header: Header, hour: u32) -> Header
     requires { header.outstanding < 65535 }
     ensures { result ≡ header_sent hour header }
 {
-    let mut next = header;
-    next.round = note(header.round, hour);
-    next.outstanding = header.outstanding + 1;
-    next
+    Header {
+        round: note(header.round, hour),
+        outstanding: header.outstanding + 1,
+        ..header
+    }
 }
 
 // The round after a message or a cancel of that hour is sent.
 fn note(round: Round, hour: u32) -> Round
     ensures { result ≡ noted hour round }
 {
-    let phase = round.phase;
-    let mut next = round;
-    match phase {
-        Phase::Idle => {}
-        Phase::Counting => {
-            if hour < round.note {
-                next.note = hour;
-            }
-        }
-        Phase::Stopped => {}
+    match round.phase {
+        Phase::Counting => Round {
+            note: round.note.min(hour),
+            ..round
+        },
+        Phase::Idle | Phase::Stopped => round,
     }
-    next
 }

@@ -14,7 +14,7 @@ use decoding::read_entry;
 use doing::{reply_to, state_after};
 use encoding::write_entry;
 use entries::site_of;
-use memory::{Entry, HEADER_SIZE, Mark, QUEUE_SIZE};
+use memory::{Entry, HEADER_SIZE, Header, Mark, QUEUE_SIZE};
 use places::search::next_marked;
 use replies::{Turn, has_room, reply_bytes, send_reply};
 
@@ -38,12 +38,11 @@ fn work_at(memory: &mut [u8], room: usize, turn: Turn, k: usize) -> Turn
     ensures { TurnsAt k memory.old room memory.new turn result }
 {
     let header = turn.header;
-    let settings = header.settings;
     let state = header.state;
     let at = HEADER_SIZE + QUEUE_SIZE * k;
     let entry = read_entry(memory, at);
     let message = entry.message;
-    let reply = reply_to(site_of(settings), state, message);
+    let reply = reply_to(site_of(header.settings), state, message);
     let bytes = reply_bytes(reply);
     if !has_room(header, reply, bytes, room - turn.written) {
         return stopped(turn, 5);
@@ -54,9 +53,10 @@ fn work_at(memory: &mut [u8], room: usize, turn: Turn, k: usize) -> Turn
         before: state,
     };
     write_entry(memory, at, done);
-    let kind = message.kind;
-    let mut next = header;
-    next.state = state_after(state, kind);
+    let next = Header {
+        state: state_after(state, message.kind),
+        ..header
+    };
     let last = send_reply(memory, next, reply);
     Turn {
         header: last,
@@ -70,7 +70,5 @@ fn work_at(memory: &mut [u8], room: usize, turn: Turn, k: usize) -> Turn
 fn stopped(turn: Turn, why: u8) -> Turn
     ensures { result ≡ stopped_with why turn }
 {
-    let mut next = turn;
-    next.why = why;
-    next
+    Turn { why, ..turn }
 }

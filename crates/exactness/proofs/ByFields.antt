@@ -1,18 +1,17 @@
 -- A place compared with the bytes of what it is read as: only what reading leaves out has to be compared.
-use mathlib.Core.Path.{◌≡◌, refl, sym, ◌∙◌, ap}
+use mathlib.Core.Path.{◌≡◌, refl, ◌∙◌, ap}
 use Prim.Native.Nat.{ℕ, zero, suc, ◌<◌, ◌≤◌}
 use native.Mathlib.Omega.{arith}
-use mathlib.Core.Bool.{Bool, true, false, not, ◌&&◌, and_assoc, and-true}
+use mathlib.Core.Bool.{Bool, true, false, ◌&&◌, and_assoc, and-true}
 use mathlib.Core.List.{List, [], ◌++◌, append_assoc}
 use lib.Dec.{eqb, leb, lit<}
 use lib.ListN.{length, get_or, drop, replicate, drop_of_length-le}
-use borrow.Author.Tests.{eq-eqb, ne_eqb, le-leb, lt-leb}
+use borrow.Author.Tests.{ne_eqb, lt-leb}
 use Rattle.buffer.specs.Slice.{Bytes, part, same_bytes}
 use Rattle.buffer.specs.Number.{bytes_of, number_of}
 use Rattle.buffer.proofs.Writes.{length_part}
 use Rattle.buffer.proofs.Lent.{bytes-part}
 use Rattle.model.specs.Messages.{kind_number, origin_of, quantity_of}
-use Rattle.model.specs.declared.Message.{Message}
 use Rattle.memory.specs.Layout.{message_size, outstanding_size, queue_size, state_size, zeros_at, zeros_size}
 use Rattle.memory.specs.Codec.{mark_number, mark_of, cancel_number, state_bytes, state_of, message_bytes, message_of, entry_bytes, entry_of, sent_bytes, sent_of}
 use Rattle.exactness.specs.Inside.Exact.{message_exact}
@@ -20,7 +19,6 @@ use Rattle.memory.specs.declared.Entry.{Entry}
 use Rattle.memory.specs.declared.Sent.{Sent}
 use Rattle.memory.specs.declared.Mark.{Mark}
 use Rattle.memory.specs.declared.Mark.TheVariants.{Pending, Processed, Waiting}
-use Rattle.memory.proofs.Chains.{refuted, granted}
 use Rattle.memory.proofs.RoundTrips.{kind_fits}
 use Rattle.memory.proofs.FromBytes.{message-fits, state-again}
 use Rattle.exactness.proofs.SameBytes.{part-there, number-test, number-there, byte-test, byte-there}
@@ -108,95 +106,13 @@ module _ (b : List ℕ) (bytes : Bytes b) where
       message-tests (omega arith) (cancel_number (eqb (get_or b 0 0) 1)) (replicate 2 0) (cancel-small (eqb (get_or b 0 0) 1))
       ∙ rw (cancel-kept (get_or b 0 0), last)
 
-  -- a queue place, by the test that fails and by the last
-  module _ (size : length b ≡ queue_size) {e : Entry} (read : e ≡ entry_of b) where
-    entry_whole : same_bytes (entry_bytes e) b ≡ (leb (get_or b 0 0) 2 && (message_exact b e.message && same_bytes (replicate zeros_size 0) (drop zeros_at b)))
-    unfolding entry_of
-    entry_whole = rw read (entry-tests size)
+  -- a queue place, and an outstanding place
+  pub entry-whole : length b ≡ queue_size → {e : Entry} → e ≡ entry_of b
+      → same_bytes (entry_bytes e) b ≡ (leb (get_or b 0 0) 2 && (message_exact b e.message && same_bytes (replicate zeros_size 0) (drop zeros_at b)))
+  unfolding entry_of
+  entry-whole size read = rw read (entry-tests size)
 
-    pub mark-refused : 2 < get_or b 0 0 → false ≡ same_bytes (entry_bytes e) b
-    mark-refused h = sym (entry_whole ∙ rw (lt-leb (get_or b 0 0) 2 h))
-
-    module _ (h : get_or b 0 0 ≤ 2) {exact : Bool} (p : exact ≡ message_exact b e.message) where
-      pub entry-message-refused : not exact ≡ true → false ≡ same_bytes (entry_bytes e) b
-      entry-message-refused k = sym (entry_whole ∙ rw (le-leb (get_or b 0 0) 2 h, refuted p k))
-
-      pub entry-decided : {r : Bool} → not exact ≡ false → r ≡ same_bytes (replicate zeros_size 0) (drop zeros_at b) → r ≡ same_bytes (entry_bytes e) b
-      entry-decided k q = q ∙ sym (entry_whole ∙ rw (le-leb (get_or b 0 0) 2 h, granted p k))
-
-  -- an outstanding place
-  module _ (size : length b ≡ outstanding_size) {s : Sent} (read : s ≡ sent_of b) where
-    sent-whole : same_bytes (sent_bytes s) b ≡ (leb (get_or b 0 0) 1 && (message_exact b s.message && eqb (number_of (part b message_size 2)) 0))
-    unfolding sent_of
-    sent-whole = rw read (sent-tests size)
-
-    pub cancel-refused : 1 < get_or b 0 0 → false ≡ same_bytes (sent_bytes s) b
-    cancel-refused h = sym (sent-whole ∙ rw (lt-leb (get_or b 0 0) 1 h))
-
-    module _ (h : get_or b 0 0 ≤ 1) {exact : Bool} (p : exact ≡ message_exact b s.message) where
-      pub sent-message-refused : not exact ≡ true → false ≡ same_bytes (sent_bytes s) b
-      sent-message-refused k = sym (sent-whole ∙ rw (le-leb (get_or b 0 0) 1 h, refuted p k))
-
-      pub sent-decided : {n : ℕ} → not exact ≡ false → n ≡ number_of (part b message_size 2) → eqb n 0 ≡ same_bytes (sent_bytes s) b
-      sent-decided k q = ap (λ (x : ℕ). eqb x 0) q ∙ sym (sent-whole ∙ rw (le-leb (get_or b 0 0) 1 h, granted p k))
-
-  -- five numbers, each zero
-  zero-tests : length b ≡ queue_size
-      → same_bytes (replicate zeros_size 0) (drop zeros_at b)
-      ≡ (eqb (number_of (part b zeros_at 2)) 0 && (eqb (number_of (part b 48 4)) 0 && (eqb (number_of (part b 52 4)) 0 && (eqb (number_of (part b 56
-      4)) 0 && eqb (number_of (part b 60 4)) 0))))
-  unfolding same_bytes bytes_of
-  zero-tests size =
-      let none : drop queue_size b ≡ [] = drop_of_length-le b {i = queue_size} (omega arith) in
-      number-test b bytes zeros_at 2 0 (replicate 16 0) (omega arith) (lit< tt)
-      ∙ ap (◌&&◌ (eqb (number_of (part b zeros_at 2)) 0))
-      (number-test b bytes 48 4 0 (replicate 12 0) (omega arith) (lit< tt)
-      ∙ ap (◌&&◌ (eqb (number_of (part b 48 4)) 0))
-      (number-test b bytes 52 4 0 (replicate 8 0) (omega arith) (lit< tt)
-      ∙ ap (◌&&◌ (eqb (number_of (part b 52 4)) 0))
-      (number-test b bytes 56 4 0 (replicate 4 0) (omega arith) (lit< tt)
-      ∙ ap (◌&&◌ (eqb (number_of (part b 56 4)) 0))
-      (number-test b bytes 60 4 0 [] (omega arith) (lit< tt) ∙ rw none (and-true (eqb (number_of (part b 60 4)) 0))))))
-
--- the tests of a message's fields, by the one that fails and by the last
-module _ (b : List ℕ) (m : Message) {kind : ℕ} (k : kind ≡ kind_number m.kind) where
-  pub kind-differs : (get_or b 1 0 ≡ kind → ⊥) → false ≡ message_exact b m
-  unfolding message_exact
-  kind-differs d = sym (rw (ne_eqb (get_or b 1 0) (kind_number m.kind) (λ e. d (e ∙ sym k))))
-
-  module _ (same_kind : get_or b 1 0 ≡ kind) {origin : ℕ} (o : origin ≡ origin_of m.kind) where
-    kind-passed : message_exact b m ≡ (eqb (get_or b 8 0) (origin_of m.kind) && (eqb (get_or b 9 0) 0 && eqb (number_of (part b 10 2)) (quantity_of m.kind)))
-    unfolding message_exact
-    kind-passed = rw (eq-eqb (get_or b 1 0) (kind_number m.kind) (same_kind ∙ k))
-
-    pub origin-differs : (get_or b 8 0 ≡ origin → ⊥) → false ≡ message_exact b m
-    origin-differs d = sym (kind-passed ∙ rw (ne_eqb (get_or b 8 0) (origin_of m.kind) (λ e. d (e ∙ sym o))))
-
-    module _ (same-origin : get_or b 8 0 ≡ origin) where
-      pub gap-not-zero : (get_or b 9 0 ≡ 0 → ⊥) → false ≡ message_exact b m
-      gap-not-zero d = sym (kind-passed ∙ rw (eq-eqb (get_or b 8 0) (origin_of m.kind) (same-origin ∙ o), ne_eqb (get_or b 9 0) 0 d))
-
-      pub message-decided : {number quantity : ℕ} → get_or b 9 0 ≡ 0 → number ≡ number_of (part b 10 2) → quantity ≡ quantity_of m.kind
-          → eqb number quantity ≡ message_exact b m
-      message-decided gap p q =
-          rw (p, q) (sym (kind-passed ∙ rw (eq-eqb (get_or b 8 0) (origin_of m.kind) (same-origin ∙ o), eq-eqb (get_or b 9 0) 0 gap)))
-
--- the tests of the zeros, by the one that fails and by the last
-module _ (b : List ℕ) (bytes : Bytes b) (size : length b ≡ queue_size) {n₁ : ℕ} (p₁ : n₁ ≡ number_of (part b zeros_at 2)) where
-  pub zeros-first : (n₁ ≡ 0 → ⊥) → false ≡ same_bytes (replicate zeros_size 0) (drop zeros_at b)
-  zeros-first d = sym (zero-tests b bytes size ∙ rw (← p₁, ne_eqb n₁ 0 d))
-
-  module _ (z₁ : n₁ ≡ 0) {n₂ : ℕ} (p₂ : n₂ ≡ number_of (part b 48 4)) where
-    pub zeros-second : (n₂ ≡ 0 → ⊥) → false ≡ same_bytes (replicate zeros_size 0) (drop zeros_at b)
-    zeros-second d = sym (zero-tests b bytes size ∙ rw (← p₁, ← p₂, eq-eqb n₁ 0 z₁, ne_eqb n₂ 0 d))
-
-    module _ (z₂ : n₂ ≡ 0) {n₃ : ℕ} (p₃ : n₃ ≡ number_of (part b 52 4)) where
-      pub zeros-third : (n₃ ≡ 0 → ⊥) → false ≡ same_bytes (replicate zeros_size 0) (drop zeros_at b)
-      zeros-third d = sym (zero-tests b bytes size ∙ rw (← p₁, ← p₂, ← p₃, eq-eqb n₁ 0 z₁, eq-eqb n₂ 0 z₂, ne_eqb n₃ 0 d))
-
-      module _ (z₃ : n₃ ≡ 0) {n₄ : ℕ} (p₄ : n₄ ≡ number_of (part b 56 4)) where
-        pub zeros-fourth : (n₄ ≡ 0 → ⊥) → false ≡ same_bytes (replicate zeros_size 0) (drop zeros_at b)
-        zeros-fourth d = sym (zero-tests b bytes size ∙ rw (← p₁, ← p₂, ← p₃, ← p₄, eq-eqb n₁ 0 z₁, eq-eqb n₂ 0 z₂, eq-eqb n₃ 0 z₃, ne_eqb n₄ 0 d))
-
-        pub zeros-decided : {n₅ : ℕ} → n₄ ≡ 0 → n₅ ≡ number_of (part b 60 4) → eqb n₅ 0 ≡ same_bytes (replicate zeros_size 0) (drop zeros_at b)
-        zeros-decided z₄ p₅ = sym (zero-tests b bytes size ∙ rw (← p₁, ← p₂, ← p₃, ← p₄, ← p₅, eq-eqb n₁ 0 z₁, eq-eqb n₂ 0 z₂, eq-eqb n₃ 0 z₃, eq-eqb n₄ 0 z₄))
+  pub sent-whole : length b ≡ outstanding_size → {s : Sent} → s ≡ sent_of b
+      → same_bytes (sent_bytes s) b ≡ (leb (get_or b 0 0) 1 && (message_exact b s.message && eqb (number_of (part b message_size 2)) 0))
+  unfolding sent_of
+  sent-whole size read = rw read (sent-tests size)

@@ -6,6 +6,7 @@ use native.Mathlib.Omega.{arith}
 use mathlib.Core.Bool.{Bool, true, false, ◌&&◌, and_assoc}
 use mathlib.Core.List.{List, [], ◌∷◌, ◌++◌}
 use lib.Dec.{eqb}
+use lib.Pointwise.{pointwise}
 use lib.ListN.{length, get_or, drop, take-append-drop}
 use lib.Seq.{drop-drop}
 use borrow.Author.Tests.{eq-eqb, ne_eqb}
@@ -24,6 +25,21 @@ same-append [] [] t u e = refl
 same-append [] (y ∷ c) t u e = absurd (omega arith)
 same-append (x ∷ a) [] t u e = absurd (omega arith)
 same-append (x ∷ a) (y ∷ c) t u e = rw (same-append a c t u (omega arith)) (sym (and_assoc (eqb x y) (same_bytes a c) (same_bytes t u)))
+
+-- std's comparison of two arrays, the bytes that are looked for on its right
+eqb-swap : (x y : ℕ) → eqb x y ≡ eqb y x
+eqb-swap x y = by-case (ℕ_discrete x y)
+  where
+    by-case : Dec (x ≡ y) → eqb x y ≡ eqb y x
+    by-case (yes e) = eq-eqb x y e ∙ sym (eq-eqb y x (sym e))
+    by-case (no d) = ne_eqb x y d ∙ sym (ne_eqb y x (λ e. d (sym e)))
+
+pub pointwise-same : (c a : List ℕ) → pointwise eqb c a ≡ same_bytes a c
+unfolding same_bytes
+pointwise-same [] [] = refl
+pointwise-same [] (x ∷ a) = refl
+pointwise-same (y ∷ c) [] = refl
+pointwise-same (y ∷ c) (x ∷ a) = rw (eqb-swap y x, pointwise-same c a)
 
 -- lists that are not equal
 not_same : (a c : List ℕ) → (a ≡ c → ⊥) → same_bytes a c ≡ false

@@ -4,8 +4,7 @@ use mathlib.Core.List.{List, ◌∷◌}
 use Prim.Native.Nat.{ℕ, ◌≤◌, ◌<◌}
 use lib.ListN.{length, drop}
 use borrow.Author.Tests.{le-leb, lt-leb, eq-eqb, ne_eqb}
-use Rattle.records.specs.Balancing.{balanced}
-use Rattle.records.specs.declared.balance.BalanceAnswer.{BalanceAnswer}
+use Rattle.records.specs.Balancing.{BalanceAnswer, balanced}
 use Rattle.hurfaith.specs.Exported.{balance_given}
 
 module _ (opening : ℕ) (bytes l : List ℕ) {r : BalanceAnswer} (e : r ≡ balanced opening bytes) where

@@ -1,19 +1,13 @@
 -- The answer of a view: its number is below 256, and it writes no more than the record has bytes.
-use mathlib.Core.Path.{◌≡◌, ◌∙◌, ap}
+use mathlib.Core.Path.{◌≡◌, ap}
 use mathlib.Core.List.{List}
 use Prim.Native.Nat.{ℕ, ◌<◌}
 use native.Mathlib.Omega.{arith}
 use Rattle.buffer.specs.Slice.{Bytes}
-use Rattle.packing.specs.Packed.{packed_two, ReadBackTwo}
+use Rattle.packing.specs.Packed.{ReadBackTwo}
 use Rattle.packing.proofs.Packing.{read-back-two}
-use Rattle.views.specs.Viewing.{ViewResult, viewed}
-use Rattle.views.specs.declared.ViewAnswer.{ViewAnswer}
+use Rattle.views.specs.Viewing.{ViewAnswer, ViewResult, viewed}
 use Rattle.views.proofs.ViewAnswers.{number_small, written-few}
-use Rattle.hurfaith.specs.Exported.{packed_view}
-
-pub view-packed : {l : ViewResult} {r : ViewAnswer} {v : ℕ} {output : List ℕ} → record { answer = r; output = output } ≡ l
-    → v ≡ packed_two r.number r.written → record { answer = v; output = output } ≡ packed_view l
-view-packed {output = output} e p = ap (λ (x : ℕ). record { answer = x; output = output }) p ∙ ap packed_view e
 
 pub view-fits : (reader old_stock : ℕ) (bytes output : List ℕ) → Bytes bytes → {written : List ℕ} {r : ViewAnswer}
     → record { answer = r; output = written } ≡ viewed reader old_stock bytes output → r.written < 72057594037927936

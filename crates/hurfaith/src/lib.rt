@@ -159,8 +159,10 @@ pub extern "C" fn hurfaith_view(bytes: &[u8], output: &mut [u8], reader: u32, ol
     ensures { record { answer = result; output = output.new }
         ≡ packed_view (viewed reader old_stock bytes.now output.old) }
 {
-    let answer = view(bytes, output, reader, old_stock);
-    packed_two(answer.number, answer.written)
+    match view(bytes, output, reader, old_stock) {
+        Ok(written) => packed_two(0, written),
+        Err(why) => packed_two(why.number(), 0),
+    }
 }
 
 // The balance of a record with an opening stock: what the Restocks brought, the Requests that found stock, and the stock in the last
@@ -170,13 +172,13 @@ pub extern "C" fn hurfaith_balance(bytes: &[u8], opening_stock: u32, figures: &m
     ensures { record { answer = result; figures = figures.new }
         ≡ balance_given opening_stock bytes.now figures.old }
 {
-    let answer = balance(bytes, opening_stock);
-    if answer.number != 0 {
-        return answer.number as u32;
-    }
+    let found = match balance(bytes, opening_stock) {
+        Ok(found) => found,
+        Err(why) => return u32::from(why.number()),
+    };
     if figures.len() < 3 {
-        return 5;
+        return u32::from(Refusal::NoRoom.number());
     }
-    put_three(figures, answer.received, answer.served, answer.stock);
+    put_three(figures, found.received, found.served, found.stock);
     0
 }

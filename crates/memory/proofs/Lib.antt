@@ -1,5 +1,6 @@
 -- Laws of the bytes of a gateway.
 pub mod Stored
+pub mod Tags
 pub mod Chains
 pub mod EventLaws
 pub mod Validated

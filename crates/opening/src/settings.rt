@@ -9,52 +9,31 @@ use memory::{HEADER_SIZE, Header, OUTSTANDING_SIZE, Phase, QUEUE_SIZE, Round, Se
 use model::{State, lead_times_valid};
 
 // Whether every setting is in its range, and the memory has so many bytes as it has to.
+#[tactic(auto, unfolding(gateway::specs::SettingUp::opening_valid))]
 pub fn opening_valid(opening: Opening, size: usize) -> bool
     ensures { result ≡ opening_valid opening size }
 {
-    if !in_range(opening) {
-        return false;
-    }
-    if opening.stock > 65535 {
-        return false;
-    }
-    HEADER_SIZE + QUEUE_SIZE * (opening.q as usize) + OUTSTANDING_SIZE * (opening.u as usize)
-        <= size
+    in_range(opening)
+        && opening.stock <= 65535
+        && HEADER_SIZE + QUEUE_SIZE * (opening.q as usize) + OUTSTANDING_SIZE * (opening.u as usize)
+            <= size
 }
 
 // N 1 to 255, own number and supplier below N, H below nothing due, Q and U 1 to 512, lead times in their range.
+#[tactic(auto, unfolding(memory::specs::Validity::settings_valid))]
 fn in_range(opening: Opening) -> bool
     ensures { result ≡ settings_valid (settings_of opening) }
 {
-    if opening.n < 1 {
-        return false;
-    }
-    if opening.n > 255 {
-        return false;
-    }
-    if opening.own >= opening.n {
-        return false;
-    }
-    if opening.supplier >= opening.n {
-        return false;
-    }
-    if opening.last >= 4294967295 {
-        return false;
-    }
-    if opening.q < 1 {
-        return false;
-    }
-    if opening.q > 512 {
-        return false;
-    }
-    if opening.u < 1 {
-        return false;
-    }
-    if opening.u > 512 {
-        return false;
-    }
-    let hours = opening.hours;
-    lead_times_valid(hours)
+    opening.n >= 1
+        && opening.n <= 255
+        && opening.own < opening.n
+        && opening.supplier < opening.n
+        && opening.last < 4294967295
+        && opening.q >= 1
+        && opening.q <= 512
+        && opening.u >= 1
+        && opening.u <= 512
+        && lead_times_valid(opening.hours)
 }
 
 // The settings in the widths of their fields.
@@ -62,7 +41,6 @@ pub fn settings_of(opening: Opening) -> Settings
     requires { settings_valid (settings_of opening) ≡ true }
     ensures { result ≡ settings_of opening }
 {
-    let hours = opening.hours;
     Settings {
         n: opening.n as u8,
         own: opening.own as u8,
@@ -70,7 +48,7 @@ pub fn settings_of(opening: Opening) -> Settings
         last: opening.last,
         q: opening.q as u16,
         u: opening.u as u16,
-        hours,
+        hours: opening.hours,
     }
 }
 

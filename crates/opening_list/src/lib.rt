@@ -10,13 +10,13 @@ ghost use Rattle.frame.specs.Reasons.{form_in, form_number};
 ghost use Rattle.gateway.specs.SettingUp.{may_open, opening_refusal, queued};
 ghost use Rattle.opening_list.specs.Inside.Frames.{frames_from, checked_as, memory_entered};
 
-use effects::insert::{insert_place, pending};
+use effects::insert::{insert_place, unprocessed};
 use frame::forms::number_where;
 use frame::pieces::frame_end;
 use frame::tables::sense_number;
 use frame::{Frame, Reading};
 use limits::check;
-use memory::Settings;
+use memory::{Mark, Settings};
 use model::{Message, kind_number};
 use places::search::place_for;
 use reader::read;
@@ -113,5 +113,5 @@ fn enter(memory: &mut [u8], count: usize, message: Message)
     ensures { memory.new ≡ memory_entered count message memory.old }
 {
     let k = place_for(memory, count, message);
-    insert_place(memory, count, k, pending(message));
+    insert_place(memory, count, k, unprocessed(message, Mark::Pending));
 }

@@ -1,6 +1,5 @@
 -- Laws of the places of a memory: searches, counts, changes.
 pub mod Positions
-pub mod Matching
 pub mod Counts
 pub mod Changing
 pub mod LeastHours

@@ -43,14 +43,6 @@ module _ {A : Type 0} (decode : List ℕ → A) (f : A → Bool) (size base : �
         let passes : f (decode (part m (base + size * i) size)) ≡ true = cc in
         sym (l ∙ rw (more decode size base m count i h, passes) (omega arith))
 
-  pub search-none : (i : ℕ) → i ≤ count → count ≤ i → Left i → count ≡ whole
-  unfolding first_where places_at
-  search-none i h k l = let e : count - i ≡ 0 = omega arith in sym (l ∙ rw e (omega arith))
-
-pub search-start : {A : Type 0} (decode : List ℕ → A) (f : A → Bool) (size base : ℕ) (m : List ℕ) (count : ℕ)
-    → Left decode f size base m count (first_where f (places_at decode size m base count)) 0
-search-start decode f size base m count = rw (mul-zero, add-zero, sub-zero, zero-add)
-
 -- a backward search, by the places that are left
 module _ {A : Type 0} (decode : List ℕ → A) (f : A → Bool) (size base : ℕ) (m : List ℕ) where
   read-snoc : (i : ℕ) (at : ℕ) → places_at decode size m at (suc i) ≡ places_at decode size m at i ++ (decode (part m (at + size * i) size) ∷ [])

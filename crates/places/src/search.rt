@@ -4,10 +4,10 @@ ghost use Rattle.memory.specs.Layout.{queue_at, outstanding_at};
 ghost use Rattle.memory.specs.Codec.{places_at};
 ghost use Rattle.lists.specs.Inside.Positions.{first_where, past_last};
 ghost use Rattle.gateway.specs.Taking.{is_cancel_of, is_later, is_plain, is_sent};
-ghost use Rattle.places.specs.Inside.Searching.{has_mark, same_mark, entries_in, entries_from, sent_in, place_below, place_before, Answers};
+ghost use Rattle.places.specs.Inside.Searching.{has_mark, entries_in, entries_from, sent_in, place_below, place_before, Answers};
 
 use crate::place::{Place, place_at};
-use entries::{equal, is_pending, is_processed, is_waiting, later};
+use entries::{equal, is_waiting, later};
 use memory::{Entry, HEADER_SIZE, Mark, OUTSTANDING_SIZE, QUEUE_SIZE, Sent};
 use model::Message;
 
@@ -59,18 +59,8 @@ pub fn next_marked(memory: &[u8], start: usize, queued: usize, mark: Mark) -> Op
     ensures { result ≡ place_below queued (start + first_where (has_mark mark) (entries_from memory.now start queued)) }
 {
     first(memory, HEADER_SIZE, start, queued, |entry: Entry| {
-        marked(mark, entry.mark)
+        entry.mark == mark
     })
-}
-
-fn marked(sought: Mark, found: Mark) -> bool
-    ensures { result ≡ same_mark sought found }
-{
-    match sought {
-        Mark::Pending => is_pending(found),
-        Mark::Processed => is_processed(found),
-        Mark::Waiting => is_waiting(found),
-    }
 }
 
 // The first queue place that holds an equal cancel that waits.

@@ -1,39 +1,34 @@
 -- The book of a record: a law for each branch of the code that fills it, and its figures.
 use mathlib.Core.Path.{◌≡◌, refl, sym, ◌∙◌, ap}
-use mathlib.Core.Bool.{Bool, true, false, cond}
 use mathlib.Core.List.{List, [], ◌∷◌, map}
-use Prim.Native.Nat.{ℕ, ◌+◌, ◌*◌, ◌-◌, ◌≤◌, ◌<◌}
-use native.Mathlib.Nat.{add-zero, zero-add, sub-zero}
+use Prim.Native.Nat.{ℕ, suc, ◌+◌, ◌*◌, ◌≤◌, ◌<◌}
+use native.Mathlib.Nat.{add-zero, zero-add}
 use native.Mathlib.Omega.{arith}
 use native.Mathlib.Decide.{ℕ_discrete}
-use lib.Dec.{ltb}
-use lib.ListN.{length, take, drop, get_or}
+use lib.ListN.{length, get_or}
 use borrow.Author.Tests.{ne_eqb, lt-ltb, le-ltb, lt-leb, le-leb}
-use Rattle.lists.specs.Lists.{first_number}
-use Rattle.lists.specs.Inside.Pieces.{pieces_from}
-use Rattle.lists.proofs.PieceLaws.{pieces_none}
+use Rattle.lists.specs.Lists.{All, first_number}
+use Rattle.lists.proofs.ListLaws.{all_head, all_tail, all_of}
+use Rattle.lists.proofs.PieceLaws.{first-cons}
 use Rattle.buffer.specs.Slice.{Bytes, part}
 use Rattle.buffer.specs.Number.{number_of}
 use Rattle.buffer.proofs.Numbers.{number-of-bytes}
 use Rattle.buffer.proofs.Writes.{part-part}
-use Rattle.model.specs.Doing.{opening_state, after, counted}
+use Rattle.model.specs.Doing.{opening_state, after}
 use Rattle.model.specs.Messages.{kind_number, quantity_of}
 use Rattle.model.specs.declared.Kind.{Kind}
 use Rattle.model.specs.declared.Kind.TheVariants.{Failure, Request, Delivery, Restock, Start, Lvt, Update}
-use Rattle.model.specs.declared.State.{State}
+use Rattle.frame.proofs.PieceBytes.{cut-bytes}
 use Rattle.memory.specs.Codec.{state_with}
-use Rattle.records.specs.Events.{Event, event_length, event_refusal, record_refusal, event_of, events_of}
-use Rattle.records.specs.Balancing.{received, served, last_stock, refused_balance, balance_for, balanced}
+use Rattle.records.specs.Events.{Event, event_length, cut_events, event_refusal, record_refusal, event_of, events_of}
+use Rattle.records.specs.Balancing.{received, served, last_stock, BalanceAnswer, refused_balance, balance_for, balanced}
 use Rattle.records.specs.Inside.Booking.{entered, entered_event, entered_all, opened_book, RoomInBook}
-use Rattle.records.specs.Inside.Finding.{event_at, length_of_kind, passed_as}
-use Rattle.records.specs.declared.Passed.{Passed}
+use Rattle.records.specs.Inside.Finding.{Passed, passed_as}
+use Rattle.records.specs.declared.Weights.{Weights}
 use Rattle.records.specs.declared.StockField.TheVariants.{Present}
 use Rattle.records.specs.declared.balance.Book.{Book}
-use Rattle.records.specs.declared.balance.BalanceAnswer.{BalanceAnswer}
-use Rattle.records.proofs.EventBranches.{event-some}
-use Rattle.records.proofs.EventEnds.{event-bytes}
 use Rattle.records.proofs.EventParts.{LampParts, RestockParts, taken-restock, taken-lamp}
-use Rattle.records.proofs.TakenRest.{rest-next, next-taken, end_is, event-is, end-bounds, rest-taken}
+use Rattle.records.proofs.TakenRest.{cut_few}
 use Rattle.records.proofs.HistoryLaws.{stock-step, found-one, served-same}
 
 -- nothing received and nothing served
@@ -45,41 +40,6 @@ nothing-entered b stock = λ i. record {
   followed = b.followed;
   stock = stock;
 }
-
--- the driver that a Request draws
-pub drawn-one : (stock : ℕ) → 0 < stock → (◌≡◌ {A = ℕ} 1 (cond (ltb 0 stock) 1 0)) × (1 ≤ stock) × (1 ≤ 1)
-drawn-one stock h = (rw (lt-ltb 0 stock h), h, omega arith)
-
-pub drawn-none : (stock : ℕ) → stock ≤ 0 → (◌≡◌ {A = ℕ} 0 (cond (ltb 0 stock) 1 0)) × (0 ≤ stock) × (0 ≤ 1)
-drawn-none stock h = (rw (le-ltb 0 stock h), omega arith, omega arith)
-
--- a Request, and a Restock
-module _ (b : Book) {stock last : ℕ} (l : (last ≡ stock) × (last < 4294967296)) where
-  pub book-request : {drawn : ℕ} → (drawn ≡ cond (ltb 0 b.followed) 1 0) × (drawn ≤ b.followed) × (drawn ≤ 1)
-      → record { received = b.received; served = b.served + drawn; followed = b.followed - drawn; stock = last } ≡ entered b (Request 0) stock
-  book-request d = rw (d.0, l.0) (by (ltb 0 b.followed))
-    where
-      by : (x : Bool) → ◌≡◌ {A = Book} (record { received = b.received; served = b.served + cond x 1 0; followed = b.followed - cond x 1 0; stock = stock })
-          (record {
-            received = b.received + 0;
-            served = b.served + cond x 1 0;
-            followed = (cond {A = State} x (record { stock = b.followed - 1; failed = 0; fitted = 0; short = 0 })
-                (record { stock = b.followed; failed = 0; fitted = 0; short = counted 0 })).stock;
-            stock = stock;
-          })
-      by true = λ i. record { received = sym (add-zero b.received) i; served = b.served + 1; followed = b.followed - 1; stock = stock }
-      by false = λ i. record { received = sym (add-zero b.received) i; served = b.served + 0; followed = sub-zero b.followed i; stock = stock }
-
-  pub book-restock : {quantity more : ℕ} → (more ≡ quantity) × (more < 65536)
-      → record { received = b.received + more; served = b.served; followed = b.followed + more; stock = last } ≡ entered b (Restock quantity) stock
-  book-restock {quantity} q =
-      rw (q.0, l.0)
-      (λ i. record {
-        received = b.received + quantity;
-        served = sym (add-zero b.served) i;
-        followed = b.followed + quantity;
-        stock = stock;
-      })
 
 -- a kind by its number
 restock-kind : (k : Kind) → kind_number k ≡ 3 → k ≡ Restock (quantity_of k)
@@ -155,11 +115,11 @@ module _ (b : Book) (s : List ℕ) (bytes : Bytes s) (z : event_refusal Present 
       request-booked one r =
           r ∙ request-entered b stock e.message.kind (has-lamp.number ∙ one) ∙ ap (entered b e.message.kind) stock-is
 
-      pub other-booked : {last : ℕ} → (get_or s 1 0 ≡ 1 → ⊥) → (last ≡ stock) × (last < 4294967296)
+      pub other-booked : {last : ℕ} → (get_or s 1 0 ≡ 1 → ⊥) → last ≡ stock
           → record { received = b.received; served = b.served; followed = b.followed; stock = last } ≡ entered_event b e
       other-booked d l =
           let few : kind_number e.message.kind ≤ 2 = omega (arith, has-lamp.number, has-lamp.kind) in
-          rw (l.0, stock-is) (other-entered b e.state.stock e.message.kind few (λ n. d (sym has-lamp.number ∙ n)))
+          rw (l, stock-is) (other-entered b e.state.stock e.message.kind few (λ n. d (sym has-lamp.number ∙ n)))
 
 -- the figures of a book that all events were entered in
 module _ where
@@ -204,72 +164,79 @@ quantity-fits s bytes z = by (ℕ_discrete (get_or s 1 0) 3)
         let few : kind_number (event_of Present s).message.kind ≤ 2 = omega (arith, p.number, p.kind) in
         omega (arith, none (event_of Present s).message.kind few)
 
--- the pass has come to a position: none of the rest is refused, the book has the events before it, and its figures are small
-pub record Booking (opening : ℕ) (bytes : List ℕ) (b : Book) (at : ℕ) : Type 0 where
-  pub inside : at ≤ length bytes
-  pub received : b.received ≤ 65535 * at
-  pub served : b.served ≤ at
-  pub followed : b.followed ≤ 65535 + 65535 * at
-  pub none : first_number (event_refusal Present) (pieces_from (event_length Present) bytes at) ≡ 0
-  pub rest : entered_all (opened_book opening) (events_of Present bytes) ≡ entered_all b (map (event_of Present) (pieces_from (event_length Present) bytes at))
+-- so many events are in the book, whose figures are small, and these are left, none of which is refused
+pub record Booking (opening : ℕ) (bytes : List ℕ) (b : Book) (left : List (List ℕ)) : Type 0 where
+  pub count : ℕ
+  pub few : count + length left ≤ length bytes
+  pub received : b.received ≤ 65535 * count
+  pub served : b.served ≤ count
+  pub followed : b.followed ≤ 65535 + 65535 * count
+  pub none : first_number (event_refusal Present) left ≡ 0
+  pub held : All Bytes left
+  pub rest : entered_all (opened_book opening) (events_of Present bytes) ≡ entered_all b (map (event_of Present) left)
 
 module _ (opening : ℕ) (bytes : List ℕ) where
-  pub booking-start : opening ≤ 65535 → record_refusal Present bytes ≡ 0 → {first : ℕ} → (first ≡ opening) × (first < 4294967296)
-      → Booking opening bytes (record { received = 0; served = 0; followed = first; stock = first }) 0
-  unfolding record_refusal events_of pieces_from
-  booking-start h z f =
-      rw f.0
+  pub booking-start : opening ≤ 65535 → record_refusal Present bytes ≡ 0 → Bytes bytes → {first : ℕ} → first ≡ opening
+      → {left : List (List ℕ)} → left ≡ cut_events Present bytes → Booking opening bytes (record { received = 0; served = 0; followed = first; stock = first }) left
+  unfolding record_refusal events_of
+  booking-start h z b f e =
+      rw (f, e)
       (record {
-        inside = omega arith;
+        count = 0;
+        few = omega (arith, cut_few (event_length Present) (length bytes) bytes);
         received = omega arith;
         served = omega arith;
         followed = omega arith;
         none = z;
+        held = all_of (cut_events Present bytes) (cut-bytes (event_length Present) (length bytes) bytes b);
         rest = refl;
       })
 
-  module _ (few : length bytes < 281474976710656) (b : Book) (at : ℕ) (p : Booking opening bytes b at) where
-    pub booking-end : length bytes ≤ at → b ≡ entered_all (opened_book opening) (events_of Present bytes)
+  module _ (few : length bytes < 281474976710656) (b : Book) {left : List (List ℕ)} (p : Booking opening bytes b left) where
+    pub booking-end : left ≡ [] → b ≡ entered_all (opened_book opening) (events_of Present bytes)
     unfolding entered_all
-    booking-end h = sym (p.rest ∙ rw (pieces_none (event_length Present) (event-some Present) bytes at h))
+    booking-end e = sym (p.rest ∙ rw e)
 
-    pub booking-room : at < length bytes → RoomInBook b
-    booking-room h =
-        let s = p.served in
-        record { received = omega (arith, p.received); served = omega arith; followed = omega (arith, p.followed) }
+    module _ {s : List ℕ} {later : List (List ℕ)} (e : left ≡ s ∷ later) where
+      both : (event_refusal Present s ≡ 0) × (first_number (event_refusal Present) later ≡ 0)
+      both = first-cons (event_refusal Present) s later (rw e at p.none)
 
-    module _ (b₀ : Bytes bytes) (h : at < length bytes) {kind size end : ℕ} (k : kind ≡ get_or bytes (at + 1) 0) (l : size ≡ length_of_kind Present kind)
-        (e : end ≡ at + size)
-      where
-        pub booking-turn : {c : Book} → c ≡ entered_event b (event_of Present (take (end - at) (drop at bytes))) → Booking opening bytes c end
-        unfolding entered_all
-        booking-turn {c} q =
-            let s = event_at Present bytes at in
-            let taken = next-taken Present bytes b₀ at p.none h in
-            let kind = (event_of Present s).message.kind in
-            let same = event-is Present bytes b₀ at p.none h k l e in
-            let is : c ≡ entered_event b (event_of Present s) = q ∙ ap (λ (l : List ℕ). entered_event b (event_of Present l)) same in
-            let more = quantity-fits s (event-bytes Present bytes b₀ at h taken) taken in
-            let one = found-one (opening_state b.followed) kind in
-            let bounds = end-bounds Present bytes b₀ at p.none h k l e in
-            let later = bounds.later in
-            record {
-              inside = bounds.inside;
-              received = omega (arith, ap (λ (x : Book). x.received) is, p.received, more);
-              served = omega (arith, ap (λ (x : Book). x.served) is, p.served, one);
-              followed = omega (arith, ap (λ (x : Book). x.followed) is, p.followed, more, stock-step (opening_state b.followed) kind);
-              none = rest-taken Present bytes b₀ at p.none h k l e;
-              rest = p.rest ∙ rw (rest-next Present bytes b₀ at p.none h, is, end_is Present bytes b₀ at p.none h k l e);
-            }
+      pub booking-taken : event_refusal Present s ≡ 0
+      booking-taken = both.0
+
+      pub booking-room : RoomInBook b
+      booking-room =
+          let n : p.count + suc (length later) ≤ length bytes = rw e at p.few in
+          let s = p.served in
+          record { received = omega (arith, p.received); served = omega arith; followed = omega (arith, p.followed) }
+
+      pub booking-turn : {c : Book} → c ≡ entered_event b (event_of Present s) → Booking opening bytes c later
+      unfolding entered_all
+      booking-turn {c} is =
+          let kind = (event_of Present s).message.kind in
+          let n : p.count + suc (length later) ≤ length bytes = rw e at p.few in
+          let held : All Bytes (s ∷ later) = rw e at p.held in
+          let more = quantity-fits s (all_head held) both.0 in
+          let one = found-one (opening_state b.followed) kind in
+          record {
+            count = p.count + 1;
+            few = omega arith;
+            received = omega (arith, ap (λ (x : Book). x.received) is, p.received, more);
+            served = omega (arith, ap (λ (x : Book). x.served) is, p.served, one);
+            followed = omega (arith, ap (λ (x : Book). x.followed) is, p.followed, more, stock-step (opening_state b.followed) kind);
+            none = both.1;
+            held = all_tail held;
+            rest = p.rest ∙ rw (e, is);
+          }
 
 -- the refusals of the record, or its figures
-module _ (opening : ℕ) (bytes : List ℕ) {p : Passed} (q : p ≡ passed_as Present 0 0 bytes) where
+module _ (opening : ℕ) (bytes : List ℕ) (weights : Weights) {p : Passed} (q : p ≡ passed_as Present weights bytes) where
   number_is : p.number ≡ record_refusal Present bytes
   number_is = ap (λ (x : Passed). x.number) q
 
-  pub record-refused : {r : BalanceAnswer} → (p.number ≡ 0 → ⊥) → r ≡ refused_balance p.number → r ≡ balance_for opening bytes
+  pub record-refused : (p.number ≡ 0 → ⊥) → refused_balance p.number ≡ balance_for opening bytes
   unfolding balance_for
-  record-refused d e = e ∙ rw (← number_is, ne_eqb p.number 0 d)
+  record-refused d = rw (← number_is, ne_eqb p.number 0 d)
 
   module _ (z : p.number ≡ 0) where
     pub record-passed : record_refusal Present bytes ≡ 0

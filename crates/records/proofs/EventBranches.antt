@@ -1,10 +1,10 @@
 -- Reading one event of a record: a law for each branch of the code.
-use mathlib.Core.Path.{◌≡◌, sym, ◌∙◌, ap}
-use mathlib.Core.Bool.{true, false}
+use mathlib.Core.Path.{◌≡◌, refl, sym, ◌∙◌, ap}
+use mathlib.Core.Bool.{Bool, true, false, cond, ◌&&◌}
 use mathlib.Core.List.{List}
 use Prim.Native.Nat.{ℕ, ◌+◌, ◌-◌, ◌≤◌, ◌<◌, min}
 use native.Mathlib.Omega.{arith}
-use lib.Dec.{leb}
+use lib.Dec.{eqb}
 use lib.ListN.{length, take, drop, get_or, length-take, length-drop}
 use lib.Seq.{take-take}
 use borrow.Author.Tests.{eq-eqb, ne_eqb, le-leb, lt-leb}
@@ -14,29 +14,21 @@ use Rattle.buffer.specs.Slice.{part}
 use Rattle.buffer.proofs.Readings.{get_d_part}
 use Rattle.model.specs.Messages.{kind_number}
 use Rattle.frame.specs.Layout.{whole_length}
-use Rattle.frame.specs.Kinds.{sense_number}
-use Rattle.frame.specs.Limits.{refusal_where}
+use Rattle.frame.specs.Limits.{numbers_below, hour_allowed, refusal_where}
 use Rattle.frame.specs.Reasons.{reading, form_in, form_number}
 use Rattle.frame.specs.declared.Frame.{Frame}
 use Rattle.frame.specs.declared.Reading.{Reading}
+use Rattle.frame.specs.declared.Form.{Form}
+use Rattle.frame.specs.declared.Form.TheVariants.{Good, TooShort, WrongMap, WrongLength, WrongSense, WrongLamp, WrongGateways, NotTaken}
 use Rattle.frame.proofs.Sizes.{whole-some}
 use Rattle.memory.specs.Layout.{state_size}
 use Rattle.records.specs.Events.{most_gateways, latest_hour, state_size_of, event_length, frame_in, state_in, is_event, frame_refusal, event_refusal, event_of}
-use Rattle.records.specs.Inside.Finding.{event_at, found_at}
-use Rattle.records.specs.declared.Found.{Found}
+use Rattle.records.specs.Inside.Finding.{event_at, Finds}
 use Rattle.records.specs.declared.StockField.{StockField}
 
 -- every event has a byte
 pub event-some : (field : StockField) (map : ℕ) → 1 ≤ event_length field map
 event-some field map = omega (arith, whole-some map)
-
--- whether a frame may stand in a record
-module _ (f : Frame) {sense : ℕ} (e : sense ≡ sense_number f.sense) where
-  pub has-sense : (sense ≡ 0 → ⊥) → false ≡ is_event f
-  has-sense d = rw (ne_eqb (sense_number f.sense) 0 (λ p. d (e ∙ p)))
-
-  pub is_plain : {kind : ℕ} → sense ≡ 0 → kind ≡ kind_number f.message.kind → leb kind 3 ≡ is_event f
-  is_plain d k = rw (eq-eqb (sense_number f.sense) 0 (sym e ∙ d), k)
 
 module _ (r : Reading) {form : ℕ} (f : form ≡ form_number (form_in is_event r)) where
   pub form-refused : (form ≡ 0 → ⊥) → form ≡ frame_refusal r
@@ -46,6 +38,25 @@ module _ (r : Reading) {form : ℕ} (f : form ≡ form_number (form_in is_event 
   pub frame-checked : {number : ℕ} → form ≡ 0 → number ≡ refusal_where true r.frame most_gateways latest_hour → number ≡ frame_refusal r
   unfolding frame_refusal
   frame-checked h n = n ∙ rw (← f, eq-eqb form 0 h)
+
+-- the last number that a frame is refused with
+pub lamp-number : (r : Reading) {number : ℕ} → number ≡ frame_refusal r → (number ≡ 0 → ⊥) → (number ≡ 1 → ⊥) → (number ≡ 2 → ⊥) → (number ≡ 3 → ⊥)
+    → (number ≡ 11 → ⊥) → 12 ≡ frame_refusal r
+unfolding frame_refusal refusal_where
+lamp-number r {number} e a b c d f = by (form_in is_event r) (numbers_below most_gateways r.frame.message) (hour_allowed latest_hour r.frame.message) e
+  where
+    by : (form : Form) (below allowed : Bool) → number ≡ cond (eqb (form_number form) 0) (cond (below && true) (cond allowed 0 3) 2) (form_number form)
+        → 12 ≡ cond (eqb (form_number form) 0) (cond (below && true) (cond allowed 0 3) 2) (form_number form)
+    by Good true true e = absurd (a e)
+    by Good true false e = absurd (d e)
+    by Good false allowed e = absurd (c e)
+    by TooShort below allowed e = absurd (f e)
+    by WrongMap below allowed e = absurd (b e)
+    by WrongLength below allowed e = absurd (f e)
+    by WrongSense below allowed e = absurd (b e)
+    by WrongLamp below allowed e = refl
+    by WrongGateways below allowed e = absurd (b e)
+    by NotTaken below allowed e = absurd (b e)
 
 -- the event at a position
 module _ (field : StockField) (bytes : List ℕ) (at : ℕ) (inside : at < length bytes) where
@@ -75,37 +86,36 @@ module _ (field : StockField) (bytes : List ℕ) (at : ℕ) (inside : at < lengt
     unfolding part
     state-size = rw (first_byte, cut) (simp (length-take, length-drop))
 
-    module _ {r : Reading} (q : r ≡ reading (take (end - at) (drop at bytes))) {number : ℕ} (n : number ≡ frame_refusal r) where
-      read-frame : r ≡ reading (frame_in s)
-      read-frame = q ∙ rw frame-of
-
+    module _ {number : ℕ} (n : number ≡ frame_refusal (reading (take (end - at) (drop at bytes)))) where
       frame-number : number ≡ frame_refusal (reading (frame_in s))
-      frame-number = n ∙ ap frame_refusal read-frame
+      frame-number = n ∙ ap (λ (l : List ℕ). frame_refusal (reading l)) frame-of
 
       -- refused for its frame
-      pub at-frame : {f : Found} → (number ≡ 0 → ⊥) → (f.number ≡ number) × (f.kind ≡ 0) × (f.end ≡ at) → f ≡ found_at field bytes at
-      unfolding found_at event_refusal
-      at-frame {f} d (a, b, c) =
-          let is : event_refusal field s ≡ number = rw (← frame-number, ne_eqb number 0 d) in
-          rw (is, ne_eqb number 0 d) (λ i. record { number = a i; kind = b i; end = c i })
+      pub at-frame : (number ≡ 0 → ⊥) → number ≡ event_refusal field s
+      unfolding event_refusal
+      at-frame d = rw (← frame-number, ne_eqb number 0 d)
 
       module _ (z : number ≡ 0) {size : ℕ} (w : (size ≡ state_size_of field) × (size ≤ state_size)) where
         -- refused for its state
-        pub at-state : {f : Found} → length bytes - end < size → (f.number ≡ 11) × (f.kind ≡ 0) × (f.end ≡ at) → f ≡ found_at field bytes at
-        unfolding found_at event_refusal piece_end
-        at-state {f} h (a, b, c) =
+        pub at-state : length bytes - end < size → 11 ≡ event_refusal field s
+        unfolding event_refusal piece_end
+        at-state h =
             let short : length (state_in field s) < state_size_of field = omega (arith, state-size, e, w.0) in
-            let is : event_refusal field s ≡ 11 = rw (← frame-number, eq-eqb number 0 z, lt-leb (state_size_of field) (length (state_in field s)) short) in
-            rw is (λ i. record { number = a i; kind = b i; end = c i })
+            rw (← frame-number, eq-eqb number 0 z, lt-leb (state_size_of field) (length (state_in field s)) short)
 
-        -- not refused
-        pub at-event : {kind : ℕ} → size ≤ length bytes - end → kind ≡ kind_number r.frame.message.kind
-            → record { number = 0; kind = kind; end = end + size } ≡ found_at field bytes at
-        unfolding found_at event_refusal event_of piece_end
-        at-event {kind} h k =
-            let whole : state_size_of field ≤ length (state_in field s) = omega (arith, state-size, e, w.0) in
-            let is : event_refusal field s ≡ 0 = rw (← frame-number, eq-eqb number 0 z, le-leb (state_size_of field) (length (state_in field s)) whole) in
-            let same : kind ≡ kind_number (reading (frame_in s)).frame.message.kind =
-            k ∙ ap (λ (x : Reading). kind_number x.frame.message.kind) read-frame in
-            let behind : end + size ≡ piece_end (event_length field) bytes at = omega (arith, e, w.0) in
-            rw is (λ i. record { number = 0; kind = same i; end = behind i })
+        module _ (h : size ≤ length bytes - end) where
+          -- not refused
+          pub at-event : 0 ≡ event_refusal field s
+          unfolding event_refusal piece_end
+          at-event =
+              let whole : state_size_of field ≤ length (state_in field s) = omega (arith, state-size, e, w.0) in
+              rw (← frame-number, eq-eqb number 0 z, le-leb (state_size_of field) (length (state_in field s)) whole)
+
+          -- and so found
+          pub at-found : {frame : Frame} {kind : ℕ} → frame ≡ (reading (take (end - at) (drop at bytes))).frame → kind ≡ kind_number frame.message.kind
+              → Finds field bytes at (record { kind = kind; end = end + size })
+          unfolding event_of piece_end
+          at-found q k = record {
+            kind = k ∙ ap (λ (f : Frame). kind_number f.message.kind) (q ∙ ap (λ (l : List ℕ). (reading l).frame) frame-of);
+            end = omega (arith, e, w.0);
+          }

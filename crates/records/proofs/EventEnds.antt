@@ -1,57 +1,20 @@
 -- Where an event that is taken ends: by the kind in its second byte.
-use mathlib.Core.Path.{◌≡◌, sym, ◌∙◌, ap}
+use mathlib.Core.Path.{◌≡◌, sym, ◌∙◌}
 use mathlib.Core.List.{List}
 use Prim.Native.Nat.{ℕ, ◌+◌, ◌-◌, ◌≤◌, ◌<◌}
 use native.Mathlib.Omega.{arith}
-use native.Mathlib.Decide.{ℕ_discrete}
 use lib.ListN.{length, drop, get_or, length-take, length-drop}
-use borrow.Author.Tests.{eq-eqb, ne_eqb}
+use borrow.Author.Tests.{ne_eqb}
 use Rattle.lists.specs.Inside.Pieces.{piece_end}
 use Rattle.buffer.specs.Slice.{Bytes, part}
 use Rattle.buffer.proofs.Lent.{bytes-part}
 use Rattle.buffer.proofs.Readings.{get_d_part}
-use Rattle.model.specs.Messages.{kind_number}
 use Rattle.frame.specs.Layout.{whole_length}
-use Rattle.records.specs.Events.{state_size_of, event_length, event_refusal, event_of}
-use Rattle.records.specs.Inside.Finding.{event_at, found_at, length_of_kind}
-use Rattle.records.specs.declared.Found.{Found}
+use Rattle.records.specs.Events.{state_size_of, event_length, event_refusal}
+use Rattle.records.specs.Inside.Finding.{event_at, length_of_kind}
 use Rattle.records.specs.declared.StockField.{StockField}
 use Rattle.records.proofs.EventParts.{Parts, with_lamp, restock, event-taken, parts}
 use Rattle.records.proofs.EventBranches.{first_byte}
-
--- what is found at a position
-module _ (field : StockField) (bytes : List ℕ) (at : ℕ) {f : Found} (q : f ≡ found_at field bytes at) where
-  abbrev there : List ℕ
-  there = event_at field bytes at
-
-  found-good : event_refusal field there ≡ 0 → f ≡ record {
-    number = 0;
-    kind = kind_number (event_of field there).message.kind;
-    end = piece_end (event_length field) bytes at;
-  }
-  unfolding found_at
-  found-good e = q ∙ rw (eq-eqb (event_refusal field there) 0 e)
-
-  found-bad : (event_refusal field there ≡ 0 → ⊥) → f ≡ record { number = event_refusal field there; kind = 0; end = at }
-  unfolding found_at
-  found-bad d = q ∙ rw (ne_eqb (event_refusal field there) 0 d)
-
-  pub found_number : f.number ≡ event_refusal field there
-  found_number = go (ℕ_discrete (event_refusal field there) 0)
-    where
-      go : Dec (event_refusal field (event_at field bytes at) ≡ 0) → f.number ≡ event_refusal field (event_at field bytes at)
-      go (yes e) = ap (λ (x : Found). x.number) (found-good e) ∙ sym e
-      go (no d) = ap (λ (x : Found). x.number) (found-bad d)
-
-  module _ (z : f.number ≡ 0) where
-    pub found-taken : event_refusal field there ≡ 0
-    found-taken = sym found_number ∙ z
-
-    pub found-kind : f.kind ≡ kind_number (event_of field there).message.kind
-    found-kind = ap (λ (x : Found). x.kind) (found-good found-taken)
-
-    pub found-end : f.end ≡ piece_end (event_length field) bytes at
-    found-end = ap (λ (x : Found). x.end) (found-good found-taken)
 
 -- its kind stands in the record, and it ends where its map says
 pub record Ends (field : StockField) (bytes : List ℕ) (at : ℕ) : Type 0 where

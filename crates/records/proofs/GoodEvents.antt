@@ -6,7 +6,7 @@ use Prim.Native.Nat.{ℕ, zero, suc, ◌+◌, ◌-◌, ◌≤◌, ◌<◌}
 use native.Mathlib.Omega.{arith}
 use lib.Dec.{leb, eqb, lit<}
 use lib.ListN.{length, take, drop, get_or, replicate}
-use borrow.Author.Tests.{eq-eqb, ne_eqb, le-leb, lt-leb, eqb-true, eqb-false, leb-true, not-true, not-false}
+use borrow.Author.Tests.{eqb-true, eqb-false, leb-true, not-true}
 use Rattle.lists.specs.Inside.Pieces.{piece_end}
 use Rattle.lists.proofs.BoolLaws.{and_left, and_right}
 use Rattle.buffer.specs.Slice.{Bytes, part}
@@ -29,88 +29,9 @@ use Rattle.memory.specs.Validity.{frame_if}
 use Rattle.memory.proofs.FromBytes.{byte_next, number-next, number_fits}
 use Rattle.records.specs.declared.StockField.{StockField}
 use Rattle.records.specs.Events.{most_gateways, latest_hour, state_size_of, event_length, event_refusal, event_of}
-use Rattle.records.specs.Inside.Finding.{event_at, found_at, good_gateways, good_with_lamp, good_restock}
+use Rattle.records.specs.Inside.Finding.{event_at, Finds, good_gateways, good_with_lamp, good_restock}
 use Rattle.records.proofs.EventParts.{lamp-written, restock-written, plain_map}
 use Rattle.records.proofs.WrittenEvents.{Recordable, event-whole, event-taken, message-read}
-
--- the branches of the code: a test that fails, and one that passes
-module _ (from to : ℕ) (k : Kind) where
-  pub from-255 : from ≡ 255 → false ≡ good_gateways from to k
-  unfolding good_gateways
-  from-255 e = rw (eq-eqb from 255 e)
-
-  module _ (a : from ≡ 255 → ⊥) where
-    pub to-255 : to ≡ 255 → false ≡ good_gateways from to k
-    unfolding good_gateways
-    to-255 e = rw (ne_eqb from 255 a, eq-eqb to 255 e)
-
-    module _ (b : to ≡ 255 → ⊥) {origin : ℕ} (o : origin ≡ origin_of k) where
-      pub origin-255 : origin ≡ 255 → false ≡ good_gateways from to k
-      unfolding good_gateways
-      origin-255 e = rw (ne_eqb from 255 a, ne_eqb to 255 b, eq-eqb (origin_of k) 255 (sym o ∙ e))
-
-      pub gateways-good : {agree : Bool} → (origin ≡ 255 → ⊥) → agree ≡ gateways_agree from to k → agree ≡ good_gateways from to k
-      unfolding good_gateways
-      gateways-good c e = e ∙ rw (ne_eqb from 255 a, ne_eqb to 255 b, ne_eqb (origin_of k) 255 (λ p. c (o ∙ p)))
-
-module _ (s : List ℕ) where
-  pub another-map : (get_or s 0 0 ≡ 63 → ⊥) → false ≡ good_with_lamp s
-  unfolding good_with_lamp
-  another-map d = rw (ne_eqb (get_or s 0 0) 63 d)
-
-  module _ (m : get_or s 0 0 ≡ 63) where
-    pub another-kind : 2 < get_or s 1 0 → false ≡ good_with_lamp s
-    unfolding good_with_lamp
-    another-kind h = rw (eq-eqb (get_or s 0 0) 63 m, lt-leb (get_or s 1 0) 2 h)
-
-    module _ (h : get_or s 1 0 ≤ 2) {kind : Kind} (k : kind ≡ kind_of (get_or s 1 0) (get_or s 8 0) 0) {gateways : Bool} (g : gateways ≡ good_gateways (get_or s 2 0) (get_or s 3 0) kind) where
-      its-gateways : gateways ≡ good_gateways (get_or s 2 0) (get_or s 3 0) (kind_of (get_or s 1 0) (get_or s 8 0) 0)
-      its-gateways = g ∙ ap (good_gateways (get_or s 2 0) (get_or s 3 0)) k
-
-      pub bad-gateways : not gateways ≡ true → false ≡ good_with_lamp s
-      unfolding good_with_lamp
-      bad-gateways t = rw (eq-eqb (get_or s 0 0) 63 m, le-leb (get_or s 1 0) 2 h, sym its-gateways ∙ not-true gateways t)
-
-      module _ (t : not gateways ≡ false) {hour : ℕ} (o : hour ≡ number_of (part s 4 4)) where
-        pub nothing-due : latest_hour < hour → false ≡ good_with_lamp s
-        unfolding good_with_lamp
-        nothing-due l =
-            rw (
-              eq-eqb (get_or s 0 0) 63 m,
-              le-leb (get_or s 1 0) 2 h,
-              sym its-gateways ∙ not-false gateways t,
-              lt-leb (number_of (part s 4 4)) latest_hour (rw (← o) l),
-            )
-
-        pub lamp-tested : {lamp : List ℕ} {fine : Bool} → hour ≤ latest_hour → lamp ≡ part s 9 18 → fine ≡ all_between 33 126 lamp → fine ≡ good_with_lamp s
-        unfolding good_with_lamp
-        lamp-tested l p e =
-            e
-            ∙ rw (
-              p,
-              eq-eqb (get_or s 0 0) 63 m,
-              le-leb (get_or s 1 0) 2 h,
-              sym its-gateways ∙ not-false gateways t,
-              le-leb (number_of (part s 4 4)) latest_hour (rw (← o) l),
-            )
-
-  pub no-restock : (get_or s 0 0 ≡ 79 → ⊥) → false ≡ good_restock s
-  unfolding good_restock
-  no-restock d = rw (ne_eqb (get_or s 0 0) 79 d)
-
-  module _ (m : get_or s 0 0 ≡ 79) where
-    pub not-its-kind : (get_or s 1 0 ≡ 3 → ⊥) → false ≡ good_restock s
-    unfolding good_restock
-    not-its-kind d = rw (eq-eqb (get_or s 0 0) 79 m, ne_eqb (get_or s 1 0) 3 d)
-
-    module _ (h : get_or s 1 0 ≡ 3) {gateways : Bool} (g : gateways ≡ good_gateways (get_or s 2 0) (get_or s 3 0) (Restock 0)) where
-      pub not-from-itself : not gateways ≡ true → false ≡ good_restock s
-      unfolding good_restock
-      not-from-itself t = rw (eq-eqb (get_or s 0 0) 79 m, eq-eqb (get_or s 1 0) 3 h, sym g ∙ not-true gateways t)
-
-      pub hour-tested : {hour : ℕ} → not gateways ≡ false → hour ≡ number_of (part s 4 4) → leb hour latest_hour ≡ good_restock s
-      unfolding good_restock
-      hour-tested t o = rw (eq-eqb (get_or s 0 0) 79 m, eq-eqb (get_or s 1 0) 3 h, sym g ∙ not-false gateways t, o)
 
 -- what the gateways keep to that are good
 record GoodGateways (from to : ℕ) (k : Kind) : Type 0 where
@@ -134,6 +55,11 @@ good-gateways from to k e =
       agree = and_right (not (eqb (origin_of k) 255)) _ last;
     }
 
+-- a good event is found at a position
+pub record FoundGood (field : StockField) (bytes : List ℕ) (at kind end : ℕ) : Type 0 where
+  pub number : 0 ≡ event_refusal field (event_at field bytes at)
+  pub event : Finds field bytes at (record { kind = kind; end = end })
+
 -- an event is found at a position where its frame is written and enough bytes for its state follow
 module _ (field : StockField) (bytes : List ℕ) (at w : ℕ) (inside : at + (w + state_size_of field) ≤ length bytes) where
   abbrev piece : List ℕ
@@ -148,8 +74,8 @@ module _ (field : StockField) (bytes : List ℕ) (at w : ℕ) (inside : at + (w 
       get_d_part bytes at (w + state_size_of field) 0 (omega arith) ∙ ap (λ (k : ℕ). get_or bytes k 0) same
 
   pub found-whole : (m : Message) → Recordable m → written (frame_if false m) ≡ part bytes at w → {kind end : ℕ} → kind ≡ kind_number m.kind
-      → end ≡ at + (w + state_size_of field) → record { number = 0; kind = kind; end = end } ≡ found_at field bytes at
-  unfolding found_at piece_end part
+      → end ≡ at + (w + state_size_of field) → FoundGood field bytes at kind end
+  unfolding piece_end part
   found-whole m k frame {kind} {end} ek ee =
       let size : length state ≡ state_size_of field = length_part bytes (at + w) (state_size_of field) (omega arith) in
       let is : written (frame_if false m) ++ state ≡ piece = ap (λ (l : List ℕ). l ++ state) frame ∙ sym (part-add bytes at w (state_size_of field)) in
@@ -166,7 +92,7 @@ module _ (field : StockField) (bytes : List ℕ) (at w : ℕ) (inside : at + (w 
       let same : kind ≡ kind_number (event_of field (event_at field bytes at)).message.kind =
       ek ∙ sym (ap (λ (m : Message). kind_number m.kind) (ap (λ (l : List ℕ). (event_of field l).message) there ∙ message-read field m k state size)) in
       let last : end ≡ piece_end (event_length field) bytes at = ee ∙ sym behind in
-      rw taken (λ i. record { number = 0; kind = same i; end = last i })
+      record { number = sym taken; event = record { kind = same; end = last } }
 
 -- a kind with a lamp, made of its number and its origin
 record LampKind (n origin : ℕ) : Type 0 where
@@ -345,7 +271,7 @@ module _ (s : List ℕ) (b : Bytes s) (long : length s ≡ 10) (g : good_restock
 -- the event that is found where the frame at a position is good
 module _ (field : StockField) (bytes : List ℕ) (b : Bytes bytes) (at : ℕ) {state : ℕ} (w : (state ≡ state_size_of field) × (state ≤ state_size)) where
   pub lamp-found : {good : Bool} → 27 + state ≤ length bytes - at → good ≡ good_with_lamp (take (at + 27 - at) (drop at bytes)) → good ≡ true
-      → record { number = 0; kind = get_or bytes (at + 1) 0; end = at + (27 + state) } ≡ found_at field bytes at
+      → FoundGood field bytes at (get_or bytes (at + 1) 0) (at + (27 + state))
   unfolding part
   lamp-found room e t =
       let h : at + (27 + state_size_of field) ≤ length bytes = omega (arith, w.0) in
@@ -358,7 +284,7 @@ module _ (field : StockField) (bytes : List ℕ) (b : Bytes bytes) (at : ℕ) {s
       (sym (get_d_part bytes at 27 1 (omega arith)) ∙ sym (is-kind s bs long g).number) (omega (arith, w.0))
 
   pub restock-found : {good : Bool} → 10 + state ≤ length bytes - at → good ≡ good_restock (take (at + 10 - at) (drop at bytes)) → good ≡ true
-      → record { number = 0; kind = 3; end = at + (10 + state) } ≡ found_at field bytes at
+      → FoundGood field bytes at 3 (at + (10 + state))
   unfolding part
   restock-found room e t =
       let h : at + (10 + state_size_of field) ≤ length bytes = omega (arith, w.0) in

@@ -1,48 +1,57 @@
--- From a position on none of a record's events is refused: the next event, by the kind in its second byte, and the rest behind it.
-use mathlib.Core.Path.{◌≡◌, ◌∙◌}
-use mathlib.Core.List.{List, ◌∷◌}
-use Prim.Native.Nat.{ℕ, ◌+◌, ◌-◌, ◌<◌}
+-- The first event of a record that is taken: it ends by the kind in its second byte, and what is behind it is a record that is taken.
+use mathlib.Core.Path.{◌≡◌, ◌∙◌, ap}
+use mathlib.Core.List.{List, [], ◌∷◌}
+use Prim.Native.Nat.{ℕ, zero, suc, ◌≤◌, ◌<◌}
+use native.Mathlib.Nat.{sub-zero}
+use native.Mathlib.Omega.{arith}
 use lib.ListN.{length, take, drop, get_or}
-use Rattle.lists.specs.Lists.{first_number}
+use Rattle.lists.specs.Lists.{cut_by}
 use Rattle.lists.specs.Inside.Pieces.{pieces_from, piece_end}
-use Rattle.lists.proofs.PieceLaws.{Between, first-cons, pieces-next, end-between}
+use Rattle.lists.proofs.PieceLaws.{first-cons, pieces-next}
 use Rattle.buffer.specs.Slice.{Bytes}
-use Rattle.records.specs.Events.{event_length, event_refusal}
+use Rattle.records.specs.Events.{event_length, cut_events, event_refusal, record_refusal}
 use Rattle.records.specs.Inside.Finding.{event_at, length_of_kind}
 use Rattle.records.specs.declared.StockField.{StockField}
 use Rattle.records.proofs.EventBranches.{event-some}
 use Rattle.records.proofs.EventEnds.{Ends, event-ends}
 
-module _ (field : StockField) (bytes : List ℕ) (b : Bytes bytes) (at : ℕ)
-    (none : first_number (event_refusal field) (pieces_from (event_length field) bytes at) ≡ 0) (h : at < length bytes)
-  where
-    -- the events from there on
-    pub rest-next : pieces_from (event_length field) bytes at ≡ event_at field bytes at ∷ pieces_from (event_length field) bytes (piece_end (event_length field) bytes at)
-    rest-next = pieces-next (event_length field) (event-some field) bytes at h
+-- there are no events in no bytes
+pub no_events : (field : StockField) (s : List ℕ) → length s ≡ 0 → cut_events field s ≡ []
+unfolding cut_by
+no_events field s e = rw e
 
-    both : (event_refusal field (event_at field bytes at) ≡ 0) × (first_number (event_refusal field) (pieces_from (event_length field) bytes (piece_end (event_length field) bytes at)) ≡ 0)
-    both =
-        first-cons (event_refusal field) (event_at field bytes at) (pieces_from (event_length field) bytes (piece_end (event_length field) bytes at)) (rw rest-next at none)
+-- there are no more events than bytes
+pub cut_few : (size : ℕ → ℕ) (turns : ℕ) (s : List ℕ) → length (cut_by size turns s) ≤ turns
+unfolding cut_by
+cut_few size zero s = omega arith
+cut_few size (suc turns) [] = omega arith
+cut_few size (suc turns) (x ∷ s) = omega (arith, cut_few size turns (drop (size x) (x ∷ s)))
 
-    pub next-taken : event_refusal field (event_at field bytes at) ≡ 0
-    next-taken = both.0
+module _ (field : StockField) (bytes : List ℕ) (b : Bytes bytes) (z : record_refusal field bytes ≡ 0) (h : 0 < length bytes) where
+  next : cut_events field bytes ≡ event_at field bytes 0 ∷ cut_events field (drop (piece_end (event_length field) bytes 0) bytes)
+  unfolding pieces_from
+  next = pieces-next (event_length field) (event-some field) bytes 0 h
 
-    pub next-ends : Ends field bytes at
-    next-ends = event-ends field bytes b at h next-taken
+  both : (event_refusal field (event_at field bytes 0) ≡ 0) × (record_refusal field (drop (piece_end (event_length field) bytes 0) bytes) ≡ 0)
+  unfolding record_refusal
+  both =
+      first-cons (event_refusal field) (event_at field bytes 0) (cut_events field (drop (piece_end (event_length field) bytes 0) bytes)) (rw next at z)
 
-    -- the next event's end as code finds it
-    module _ {kind size end : ℕ} (k : kind ≡ get_or bytes (at + 1) 0) (l : size ≡ length_of_kind field kind) (e : end ≡ at + size) where
-      pub end_is : end ≡ piece_end (event_length field) bytes at
-      end_is = e ∙ rw (l, k) next-ends.end
+  pub first-ends : Ends field bytes 0
+  first-ends = event-ends field bytes b 0 h both.0
 
-      pub event-is : take (end - at) (drop at bytes) ≡ event_at field bytes at
-      event-is = rw end_is
+  -- its end as code finds it
+  module _ {size : ℕ} (l : size ≡ length_of_kind field (get_or bytes 1 0)) where
+    end : size ≡ piece_end (event_length field) bytes 0
+    end = omega (arith, l, first-ends.end)
 
-      pub end-bounds : Between at end (length bytes)
-      end-bounds = end-between (event_length field) (event-some field) bytes at h end_is
+    pub first-inside : size ≤ length bytes
+    first-inside = omega (arith, l, first-ends.inside)
 
-      pub event-taken : event_refusal field (take (end - at) (drop at bytes)) ≡ 0
-      event-taken = rw event-is next-taken
+    pub first-left : cut_events field bytes ≡ take size bytes ∷ cut_events field (drop size bytes)
+    first-left =
+        rw end
+        (next ∙ ap (λ (n : ℕ). take n bytes ∷ cut_events field (drop (piece_end (event_length field) bytes 0) bytes)) (sub-zero (piece_end (event_length field) bytes 0)))
 
-      pub rest-taken : first_number (event_refusal field) (pieces_from (event_length field) bytes end) ≡ 0
-      rest-taken = rw end_is both.1
+    pub rest-taken : record_refusal field (drop size bytes) ≡ 0
+    rest-taken = rw end both.1

@@ -1,8 +1,7 @@
 -- Examples of the balance, as one table: the figures of records, and what they are refused with.
 use Rattle.std.specs.Prelude.{◌≡◌, ℕ, List, [], ◌++◌, take}
-use Rattle.records.specs.Balancing.{refused_balance, balanced}
+use Rattle.records.specs.Balancing.{BalanceAnswer, refused_balance, balanced}
 use Rattle.records.specs.ExampleRecords.{lamp, blanks, frame, failure_frame, restock_frame, state}
-use Rattle.records.specs.declared.balance.BalanceAnswer.{BalanceAnswer}
 
 -- a Request at gateway 3 for its own lamp at that hour, and a Delivery to it, with the state after it
 abbrev request : (hour : ℕ) → (state : List ℕ) → List ℕ

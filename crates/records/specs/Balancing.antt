@@ -1,7 +1,9 @@
 -- "Opening stock plus the quantities of all committed Restocks equals the stock in the last record (before the first, the opening stock)
 -- plus the number of committed Requests that found stock. The Requests are counted by following the committed history from the opening
 -- stock, not taken from a stored figure."
-use Rattle.std.specs.Prelude.{◌≡◌, ℕ, ◌+◌, ◌^◌, Bool, false, cond, ◌&&◌, List, [], ◌∷◌, leb, ltb, eqb, length}
+use Rattle.std.specs.Prelude.{◌≡◌, ℕ, ◌+◌, ◌^◌, Bool, false, cond, ◌&&◌, Result, Ok, Err, List, [], ◌∷◌, leb, ltb, eqb, length}
+use Rattle.refusal.specs.Numbers.{refusal_number}
+use Rattle.refusal.specs.declared.Refusal.{Refusal}
 use Rattle.model.specs.Doing.{opening_state, after}
 use Rattle.model.specs.Messages.{quantity_of}
 use Rattle.model.specs.declared.Kind.{Kind}
@@ -9,7 +11,7 @@ use Rattle.model.specs.declared.Kind.TheVariants.{Failure, Request, Delivery, Re
 use Rattle.model.specs.declared.State.{State}
 use Rattle.records.specs.Events.{Event, record_refusal, events_of}
 use Rattle.records.specs.declared.StockField.TheVariants.{Present}
-use Rattle.records.specs.declared.balance.BalanceAnswer.{BalanceAnswer}
+use Rattle.records.specs.declared.balance.Figures.{Figures}
 
 -- the quantities of all Restocks; a field that a kind lacks counts as zero
 unfoldable pub received : List Event → ℕ
@@ -42,6 +44,13 @@ Balances opening events = opening + received events ≡ last_stock opening event
 
 -- The call: the three figures of a whole record and an opening stock. Whether they balance is for its caller to see.
 
+-- what it answers: 0 and the figures, or what it is refused with
+pub record BalanceAnswer : Type 0 where
+  pub number : ℕ
+  pub received : ℕ
+  pub served : ℕ
+  pub stock : ℕ
+
 -- an opening stock of at most 65,535 and a record of fewer than 2^48 bytes; else 8
 abbrev pub balanceable : ℕ → List ℕ → Bool
 balanceable opening bytes = leb opening 65535 && ltb (length bytes) (2 ^ 48)
@@ -70,3 +79,8 @@ balance_for opening bytes =
 unfoldable pub balanced : ℕ → List ℕ → BalanceAnswer
 unfolding balance_for
 balanced opening bytes = cond (balanceable opening bytes) (balance_for opening bytes) (refused_balance 8)
+
+-- the answer that gives the figures, or is a refusal
+abbrev pub balance_in : Result Figures Refusal → BalanceAnswer
+balance_in (Ok figures) = record { number = 0; received = figures.received; served = figures.served; stock = figures.stock }
+balance_in (Err why) = refused_balance (refusal_number why)

@@ -1,24 +1,28 @@
 // A record, read event by event: each is its frame, then the state after it.
 #![tactic(auto)]
 
+pub mod events; // events.rt: the events of a record that is taken, one after another
 pub mod balance; // balance.rt: what the Restocks brought, the Requests that found stock, and the last stock
 
-ghost use Rattle.std.specs.Prelude.{◌≡◌, ◌+◌, ◌<◌, ◌≤◌, length};
-ghost use Rattle.frame.specs.Reasons.{form_in, form_number};
+ghost use Rattle.std.specs.Prelude.{◌≡◌, ◌+◌, ◌<◌, ◌≤◌, length, IfOk};
+ghost use Rattle.refusal.specs.Numbers.{number_in};
+ghost use Rattle.frame.specs.Reasons.{reading, form_in, form_number};
 ghost use Rattle.memory.specs.Layout.{state_size};
-ghost use Rattle.records.specs.Events.{state_size_of, is_event, frame_refusal};
-ghost use Rattle.records.specs.Inside.Finding.{found_at, length_of_kind, weight_of, passed_as, good_with_lamp, good_restock, good_gateways};
+ghost use Rattle.records.specs.Events.{state_size_of, is_event, frame_refusal, event_refusal};
+ghost use Rattle.records.specs.declared.StockField.TheVariants.{Present, Old};
+ghost use Rattle.records.specs.Inside.Finding.{event_at, Finds, length_of_kind, weight_of, numbered, passed_in, passed_as, good_with_lamp, good_restock, good_gateways};
 
 use buffer::read32;
 use frame::forms::number_where;
 use frame::lamps::{LAMP_END, LAMP_PLACE, read_lamp};
 use frame::pieces::frame_end;
-use frame::tables::{HOUR_PLACE, ORIGIN_PLACE, QUANTITY_END, sense_number};
-use frame::{Frame, Reading};
+use frame::tables::{HOUR_PLACE, ORIGIN_PLACE, QUANTITY_END};
+use frame::{Frame, Reading, Sense};
 use limits::check_where;
 use memory::STATE_SIZE;
 use model::{Kind, kind_number, kind_of, origin_of};
 use reader::read;
+use refusal::Refusal;
 use rules::{all_between, gateways_agree};
 
 // A record of so many bytes or more is refused.
@@ -37,6 +41,11 @@ const LAMP_MAP: u8 = 63;
 
 const RESTOCK_MAP: u8 = 79;
 
+// The byte of a Restock's kind, and that of the last kind before it.
+pub const RESTOCK: u8 = 3;
+
+const DELIVERY: u8 = 2;
+
 // The size of a state with the old stock.
 const OLD_STATE_SIZE: usize = 14;
 
@@ -47,81 +56,101 @@ pub enum StockField {
     Old,
 }
 
-// What stands at a position of a record: 0, the event's kind and the position behind it, or what the event is refused with.
+// 1 for a record with the old stock, else 0.
+impl TryFrom<u32> for StockField {
+    type Error = Refusal;
+
+    ghost try_from_gives = { λ number r. r ≡ numbered Present Old number };
+
+    fn try_from(number: u32) -> Result<StockField, Refusal> {
+        match number {
+            0 => Ok(StockField::Present),
+            1 => Ok(StockField::Old),
+            _ => Err(Refusal::OutOfRange),
+        }
+    }
+}
+
+// An event at a position of a record: the byte of its kind, and the position behind it.
 #[derive(Clone, Copy)]
 pub struct Found {
-    pub number: u8,
     pub kind: u8,
     pub end: usize,
 }
 
-// What a pass over a record finds: the first refusal, or 0, and what the events before it, or all of them, weigh.
+// What an event weighs in a pass over a record: a Failure, Request or Delivery, and a Restock.
 #[derive(Clone, Copy)]
-pub struct Passed {
-    pub number: u8,
+pub struct Weights {
+    pub lamp: usize,
+    pub restock: usize,
+}
+
+impl Weights {
+    // What an event of that kind weighs.
+    fn of(self, kind: u8) -> usize
+        ensures { result ≡ weight_of self kind }
+    {
+        if kind == RESTOCK {
+            self.restock
+        } else {
+            self.lamp
+        }
+    }
+}
+
+// The first event that is refused, with what, and what the events before it weigh.
+#[derive(Clone, Copy)]
+pub struct RefusedEvent {
+    pub refusal: Refusal,
     pub weight: usize,
 }
 
-// One pass over a record, up to its first refusal; each Restock has one weight, and each other event another.
-pub fn pass_over(
-    bytes: &[u8],
-    stock: StockField,
-    lamp_weight: usize,
-    restock_weight: usize,
-) -> Passed
-    requires { (lamp_weight ≤ 27 + state_size_of stock) × (restock_weight ≤ 10 + state_size_of stock) }
-    ensures { result ≡ passed_as stock lamp_weight restock_weight bytes.now }
+impl From<RefusedEvent> for Refusal {
+    ghost from_gives = { λ event refusal. refusal ≡ event.refusal };
+
+    fn from(event: RefusedEvent) -> Refusal {
+        event.refusal
+    }
+}
+
+// One pass over a record, up to its first refusal: what its events weigh. It checks what `Events` takes as checked.
+pub fn pass_over(bytes: &[u8], stock: StockField, weights: Weights) -> Result<usize, RefusedEvent>
+    requires { (weights.lamp ≤ 27 + state_size_of stock) × (weights.restock ≤ 10 + state_size_of stock) }
+    ensures { passed_in result ≡ passed_as stock weights bytes.now }
 {
     let mut weight = 0;
     let mut at = 0;
     while at < bytes.len() {
-        let found = event_at(bytes, at, stock);
-        if found.number != 0 {
-            return Passed {
-                number: found.number,
-                weight,
-            };
+        match event_at(bytes, at, stock) {
+            Ok(found) => {
+                weight += weights.of(found.kind);
+                at = found.end;
+            }
+            Err(refusal) => return Err(RefusedEvent { refusal, weight }),
         }
-        weight += weight_of(found.kind, lamp_weight, restock_weight);
-        at = found.end;
     }
-    Passed { number: 0, weight }
-}
-
-// What an event of that kind weighs.
-fn weight_of(kind: u8, lamp_weight: usize, restock_weight: usize) -> usize
-    ensures { result ≡ weight_of lamp_weight restock_weight kind }
-{
-    if kind == 3 {
-        return restock_weight;
-    }
-    lamp_weight
+    Ok(weight)
 }
 
 // The event that begins at a position. Nearly every one is good, and is told from its bytes at their places; any other is read.
-pub fn event_at(bytes: &[u8], at: usize, stock: StockField) -> Found
+pub fn event_at(bytes: &[u8], at: usize, stock: StockField) -> Result<Found, Refusal>
     requires { at < length bytes.now }
-    ensures { result ≡ found_at stock bytes.now at }
+    ensures number { number_in result ≡ event_refusal stock (event_at stock bytes.now at) }
+    ensures event { IfOk result (Finds stock bytes.now at) }
 {
     let left = bytes.len() - at;
     let state = state_size(stock);
-    if left >= LAMP_END + state {
-        if good_with_lamp(&bytes[at..at + LAMP_END]) {
-            return Found {
-                number: 0,
-                kind: bytes[at + 1],
-                end: at + (LAMP_END + state),
-            };
-        }
+    if left >= LAMP_END + state && good_with_lamp(&bytes[at..at + LAMP_END]) {
+        return Ok(Found {
+            kind: bytes[at + 1],
+            end: at + (LAMP_END + state),
+        });
     }
-    if left >= QUANTITY_END + state {
-        if good_restock(&bytes[at..at + QUANTITY_END]) {
-            return Found {
-                number: 0,
-                kind: 3,
-                end: at + (QUANTITY_END + state),
-            };
-        }
+    if left >= QUANTITY_END + state && good_restock(&bytes[at..at + QUANTITY_END]) {
+        return Ok(Found {
+            kind: RESTOCK,
+            end: at + (QUANTITY_END + state),
+        });
     }
     event_read(bytes, at, stock)
 }
@@ -137,39 +166,37 @@ pub fn state_size(stock: StockField) -> usize
 }
 
 // Its frame's refusals come first, then that of a cut state.
-fn event_read(bytes: &[u8], at: usize, stock: StockField) -> Found
+fn event_read(bytes: &[u8], at: usize, stock: StockField) -> Result<Found, Refusal>
     requires { at < length bytes.now }
-    ensures { result ≡ found_at stock bytes.now at }
+    ensures number { number_in result ≡ event_refusal stock (event_at stock bytes.now at) }
+    ensures event { IfOk result (Finds stock bytes.now at) }
 {
     let end = frame_end(bytes, at);
     let left = bytes.len() - end;
     let state = state_size(stock);
-    let reading = read(&bytes[at..end]);
-    let refusal = frame_refusal(reading);
-    if refusal != 0 {
-        return refused(refusal, at);
-    }
+    let frame = event_frame(&bytes[at..end])?;
     if left < state {
-        return refused(11, at);
+        return Err(Refusal::WrongLength);
     }
-    let frame = reading.frame;
-    let message = frame.message;
-    let kind = message.kind;
-    let behind = end + state;
-    Found {
-        number: 0,
-        kind: kind_number(kind),
-        end: behind,
-    }
+    Ok(Found {
+        kind: kind_number(frame.message.kind),
+        end: end + state,
+    })
 }
 
-fn refused(number: u8, at: usize) -> Found
-    ensures { (result.number ≡ number) × (result.kind ≡ 0) × (result.end ≡ at) }
+// The frame of an event, or what it is refused with.
+fn event_frame(bytes: &[u8]) -> Result<Frame, Refusal>
+    ensures number { number_in result ≡ frame_refusal (reading bytes.now) }
+    ensures frame { IfOk result (λ frame. frame ≡ (reading bytes.now).frame) }
 {
-    Found {
-        number,
-        kind: 0,
-        end: at,
+    let reading = read(bytes);
+    match frame_refusal(reading) {
+        0 => Ok(reading.frame),
+        1 => Err(Refusal::NoFrame),
+        2 => Err(Refusal::WrongGateway),
+        3 => Err(Refusal::PastLastHour),
+        11 => Err(Refusal::WrongLength),
+        _ => Err(Refusal::WrongLamp),
     }
 }
 
@@ -198,76 +225,58 @@ fn form_refusal(reading: Reading) -> u8
 fn is_event(frame: Frame) -> bool
     ensures { result ≡ is_event frame }
 {
-    let sense = frame.sense;
-    let message = frame.message;
-    let kind = message.kind;
-    if sense_number(sense) != 0 {
-        return false;
-    }
-    kind_number(kind) <= 3
+    matches!(frame.sense, Sense::Plain)
+        && !matches!(frame.message.kind, Kind::Start | Kind::Lvt | Kind::Update)
 }
 
 // The whole length of an event of that kind, which is 0 to 3.
 pub fn event_length(kind: u8, stock: StockField) -> usize
     ensures { result ≡ length_of_kind stock kind }
 {
-    let state = state_size(stock);
-    if kind == 3 {
-        return QUANTITY_END + state;
-    }
-    LAMP_END + state
+    let frame = if kind == RESTOCK {
+        QUANTITY_END
+    } else {
+        LAMP_END
+    };
+    frame + state_size(stock)
 }
 
+#[tactic(auto, unfolding(crate::specs::Inside::Finding::good_with_lamp))]
 // Whether the frame of a Failure, Request or Delivery is good.
 fn good_with_lamp(frame: &[u8]) -> bool
     requires { 27 ≤ length frame.now }
     ensures { result ≡ good_with_lamp frame.now }
 {
-    let kind = frame[1];
-    if frame[0] != LAMP_MAP {
-        return false;
-    }
-    if kind > 2 {
-        return false;
-    }
-    if !good_gateways(frame[2], frame[3], kind_of(kind, frame[ORIGIN_PLACE], 0)) {
-        return false;
-    }
-    if read32(frame, HOUR_PLACE) > LATEST_HOUR {
-        return false;
-    }
-    all_between(read_lamp(frame, LAMP_PLACE), 33, 126)
+    frame[0] == LAMP_MAP
+        && frame[1] <= DELIVERY
+        && good_gateways(
+            frame[2],
+            frame[3],
+            kind_of(frame[1], frame[ORIGIN_PLACE], 0),
+        )
+        && read32(frame, HOUR_PLACE) <= LATEST_HOUR
+        && all_between(read_lamp(frame, LAMP_PLACE), 33, 126)
 }
 
+#[tactic(auto, unfolding(crate::specs::Inside::Finding::good_restock))]
 // Whether the frame of a Restock is good.
 fn good_restock(frame: &[u8]) -> bool
     requires { 10 ≤ length frame.now }
     ensures { result ≡ good_restock frame.now }
 {
-    if frame[0] != RESTOCK_MAP {
-        return false;
-    }
-    if frame[1] != 3 {
-        return false;
-    }
-    if !good_gateways(frame[2], frame[3], Kind::Restock { quantity: 0 }) {
-        return false;
-    }
-    read32(frame, HOUR_PLACE) <= LATEST_HOUR
+    frame[0] == RESTOCK_MAP
+        && frame[1] == RESTOCK
+        && good_gateways(frame[2], frame[3], Kind::Restock { quantity: 0 })
+        && read32(frame, HOUR_PLACE) <= LATEST_HOUR
 }
 
+#[tactic(auto, unfolding(crate::specs::Inside::Finding::good_gateways))]
 // Whether the gateways agree and their numbers are below 255.
 fn good_gateways(from: u8, to: u8, kind: Kind) -> bool
     ensures { result ≡ good_gateways from to kind }
 {
-    if from == NO_GATEWAY {
-        return false;
-    }
-    if to == NO_GATEWAY {
-        return false;
-    }
-    if origin_of(kind) == NO_GATEWAY {
-        return false;
-    }
-    gateways_agree(from, to, kind)
+    from != NO_GATEWAY
+        && to != NO_GATEWAY
+        && origin_of(kind) != NO_GATEWAY
+        && gateways_agree(from, to, kind)
 }

@@ -1,13 +1,11 @@
 -- Laws of what a call looks at before its first store, and of entering a queue place.
 use mathlib.Core.Path.{◌≡◌, refl, sym, ◌∙◌, ap}
-use mathlib.Core.Bool.{Bool, true, false, not, ◌&&◌}
+use mathlib.Core.Bool.{Bool, true, false}
 use mathlib.Core.List.{List, [], ◌∷◌, ◌++◌}
 use Prim.Native.Nat.{ℕ, ◌+◌, ◌-◌, ◌*◌, ◌≤◌, ◌<◌}
 use native.Mathlib.Omega.{arith}
-use lib.Dec.{leb}
 use lib.ListN.{length, take, drop, length-append, take-append-drop}
 use lib.Seq.{length-take-le}
-use borrow.Author.Tests.{le-leb, lt-leb, not-true, not-false}
 use Rattle.buffer.specs.Slice.{part, write}
 use Rattle.model.specs.Doing.{reply_to, sent_by}
 use Rattle.model.proofs.Sending.{reply-sends}
@@ -16,7 +14,6 @@ use Rattle.model.specs.declared.Site.{Site}
 use Rattle.std.specs.Prelude.{Option, None, Some}
 use Rattle.std.specs.Option.{is_some}
 use Rattle.std.specs.Int.{from_bool}
-use Rattle.frame.specs.declared.Sense.TheVariants.{Acknowledgment, CancelAcknowledgment}
 use Rattle.memory.specs.Layout.{header_size, queue_at, queue_size}
 use Rattle.memory.specs.Records.{Gateway}
 use Rattle.memory.specs.Codec.{places_at, entry_of, entry_bytes, header_front, header_back, encode}
@@ -25,48 +22,30 @@ use Rattle.memory.specs.declared.Entry.{Entry}
 use Rattle.memory.specs.declared.Header.{Header}
 use Rattle.gateway.specs.Effects.{with_queue}
 use Rattle.gateway.specs.Undoing.{processed_of, sent_back}
-use Rattle.gateway.specs.Taking.{acknowledgment}
 use Rattle.places.proofs.Positions.{more}
 use Rattle.effects.proofs.PlacedLaws.{placed-inside, placed-last, placed-inserted, placed-count}
 use Rattle.rollback.specs.Inside.Entering.{MayEnter}
 use Rattle.rollback.proofs.RollbackLaws.{processed-one, processed-no, back_one, back_more}
 
--- the acknowledgment of a cancel, or of a message
-module _ (m : Message) (cancel : Bool) where
-  pub of-cancel : cancel ≡ true → record { message = m; sense = CancelAcknowledgment } ≡ acknowledgment cancel m
-  of-cancel h = rw h
-
-  pub of-message : cancel ≡ false → record { message = m; sense = Acknowledgment } ≡ acknowledgment cancel m
-  of-message h = rw h
-
--- the three needs, looked at one after the other
-module _ (queued q used u bytes room : ℕ) where
-  pub queue-full : q < queued → false ≡ (leb queued q && leb used u && leb bytes room)
-  queue-full h = rw (lt-leb queued q h)
-
-  pub outstanding-full : queued ≤ q → u < used → false ≡ (leb queued q && leb used u && leb bytes room)
-  outstanding-full h k = rw (le-leb queued q h, lt-leb used u k)
-
-  pub output-decides : queued ≤ q → used ≤ u → leb bytes room ≡ (leb queued q && leb used u && leb bytes room)
-  output-decides h k = rw (le-leb queued q h, le-leb used u k)
-
+-- a message or none, counted
 one-or-none : (reply : Option Message) → (from_bool (is_some reply) ≡ length (sent_by reply)) × (from_bool (is_some reply) ≤ 1)
 one-or-none None = (refl, omega arith)
 one-or-none (Some m) = (refl, omega arith)
 
--- how many messages an entry's event had sent
+pub counted-sent : {messages : List Message} (reply : Option Message) {n : ℕ} → sent_by reply ≡ messages → n ≡ from_bool (is_some reply)
+    → (n ≡ length messages) × (n ≤ 1)
+counted-sent reply e k = rw (← e, k) (one-or-none reply)
+
+-- what an entry's event had sent
 module _ (site : Site) (e : Entry) {processed : Bool} (test : processed ≡ processed_mark e.mark) where
-  pub none-sent-by : not processed ≡ true → (0 ≡ length (sent_back site (processed_of (e ∷ [])))) × (0 ≤ 1)
+  pub none-sent : processed ≡ false → [] ≡ sent_back site (processed_of (e ∷ []))
   unfolding sent_back
-  none-sent-by h = (rw (processed-no e (sym test ∙ not-true processed h)), omega arith)
+  none-sent h = rw (processed-no e (sym test ∙ h))
 
-  module _ (h : not processed ≡ false) {made : Site} (site-is : made ≡ site) {reply : Option Message}
-      (gives : reply ≡ reply_to made e.before e.message) where
-    had : sent_back site (processed_of (e ∷ [])) ≡ sent_by reply
-    had = rw (processed-one e (sym test ∙ not-false processed h)) (back_one e site ∙ rw (← site-is) (sym (reply-sends made e.before e.message gives)))
-
-    pub counted-sent : {n : ℕ} → n ≡ from_bool (is_some reply) → (n ≡ length (sent_back site (processed_of (e ∷ [])))) × (n ≤ 1)
-    counted-sent k = rw (had, k) (one-or-none reply)
+  pub one-sent : processed ≡ true → {made : Site} → made ≡ site → {reply : Option Message} → reply ≡ reply_to made e.before e.message
+      → sent_by reply ≡ sent_back site (processed_of (e ∷ []))
+  one-sent h {made} site-is gives =
+      sym (rw (processed-one e (sym test ∙ h)) (back_one e site ∙ rw (← site-is) (sym (reply-sends made e.before e.message gives))))
 
 -- counting them place by place
 module _ (site : Site) (m : List ℕ) (queued whole : ℕ) where

@@ -1,5 +1,6 @@
 // Whether there is room for all that a call would do, looked at before its first store, and entering a queue place.
 ghost use Rattle.std.specs.Prelude.{◌≡◌, [], ◌∷◌, ◌-◌, ◌≤◌, length};
+ghost use Rattle.model.specs.Doing.{sent_by};
 ghost use Rattle.memory.specs.Layout.{queue_at};
 ghost use Rattle.memory.specs.Records.{site_of};
 ghost use Rattle.gateway.specs.Undoing.{processed_of, sent_back};
@@ -21,15 +22,13 @@ use model::Message;
 pub fn acknowledgment(cancel: bool, message: Message) -> Frame
     ensures { result ≡ acknowledgment cancel message }
 {
-    if cancel {
-        return Frame {
-            message,
-            sense: Sense::CancelAcknowledgment,
-        };
-    }
     Frame {
         message,
-        sense: Sense::Acknowledgment,
+        sense: if cancel {
+            Sense::CancelAcknowledgment
+        } else {
+            Sense::Acknowledgment
+        },
     }
 }
 
@@ -39,14 +38,9 @@ pub fn has_room(header: Header, queued: usize, sent: usize, room: usize) -> bool
     requires { sent ≤ 65535 }
     ensures { result ≡ enough header queued sent room }
 {
-    let settings = header.settings;
-    if (settings.q as usize) < queued {
-        return false;
-    }
-    if (settings.u as usize) < header.outstanding as usize + sent {
-        return false;
-    }
-    SENSE_LENGTH * (sent + 1) <= room
+    queued <= header.settings.q as usize
+        && header.outstanding as usize + sent <= header.settings.u as usize
+        && SENSE_LENGTH * (sent + 1) <= room
 }
 
 // How many messages the processed events from queue place k on had sent.
@@ -55,30 +49,23 @@ pub fn count_sent(memory: &[u8], header: Header, k: usize) -> usize
     ensures { (result ≡ length (sent_back (site_of header.settings) (processed_of (entries_from memory.now k header.queued))))
         × (result ≤ header.queued - k) }
 {
-    let queued = header.queued as usize;
     let mut sent = 0;
-    let mut i = k;
-    while i < queued {
+    for i in k..header.queued as usize {
         let entry = read_entry(memory, HEADER_SIZE + QUEUE_SIZE * i);
-        sent += sent_by(header, entry);
-        i += 1;
+        sent += usize::from(sent_by(header, entry).is_some());
     }
     sent
 }
 
-// How many messages the entry's event had sent, if it is processed: at most one.
-fn sent_by(header: Header, entry: Entry) -> usize
-    ensures { (result ≡ length (sent_back (site_of header.settings) (processed_of (entry ∷ [])))) × (result ≤ 1) }
+// What the entry's event had sent, if it is processed and had sent a message.
+fn sent_by(header: Header, entry: Entry) -> Option<Message>
+    ensures { sent_by result ≡ sent_back (site_of header.settings) (processed_of (entry ∷ [])) }
 {
-    let mark = entry.mark;
-    if !is_processed(mark) {
-        return 0;
+    if is_processed(entry.mark) {
+        reply_to(site_of(header.settings), entry.before, entry.message)
+    } else {
+        None
     }
-    let settings = header.settings;
-    let before = entry.before;
-    let message = entry.message;
-    let reply = reply_to(site_of(settings), before, message);
-    usize::from(reply.is_some())
 }
 
 // Puts an entry into queue place k, and the header last.
@@ -87,7 +74,9 @@ pub fn enter(memory: &mut [u8], header: Header, k: usize, entry: Entry)
     ensures { Enters memory.old memory.new header k entry }
 {
     insert_place(memory, header.queued as usize, k, entry);
-    let mut next = header;
-    next.queued = header.queued + 1;
+    let next = Header {
+        queued: header.queued + 1,
+        ..header
+    };
     write_header(memory, next);
 }

@@ -4,21 +4,19 @@ ghost use Rattle.rollback.specs.Inside.Undone.{CanUndo, Undoes, CanUndoPlace, Un
 
 use decoding::read_entry;
 use doing::reply_to;
-use effects::insert::pending;
+use effects::insert::unprocessed;
 use effects::send::{header_sent, outstanding_at};
 use encoding::{write_entry, write_sent};
 use entries::{is_processed, site_of};
-use memory::{Entry, HEADER_SIZE, Header, QUEUE_SIZE, Sent};
+use memory::{Entry, HEADER_SIZE, Header, Mark, QUEUE_SIZE, Sent};
 
 // Undoes the processed events in the queue places from place k on; gives the header after it.
 pub fn undo(memory: &mut [u8], header: Header, k: usize) -> Header
     requires { CanUndo memory.old header k }
     ensures { Undoes memory.old memory.new header k result }
 {
-    let mut left = header.queued as usize;
     let mut so_far = header;
-    while left > k {
-        left -= 1;
+    for left in (k..header.queued as usize).rev() {
         so_far = undo_place(memory, so_far, left);
     }
     so_far
@@ -31,12 +29,10 @@ fn undo_place(memory: &mut [u8], header: Header, k: usize) -> Header
 {
     let at = HEADER_SIZE + QUEUE_SIZE * k;
     let entry = read_entry(memory, at);
-    let mark = entry.mark;
-    if !is_processed(mark) {
+    if !is_processed(entry.mark) {
         return header;
     }
-    let message = entry.message;
-    write_entry(memory, at, pending(message));
+    write_entry(memory, at, unprocessed(entry.message, Mark::Pending));
     undo_entry(memory, header, entry)
 }
 
@@ -45,16 +41,14 @@ pub fn undo_entry(memory: &mut [u8], header: Header, entry: Entry) -> Header
     requires { CanUndoEntry memory.old header entry }
     ensures { UndoesEntry memory.old memory.new header entry result }
 {
-    let mark = entry.mark;
-    if !is_processed(mark) {
+    if !is_processed(entry.mark) {
         return header;
     }
-    let settings = header.settings;
-    let before = entry.before;
-    let message = entry.message;
-    let reply = reply_to(site_of(settings), before, message);
-    let mut next = header;
-    next.state = before;
+    let reply = reply_to(site_of(header.settings), entry.before, entry.message);
+    let next = Header {
+        state: entry.before,
+        ..header
+    };
     let Some(sent) = reply else {
         return next;
     };

@@ -5,9 +5,8 @@ use Rattle.model.specs.declared.Kind.TheVariants.{Failure}
 use Rattle.model.specs.declared.Message.{Message}
 use Rattle.frame.specs.Reasons.{reading}
 use Rattle.records.specs.Events.{events_of}
-use Rattle.records.specs.Balancing.{Balances, balanced}
+use Rattle.records.specs.Balancing.{BalanceAnswer, Balances, balanced}
 use Rattle.records.specs.declared.StockField.TheVariants.{Present}
-use Rattle.records.specs.declared.balance.BalanceAnswer.{BalanceAnswer}
 use Rattle.run.specs.ExampleRun.{world_at_end, example_memory, two_set_ups, request, two_calls}
 use Rattle.run.specs.OrderExamples.{message_at, restock_at, same_hour_set_up, same_hour_memory, failures_request, same_hour_calls, same_hour_record}
 use Rattle.run.specs.History.{single_history, events_at, writing}

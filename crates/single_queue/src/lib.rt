@@ -45,14 +45,11 @@ pub fn run(alloc: Global, list: &[u8]) -> Result<[Vec<u8>; 2], AllocError> {
 fn shelf_with(alloc: Global, stock: u32) -> Shelf
     ensures { result.state.stock ≡ stock }
 {
-    let state = State {
-        stock,
-        failed: 0,
-        fitted: 0,
-        short: 0,
-    };
     Shelf {
-        state,
+        state: State {
+            stock,
+            ..State::default()
+        },
         events: Vec::new(alloc),
     }
 }

@@ -13,11 +13,11 @@ ghost use Rattle.rollback.specs.Inside.Undone.{CanTakeOut, TakesOut};
 
 use buffer::{move_within, write16};
 use decoding::read_entry;
-use effects::insert::{insert_place, waiting};
+use effects::insert::{insert_place, unprocessed};
 use effects::send::{outstanding_at, put_frames};
 use gateway::{Answer, refused};
 use header::write_header;
-use memory::{HEADER_SIZE, Header, QUEUE_SIZE, QUEUED_AT};
+use memory::{HEADER_SIZE, Header, Mark, QUEUE_SIZE, QUEUED_AT};
 use model::Message;
 use places::search::{last_equal, place_for};
 use rollback::room::{acknowledgment, count_sent, has_room};
@@ -48,7 +48,7 @@ fn enter_cancel(memory: &mut [u8], output: &mut [u8], header: Header, message: M
         return refused(5);
     }
     let written = put_frame(output, 0, acknowledgment(true, message));
-    insert_place(memory, queued, k, waiting(message));
+    insert_place(memory, queued, k, unprocessed(message, Mark::Waiting));
     write16(memory, QUEUED_AT, header.queued + 1);
     Answer { number: 0, written }
 }

@@ -10,11 +10,11 @@ ghost use Rattle.gateway.specs.Taking.{entered, vanished, take_plain};
 ghost use Rattle.gateway.specs.Calls.{unless_below};
 ghost use Rattle.gateway.specs.Inside.Premises.{Known, Leaves};
 
-use effects::insert::pending;
+use effects::insert::unprocessed;
 use effects::send::{outstanding_at, put_frames};
 use frame::lamps::SENSE_LENGTH;
 use gateway::{Answer, refused};
-use memory::Header;
+use memory::{Header, Mark};
 use model::Message;
 use places::changes::remove_entry;
 use places::search::{cancel_of, place_for};
@@ -68,7 +68,7 @@ fn enter_plain(memory: &mut [u8], output: &mut [u8], header: Header, message: Me
     let next = undo(memory, header, k);
     let reply = acknowledgment(false, message);
     let end = put_frames(memory, output, reply, outstanding_at(header), sent);
-    enter(memory, next, k, pending(message));
+    enter(memory, next, k, unprocessed(message, Mark::Pending));
     Answer {
         number: 0,
         written: end,

@@ -13,7 +13,7 @@ pub fn take_turns(alloc: Global, gateways: &mut [Gateway; 2]) -> Result<(), Allo
     for _ in 0..1000 {
         exchange(alloc, gateways, &mut line)?;
         commit_both(gateways)?;
-        if line.is_empty() && gateways.iter().all(|gateway| nothing_due(gateway)) {
+        if line.is_empty() && gateways.iter().all(nothing_due) {
             break;
         }
     }

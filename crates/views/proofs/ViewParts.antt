@@ -11,7 +11,7 @@ use borrow.Author.Tests.{eq-eqb, ne_eqb}
 use Rattle.lists.specs.Lists.{joined}
 use Rattle.buffer.specs.Slice.{Bytes, part, write, Puts}
 use Rattle.buffer.specs.Number.{bytes_of, number_from, number_of}
-use Rattle.buffer.proofs.Copies.{copy-length, copy_more}
+use Rattle.buffer.proofs.Copies.{copy-length}
 use Rattle.buffer.proofs.Lent.{bytes-part}
 use Rattle.buffer.proofs.Putting.{puts-more, puts-length}
 use Rattle.frame.proofs.Output.{puts-as}

@@ -1,5 +1,7 @@
 -- The call: one reader's view of a whole record.
-use Rattle.std.specs.Prelude.{ℕ, ◌^◌, Bool, cond, ◌&&◌, List, leb, ltb, eqb, length}
+use Rattle.std.specs.Prelude.{ℕ, ◌^◌, Bool, cond, ◌&&◌, Result, Ok, Err, List, leb, ltb, eqb, length}
+use Rattle.refusal.specs.Numbers.{refusal_number}
+use Rattle.refusal.specs.declared.Refusal.{Refusal}
 use Rattle.buffer.specs.Slice.{write}
 use Rattle.records.specs.Events.{record_refusal}
 use Rattle.records.specs.declared.StockField.{StockField}
@@ -7,7 +9,6 @@ use Rattle.records.specs.declared.StockField.TheVariants.{Present, Old}
 use Rattle.views.specs.Bytes.{view}
 use Rattle.views.specs.declared.Reader.{Reader}
 use Rattle.views.specs.declared.Reader.TheVariants.{Purchasing, Maintenance}
-use Rattle.views.specs.declared.ViewAnswer.{ViewAnswer}
 
 -- the readers' numbers: 0 purchasing, 1 maintenance
 abbrev pub reader_of : ℕ → Reader
@@ -20,6 +21,15 @@ stock_field_of number = cond (eqb number 0) Present Old
 -- one of these numbers each, and a record of fewer than 2^48 bytes; else 8
 abbrev pub askable : (reader old_stock : ℕ) → List ℕ → Bool
 askable reader old_stock bytes = ltb reader 2 && (ltb old_stock 2 && ltb (length bytes) (2 ^ 48))
+
+-- what the call answers: 0 and the bytes written, or what it is refused with
+pub record ViewAnswer : Type 0 where
+  pub number : ℕ
+  pub written : ℕ
+
+abbrev pub answer_in : Result ℕ Refusal → ViewAnswer
+answer_in (Ok written) = record { number = 0; written = written }
+answer_in (Err why) = record { number = refusal_number why; written = 0 }
 
 -- what the call leaves: its answer and the output
 pub record ViewResult : Type 0 where

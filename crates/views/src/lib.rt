@@ -6,18 +6,20 @@ ghost use Rattle.std.specs.Prelude.{◌≡◌, ◌+◌, ◌≤◌, ◌∷◌, le
 ghost use Rattle.buffer.specs.Slice.{part, write, Puts};
 ghost use Rattle.memory.specs.Layout.{state_size};
 ghost use Rattle.records.specs.Events.{state_size_of, record_refusal, event_refusal, event_of};
+ghost use Rattle.records.specs.Inside.Finding.{numbered};
 ghost use Rattle.views.specs.Bytes as Bytes;
 ghost use Rattle.views.specs.Bytes.{event_view};
-ghost use Rattle.views.specs.Viewing as Viewing;
-ghost use Rattle.views.specs.Viewing.{view_for, viewed};
+ghost use Rattle.views.specs.Viewing.{view_for, viewed, answer_in};
 ghost use Rattle.views.specs.declared.Reader.TheVariants.{Purchasing, Maintenance};
-ghost use Rattle.views.specs.Inside.Parts.{length_for, measured_as, head_of, front_of, state_from, widened};
+ghost use Rattle.views.specs.Inside.Parts.{lengths_for, head_of, front_of, state_from, widened};
 
 use buffer::copy;
 use frame::lamps::{LAMP_END, LAMP_PLACE};
 use frame::tables::{HOUR_PLACE, ORIGIN_PLACE, QUANTITY_END, QUANTITY_PLACE};
 use memory::STATE_SIZE;
-use records::{RECORD_LIMIT, StockField, event_length, pass_over};
+use records::events::Events;
+use records::{RECORD_LIMIT, RESTOCK, StockField, Weights, pass_over};
+use refusal::Refusal;
 
 // Who reads a record.
 #[derive(Clone, Copy)]
@@ -26,18 +28,19 @@ pub enum Reader {
     Maintenance,
 }
 
-// What a view's call answers: 0 and the bytes written, or what it is refused with.
-#[derive(Clone, Copy)]
-pub struct ViewAnswer {
-    pub number: u8,
-    pub written: usize,
-}
+// 0 for purchasing, 1 for maintenance.
+impl TryFrom<u32> for Reader {
+    type Error = Refusal;
 
-// What the pass over a record finds: the first refusal, or 0, and the bytes of the view up to it or in all.
-#[derive(Clone, Copy)]
-pub struct Measured {
-    pub number: u8,
-    pub length: usize,
+    ghost try_from_gives = { λ number r. r ≡ numbered Purchasing Maintenance number };
+
+    fn try_from(number: u32) -> Result<Reader, Refusal> {
+        match number {
+            0 => Ok(Reader::Purchasing),
+            1 => Ok(Reader::Maintenance),
+            _ => Err(Refusal::OutOfRange),
+        }
+    }
 }
 
 // What putting a view's front gives: the position behind it, and where the state stands in the event.
@@ -61,93 +64,58 @@ const PURCHASING_LENGTH: usize = 6 + STATE_SIZE;
 
 const PURCHASING_RESTOCK_LENGTH: usize = 8 + STATE_SIZE;
 
+// The bytes of maintenance's view: map, hour and kind, and of an event with a lamp the lamp and the origin.
+const MAINTENANCE_LENGTH: usize = 25;
+
+const MAINTENANCE_RESTOCK_LENGTH: usize = 6;
+
 // Where the state stands in an event of the record, behind the frame: of a Failure, Request or Delivery, and of a Restock.
 const LAMP_STATE: usize = LAMP_END;
 
 const RESTOCK_STATE: usize = QUANTITY_END;
 
-// The view of a record for a reader, by its number; old_stock is 1 for a record with the old stock, else 0.
-pub fn view(bytes: &[u8], output: &mut [u8], reader: u32, old_stock: u32) -> ViewAnswer
-    ensures { record { answer = result; output = output.new } ≡ viewed reader old_stock bytes.now output.old }
+// The view of a record for a reader, by its number; old_stock is 1 for a record with the old stock, else 0. Gives the bytes written.
+pub fn view(bytes: &[u8], output: &mut [u8], reader: u32, old_stock: u32) -> Result<usize, Refusal>
+    ensures { record { answer = answer_in result; output = output.new } ≡ viewed reader old_stock bytes.now output.old }
 {
-    if reader >= 2 {
-        return refused(8);
-    }
-    if old_stock >= 2 {
-        return refused(8);
-    }
+    let reader = Reader::try_from(reader)?;
+    let stock = StockField::try_from(old_stock)?;
     if bytes.len() >= RECORD_LIMIT {
-        return refused(8);
+        return Err(Refusal::OutOfRange);
     }
-    view_for(bytes, output, reader_of(reader), stock_of(old_stock))
+    view_for(bytes, output, reader, stock)
 }
 
-fn reader_of(number: u32) -> Reader
-    ensures { result ≡ Viewing.reader_of number }
+// The refusals of the record come first, event by event, and no room last.
+fn view_for(
+    bytes: &[u8],
+    output: &mut [u8],
+    reader: Reader,
+    stock: StockField,
+) -> Result<usize, Refusal>
+    ensures { record { answer = answer_in result; output = output.new } ≡ view_for reader stock bytes.now output.old }
 {
-    if number == 0 {
-        return Reader::Purchasing;
-    }
-    Reader::Maintenance
-}
-
-fn stock_of(number: u32) -> StockField
-    ensures { result ≡ Viewing.stock_field_of number }
-{
-    if number == 0 {
-        return StockField::Present;
-    }
-    StockField::Old
-}
-
-fn refused(number: u8) -> ViewAnswer
-    ensures { result ≡ record { number = number; written = 0 } }
-{
-    ViewAnswer { number, written: 0 }
-}
-
-// The refusals of the record come first, event by event, and 5 last.
-fn view_for(bytes: &[u8], output: &mut [u8], reader: Reader, stock: StockField) -> ViewAnswer
-    ensures { record { answer = result; output = output.new } ≡ view_for reader stock bytes.now output.old }
-{
-    let measured = measure(bytes, reader, stock);
-    if measured.number != 0 {
-        return refused(measured.number);
-    }
-    if output.len() < measured.length {
-        return refused(5);
+    let length = pass_over(bytes, stock, lengths_for(reader))?;
+    if output.len() < length {
+        return Err(Refusal::NoRoom);
     }
     write_view(bytes, output, reader, stock);
-    ViewAnswer {
-        number: 0,
-        written: measured.length,
-    }
+    Ok(length)
 }
 
-// One pass over the record: its first refusal, and the length of the view.
-fn measure(bytes: &[u8], reader: Reader, stock: StockField) -> Measured
-    ensures { result ≡ measured_as reader stock bytes.now }
-{
-    let passed = pass_over(bytes, stock, length_for(reader, 0), length_for(reader, 3));
-    Measured {
-        number: passed.number,
-        length: passed.weight,
-    }
-}
-
-// The bytes that a view has of an event of that kind.
-fn length_for(reader: Reader, kind: u8) -> usize
-    ensures { result ≡ length_for reader kind }
+// The bytes that a view has of an event.
+fn lengths_for(reader: Reader) -> Weights
+    ensures { result ≡ lengths_for reader }
 {
     match reader {
-        Reader::Purchasing => {
-            if kind == 3 {
-                PURCHASING_RESTOCK_LENGTH
-            } else {
-                PURCHASING_LENGTH
-            }
-        }
-        Reader::Maintenance => { if kind == 3 { 6 } else { 25 } }
+        Reader::Purchasing => Weights {
+            lamp: PURCHASING_LENGTH,
+            restock: PURCHASING_RESTOCK_LENGTH,
+        },
+        Reader::Maintenance => Weights {
+            lamp: MAINTENANCE_LENGTH,
+            restock: MAINTENANCE_RESTOCK_LENGTH,
+        },
     }
 }
 
@@ -156,12 +124,10 @@ fn write_view(bytes: &[u8], output: &mut [u8], reader: Reader, stock: StockField
     requires { (record_refusal stock bytes.now ≡ 0) × (length (Bytes.view reader stock bytes.now) ≤ length output.old) }
     ensures { output.new ≡ write 0 (Bytes.view reader stock bytes.now) output.old }
 {
-    let mut at = 0;
     let mut position = 0;
-    while at < bytes.len() {
-        let end = at + event_length(bytes[at + 1], stock);
-        position = put_event(output, position, &bytes[at..end], reader, stock);
-        at = end;
+    let events = Events { rest: bytes, stock };
+    for event in events {
+        position = put_event(output, position, event, reader, stock);
     }
 }
 
@@ -191,7 +157,7 @@ fn put_front(output: &mut [u8], at: usize, event: &[u8], stock: StockField) -> F
     requires { (event_refusal stock event.now ≡ 0) × (at + length (front_of event.now) ≤ length output.old) }
     ensures { Puts at (front_of event.now) output.old output.new result.position × (result.state ≡ state_from event.now) }
 {
-    if event[1] == 3 {
+    if event[1] == RESTOCK {
         put_head(output, at, PURCHASING_RESTOCK_MAP, event);
         copy(output, at + 6, &event[QUANTITY_PLACE..QUANTITY_END]);
         return Front {
@@ -211,7 +177,7 @@ fn put_for_maintenance(output: &mut [u8], at: usize, event: &[u8], stock: StockF
     requires { (event_refusal stock event.now ≡ 0) × (at + length (event_view Maintenance (event_of stock event.now)) ≤ length output.old) }
     ensures { Puts at (event_view Maintenance (event_of stock event.now)) output.old output.new result }
 {
-    if event[1] == 3 {
+    if event[1] == RESTOCK {
         put_head(output, at, MAINTENANCE_RESTOCK_MAP, event);
         return at + 6;
     }

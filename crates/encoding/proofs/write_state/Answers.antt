@@ -1,6 +1,6 @@
 -- `encoding::write_state` meets its contract.
-use Rattle.memory.proofs.Stored.{state-stored}
+use Rattle.memory.proofs.Stored.{state-row}
 use Rattle.encoding.proofs.write_state.Goals as goal
 
 pub returns : goal.returns
-returns c = search state-stored
+returns c = cc (state-row c.args.state)

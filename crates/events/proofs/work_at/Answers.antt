@@ -28,8 +28,8 @@ pub write_entry-requires : goal.write_entry-requires
 write_entry-requires c =
     let ready = c.requires.0 in let below = c.requires.1 in omega (arith, ready.long, ready.queued)
 
-pub state_after-next-requires : goal.state_after-next-requires
-state_after-next-requires c =
+pub state_after-requires : goal.state_after-requires
+state_after-requires c =
     rw c.read_entry-entry.ensures c.requires.2
 
 pub send_reply-last-requires : goal.send_reply-last-requires
@@ -47,6 +47,6 @@ pub returns : goal.returns
 returns c =
     λ before g reached first.
     event-done reached c.requires.1 first c.read_entry-entry.ensures c.site_of.ensures
-    c.reply_to-reply.result c.reply_to-reply.ensures c.state_after-next.ensures
+    c.reply_to-reply.result c.reply_to-reply.ensures c.state_after.ensures
     c.args.room c.has_room.ensures (ap not c.if-not-has_room.false) c.write_entry.ensures
     c.send_reply-last.ensures c.reply_bytes-bytes.ensures

@@ -1,16 +1,13 @@
 -- `exactness::entry_exact` meets its contract.
-use Rattle.buffer.specs.Slice.{Bytes}
-use Rattle.exactness.proofs.ByFields.{mark-refused, entry-message-refused, entry-decided}
+use Rattle.std.proofs.Common.{rules}
+use Rattle.buffer.proofs.Lent.{bytes-known}
+use Rattle.exactness.proofs.ByFields.{entry-whole}
 use Rattle.exactness.proofs.entry_exact.Goals as goal
 
-pub returns-then-place-gt2 : goal.returns-then-place-gt2
-returns-then-place-gt2 c =
-    let bytes : Bytes c.args.place.now = λ i. (c.type_inv.place i).fits in search mark-refused
+pub returns-then-message_exact : goal.returns-then-message_exact
+returns-then-message_exact c =
+    let whole = entry-whole c.args.place.now (bytes-known c.args.place.now c.type_inv.place) c.requires.0 c.requires.1 in search rules
 
-pub returns-then-not-message_exact : goal.returns-then-not-message_exact
-returns-then-not-message_exact c =
-    let bytes : Bytes c.args.place.now = λ i. (c.type_inv.place i).fits in search entry-message-refused
-
-pub returns : goal.returns
-returns c =
-    let bytes : Bytes c.args.place.now = λ i. (c.type_inv.place i).fits in search entry-decided
+pub returns-else-message_exact : goal.returns-else-message_exact
+returns-else-message_exact c =
+    let whole = entry-whole c.args.place.now (bytes-known c.args.place.now c.type_inv.place) c.requires.0 c.requires.1 in search rules

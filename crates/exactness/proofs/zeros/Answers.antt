@@ -1,24 +1,18 @@
 -- `exactness::zeros` meets its contract.
-use Rattle.buffer.specs.Slice.{Bytes}
-use Rattle.exactness.proofs.ByFields.{zeros-first, zeros-second, zeros-third, zeros-fourth, zeros-decided}
+use mathlib.Core.Path.{◌∙◌, ap}
+use mathlib.Core.List.{List}
+use Prim.Native.Nat.{ℕ}
+use native.Mathlib.Omega.{arith}
+use lib.ListN.{drop, replicate, length-drop}
+use lib.Seq.{take_all}
+use Rattle.memory.specs.Layout.{zeros_at, zeros_size}
+use Rattle.buffer.specs.Slice.{part, same_bytes}
+use Rattle.exactness.proofs.SameBytes.{pointwise-same}
 use Rattle.exactness.proofs.zeros.Goals as goal
 
-pub returns-then-read16-ne0 : goal.returns-then-read16-ne0
-returns-then-read16-ne0 c =
-    let bytes : Bytes c.args.place.now = λ i. (c.type_inv.place i).fits in search zeros-first
-
-pub returns-then-read32-ne0 : goal.returns-then-read32-ne0
-returns-then-read32-ne0 c =
-    let bytes : Bytes c.args.place.now = λ i. (c.type_inv.place i).fits in search zeros-second
-
-pub returns-then-read32-ne0-2 : goal.returns-then-read32-ne0-2
-returns-then-read32-ne0-2 c =
-    let bytes : Bytes c.args.place.now = λ i. (c.type_inv.place i).fits in search zeros-third
-
-pub returns-then-read32-ne0-3 : goal.returns-then-read32-ne0-3
-returns-then-read32-ne0-3 c =
-    let bytes : Bytes c.args.place.now = λ i. (c.type_inv.place i).fits in search zeros-fourth
-
 pub returns : goal.returns
+unfolding part
 returns c =
-    let bytes : Bytes c.args.place.now = λ i. (c.type_inv.place i).fits in search zeros-decided
+    let zeros : List ℕ = replicate zeros_size 0 in
+    let last = take_all zeros_size (drop zeros_at c.args.place.now) (rw length-drop (omega arith)) in
+    c.eq.ensures ∙ (pointwise-same c.array_at.result zeros ∙ ap (same_bytes zeros) (c.array_at.ensures ∙ last))

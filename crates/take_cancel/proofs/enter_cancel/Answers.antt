@@ -29,14 +29,14 @@ pub insert_place-requires : goal.insert_place-requires
 insert_place-requires c =
     let b : Bytes c.args.memory.now = search bytes-known in
     let w = may-wait c.args.memory.now c.args.output.now _ c.requires.0 b _ c.requires.1 c.requires.2 _ c.place_for-k.ensures
-    c.has_room.ensures (ap not c.if-not-has_room.false) c.waiting.ensures in
+    c.has_room.ensures (ap not c.if-not-has_room.false) c.unprocessed.ensures in
     let r = roomy w in (r.place, r.long)
 
 pub overflow_add-header : goal.overflow_add-header
 overflow_add-header c =
     let b : Bytes c.args.memory.now = search bytes-known in
     let w = may-wait c.args.memory.now c.args.output.now _ c.requires.0 b _ c.requires.1 c.requires.2 _ c.place_for-k.ensures
-    c.has_room.ensures (ap not c.if-not-has_room.false) c.waiting.ensures in
+    c.has_room.ensures (ap not c.if-not-has_room.false) c.unprocessed.ensures in
     let r = roomy w in record { fits = omega (arith, r.counted) }
 
 pub write16-requires : goal.write16-requires
@@ -47,8 +47,8 @@ pub returns : goal.returns
 returns c =
     let b : Bytes c.args.memory.now = search bytes-known in
     let w = may-wait c.args.memory.now c.args.output.now _ c.requires.0 b _ c.requires.1 c.requires.2 _ c.place_for-k.ensures
-    c.has_room.ensures (ap not c.if-not-has_room.false) c.waiting.ensures in
+    c.has_room.ensures (ap not c.if-not-has_room.false) c.unprocessed.ensures in
     waits-done c.args.memory.now c.args.output.now _ c.requires.0 b _ c.requires.1 c.requires.2 _ c.place_for-k.ensures
-    c.has_room.ensures (ap not c.if-not-has_room.false) c.acknowledgment.ensures c.waiting.ensures
+    c.has_room.ensures (ap not c.if-not-has_room.false) c.acknowledgment.ensures c.unprocessed.ensures
     c.put_frame-written.ensures
     (entered-alone c.args.memory.now _ b c.requires.0 w c.insert_place.ensures c.write16.ensures)

@@ -57,7 +57,7 @@ enter-requires c =
       _,
       may-enter c.args.memory.now c.args.output.now _ c.requires.0 b _ c.requires.1 c.requires.2 _ c.place_for-k.ensures _
           c.count_sent-sent.ensures.0 c.has_room.ensures (ap not c.if-not-has_room.false)
-          (c.undo-next.ensures _ _ low may) c.pending.ensures,
+          (c.undo-next.ensures _ _ low may) c.unprocessed.ensures,
     )
 
 pub returns : goal.returns
@@ -70,8 +70,8 @@ returns c =
     let u = c.undo-next.ensures _ _ low may in
     let there = may-enter c.args.memory.now c.args.output.now _ c.requires.0 b _ c.requires.1 c.requires.2 _ c.place_for-k.ensures _
     c.count_sent-sent.ensures.0 c.has_room.ensures (ap not c.if-not-has_room.false)
-    u c.pending.ensures in
+    u c.unprocessed.ensures in
     entered-done c.args.memory.now c.args.output.now _ c.requires.0 b _ c.requires.1 c.requires.2 _ c.place_for-k.ensures _
     c.count_sent-sent.ensures.0 c.has_room.ensures (ap not c.if-not-has_room.false)
     u c.acknowledgment-reply.ensures c.outstanding_at.ensures c.put_frames-end.ensures
-    c.pending.ensures (c.enter.ensures _ _ there)
+    c.unprocessed.ensures (c.enter.ensures _ _ there)

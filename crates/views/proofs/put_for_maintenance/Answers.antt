@@ -3,10 +3,8 @@ use native.Mathlib.Omega.{arith}
 use Rattle.buffer.proofs.Lent.{bytes-known}
 use Rattle.buffer.specs.Slice.{part}
 use Rattle.records.proofs.EventParts.{kind-inside}
-use Rattle.records.specs.Events.{event_of}
-use Rattle.views.specs.Bytes.{event_view}
-use Rattle.views.specs.declared.Reader.TheVariants.{Maintenance}
-use Rattle.views.proofs.ViewParts.{restock-long, maintenance-restock, lamp-long, maintenance-lamp, front-room, front-put, lamp-room, lamp-fits, lamp-length, lamp-put}
+use Rattle.views.proofs.ViewParts.{restock-long, maintenance-restock, lamp-long, maintenance-lamp}
+use Rattle.views.proofs.ViewParts.{front-room, front-put, lamp-room, lamp-fits, lamp-length, lamp-put}
 use Rattle.buffer.proofs.Writes.{length_part}
 use borrow.Author.Rules.{rules}
 use Rattle.views.proofs.put_for_maintenance.Goals as goal
@@ -22,33 +20,36 @@ pub put_head-requires : goal.put_head-requires
 put_head-requires c =
     let s = c.args.event.now in
     let b = bytes-known s c.type_inv.event in
-    let k = c.if-event-eq3.true in
+    let k = c.if-event-eq-RESTOCK.true in
     let long = restock-long c.args.stock s b c.requires.0 k in
-    let room = front-room c.args.at 3 c.args.output.now s (event_view Maintenance (event_of c.args.stock s)) (maintenance-restock c.args.stock s b c.requires.0 k) (omega arith) c.requires.1 in
+    let is = maintenance-restock c.args.stock s b c.requires.0 k in
+    let room = front-room c.args.at 3 c.args.output.now s _ is (omega arith) c.requires.1 in
     (omega arith, omega arith)
 
-pub returns-then-event-eq3 : goal.returns-then-event-eq3
-returns-then-event-eq3 c =
+pub returns-then-event-eq-RESTOCK : goal.returns-then-event-eq-RESTOCK
+returns-then-event-eq-RESTOCK c =
     let s = c.args.event.now in
     let b = bytes-known s c.type_inv.event in
-    let k = c.if-event-eq3.true in
+    let k = c.if-event-eq-RESTOCK.true in
     let long = restock-long c.args.stock s b c.requires.0 k in
-    front-put c.args.at 3 c.args.output.now s (event_view Maintenance (event_of c.args.stock s)) (maintenance-restock c.args.stock s b c.requires.0 k) (omega arith) c.put_head.ensures
+    let is = maintenance-restock c.args.stock s b c.requires.0 k in
+    front-put c.args.at 3 c.args.output.now s _ is (omega arith) c.put_head.ensures
 
 pub put_head-requires-2 : goal.put_head-requires-2
 put_head-requires-2 c =
     let s = c.args.event.now in
     let b = bytes-known s c.type_inv.event in
-    let k = c.if-event-eq3.false in
+    let k = c.if-event-eq-RESTOCK.false in
     let long = lamp-long c.args.stock s b c.requires.0 k in
-    let room = lamp-room c.args.at c.args.output.now s (event_view Maintenance (event_of c.args.stock s)) (maintenance-lamp c.args.stock s b c.requires.0 k) long c.requires.1 in
+    let is = maintenance-lamp c.args.stock s b c.requires.0 k in
+    let room = lamp-room c.args.at c.args.output.now s _ is long c.requires.1 in
     (omega arith, omega arith)
 
 pub slice_bounds-copy-end : goal.slice_bounds-copy-end
 slice_bounds-copy-end c =
     let s = c.args.event.now in
     let b = bytes-known s c.type_inv.event in
-    let long = lamp-long c.args.stock s b c.requires.0 c.if-event-eq3.false in
+    let long = lamp-long c.args.stock s b c.requires.0 c.if-event-eq-RESTOCK.false in
     omega arith
 
 pub copy-requires : goal.copy-requires
@@ -56,16 +57,17 @@ unfolding part
 copy-requires c =
     let s = c.args.event.now in
     let b = bytes-known s c.type_inv.event in
-    let k = c.if-event-eq3.false in
+    let k = c.if-event-eq-RESTOCK.false in
     let long = lamp-long c.args.stock s b c.requires.0 k in
-    let fits = lamp-fits c.args.at c.args.output.now s (event_view Maintenance (event_of c.args.stock s)) (maintenance-lamp c.args.stock s b c.requires.0 k) long c.requires.1 c.put_head-2.ensures in
+    let is = maintenance-lamp c.args.stock s b c.requires.0 k in
+    let fits = lamp-fits c.args.at c.args.output.now s _ is long c.requires.1 c.put_head-2.ensures in
     omega (arith, length_part s 9 18 (omega arith))
 
 pub bounds-event-8 : goal.bounds-event-8
 bounds-event-8 c =
     let s = c.args.event.now in
     let b = bytes-known s c.type_inv.event in
-    let k = c.if-event-eq3.false in
+    let k = c.if-event-eq-RESTOCK.false in
     let long = lamp-long c.args.stock s b c.requires.0 k in
     search rules
 
@@ -74,10 +76,11 @@ unfolding part
 bounds-output-at c =
     let s = c.args.event.now in
     let b = bytes-known s c.type_inv.event in
-    let k = c.if-event-eq3.false in
+    let k = c.if-event-eq-RESTOCK.false in
     let long = lamp-long c.args.stock s b c.requires.0 k in
-    let room = lamp-room c.args.at c.args.output.now s (event_view Maintenance (event_of c.args.stock s)) (maintenance-lamp c.args.stock s b c.requires.0 k) long c.requires.1 in
-    let same = lamp-length c.args.at c.args.output.now s (event_view Maintenance (event_of c.args.stock s)) (maintenance-lamp c.args.stock s b c.requires.0 k) long c.requires.1 c.put_head-2.ensures c.copy.ensures in
+    let is = maintenance-lamp c.args.stock s b c.requires.0 k in
+    let room = lamp-room c.args.at c.args.output.now s _ is long c.requires.1 in
+    let same = lamp-length c.args.at c.args.output.now s _ is long c.requires.1 c.put_head-2.ensures c.copy.ensures in
     search rules
 
 pub shape_of-output : goal.shape_of-output
@@ -85,9 +88,10 @@ unfolding part
 shape_of-output c =
     let s = c.args.event.now in
     let b = bytes-known s c.type_inv.event in
-    let k = c.if-event-eq3.false in
+    let k = c.if-event-eq-RESTOCK.false in
     let long = lamp-long c.args.stock s b c.requires.0 k in
-    let same = lamp-length c.args.at c.args.output.now s (event_view Maintenance (event_of c.args.stock s)) (maintenance-lamp c.args.stock s b c.requires.0 k) long c.requires.1 c.put_head-2.ensures c.copy.ensures in
+    let is = maintenance-lamp c.args.stock s b c.requires.0 k in
+    let same = lamp-length c.args.at c.args.output.now s _ is long c.requires.1 c.put_head-2.ensures c.copy.ensures in
     search (same, rules)
 
 pub returns : goal.returns
@@ -95,6 +99,7 @@ unfolding part
 returns c =
     let s = c.args.event.now in
     let b = bytes-known s c.type_inv.event in
-    let k = c.if-event-eq3.false in
+    let k = c.if-event-eq-RESTOCK.false in
     let long = lamp-long c.args.stock s b c.requires.0 k in
-    lamp-put c.args.at c.args.output.now s (event_view Maintenance (event_of c.args.stock s)) (maintenance-lamp c.args.stock s b c.requires.0 k) long c.requires.1 c.put_head-2.ensures c.copy.ensures
+    let is = maintenance-lamp c.args.stock s b c.requires.0 k in
+    lamp-put c.args.at c.args.output.now s _ is long c.requires.1 c.put_head-2.ensures c.copy.ensures

@@ -19,7 +19,7 @@ pub put_head-requires : goal.put_head-requires
 put_head-requires c =
     let s = c.args.event.now in
     let b = bytes-known s c.type_inv.event in
-    let k = c.if-event-eq3.true in
+    let k = c.if-event-eq-RESTOCK.true in
     let long = restock-long c.args.stock s b c.requires.0 k in
     let room = restock-room c.args.at c.args.output.now s c.requires.1 k long in
     (omega arith, omega arith)
@@ -28,7 +28,7 @@ pub slice_bounds-copy-end : goal.slice_bounds-copy-end
 slice_bounds-copy-end c =
     let s = c.args.event.now in
     let b = bytes-known s c.type_inv.event in
-    let long = restock-long c.args.stock s b c.requires.0 c.if-event-eq3.true in
+    let long = restock-long c.args.stock s b c.requires.0 c.if-event-eq-RESTOCK.true in
     omega arith
 
 pub copy-requires : goal.copy-requires
@@ -36,17 +36,17 @@ unfolding part
 copy-requires c =
     let s = c.args.event.now in
     let b = bytes-known s c.type_inv.event in
-    let k = c.if-event-eq3.true in
+    let k = c.if-event-eq-RESTOCK.true in
     let long = restock-long c.args.stock s b c.requires.0 k in
     let fits = quantity-fits c.args.at c.args.output.now s c.requires.1 k long c.put_head.ensures in
     omega (arith, length_part s 8 2 (omega arith))
 
-pub returns-then-event-eq3 : goal.returns-then-event-eq3
+pub returns-then-event-eq-RESTOCK : goal.returns-then-event-eq-RESTOCK
 unfolding part
-returns-then-event-eq3 c =
+returns-then-event-eq-RESTOCK c =
     let s = c.args.event.now in
     let b = bytes-known s c.type_inv.event in
-    let k = c.if-event-eq3.true in
+    let k = c.if-event-eq-RESTOCK.true in
     let long = restock-long c.args.stock s b c.requires.0 k in
     restock-front c.args.at c.args.output.now s c.requires.1 k long c.put_head.ensures c.copy.ensures
 
@@ -54,7 +54,7 @@ pub put_head-requires-2 : goal.put_head-requires-2
 put_head-requires-2 c =
     let s = c.args.event.now in
     let b = bytes-known s c.type_inv.event in
-    let k = c.if-event-eq3.false in
+    let k = c.if-event-eq-RESTOCK.false in
     let long = lamp-long c.args.stock s b c.requires.0 k in
     let room = head-room c.args.at c.args.output.now s c.requires.1 k long in
     (omega arith, omega arith)
@@ -63,6 +63,6 @@ pub returns : goal.returns
 returns c =
     let s = c.args.event.now in
     let b = bytes-known s c.type_inv.event in
-    let k = c.if-event-eq3.false in
+    let k = c.if-event-eq-RESTOCK.false in
     let long = lamp-long c.args.stock s b c.requires.0 k in
     lamp-front c.args.at c.args.output.now s c.requires.1 k long c.put_head-2.ensures

@@ -1,11 +1,9 @@
 use mathlib.Core.Path.{◌≡◌}
-use Prim.Native.Nat.{◌-◌}
 use lib.ListN.{length}
+use Rattle.records.specs.Inside.Walking.{events_left}
 use Rattle.views.proofs.Writing.{Written}
 use Rattle.views.proofs.write_view.Given as goal
 
-abbrev pub invariant-loop-at : goal.invariant-loop-at
-invariant-loop-at l = Written l.reader l.stock l.bytes l.initial.output l.output l.at l.position × (length l.output ≡ length l.initial.output)
-
-abbrev pub decreases-loop-at : goal.decreases-loop-at
-decreases-loop-at l = length l.bytes - l.at
+abbrev pub invariant-loop-event : goal.invariant-loop-event
+invariant-loop-event l =
+    Written l.reader l.stock l.bytes l.initial.output l.output (events_left l.event-iterator) l.position × (length l.output ≡ length l.initial.output)

@@ -1,32 +1,27 @@
 -- What the functions that measure and write a view promise.
 use Rattle.std.specs.Prelude.{ℕ, ◌+◌, ◌-◌, cond, List, [], ◌∷◌, ◌++◌, eqb, length, get_or, replicate}
-use Rattle.lists.specs.Lists.{before_first, tally}
-use Rattle.lists.specs.Inside.Pieces.{is_refused}
 use Rattle.buffer.specs.Slice.{part}
 use Rattle.memory.specs.Layout.{stock_width, state_size}
-use Rattle.records.specs.Events.{stock_width_of, cut_events, event_refusal, record_refusal, event_of}
-use Rattle.records.specs.Inside.Finding.{frame_of_kind}
+use Rattle.records.specs.Events.{stock_width_of, event_of}
+use Rattle.records.specs.Inside.Finding.{frame_of_kind, weight_of}
+use Rattle.records.specs.declared.Weights.{Weights}
 use Rattle.records.specs.declared.StockField.{StockField}
 use Rattle.views.specs.Bytes.{event_view}
 use Rattle.views.specs.declared.Reader.{Reader}
 use Rattle.views.specs.declared.Reader.TheVariants.{Purchasing, Maintenance}
-use Rattle.views.specs.declared.Measured.{Measured}
 
--- the bytes that a view has of an event of that kind
+-- the bytes that a view has of an event: of a Failure, Request or Delivery, and of a Restock
+abbrev pub lengths_for : Reader → Weights
+lengths_for Purchasing = record { lamp = 6 + state_size; restock = 8 + state_size }
+lengths_for Maintenance = record { lamp = 25; restock = 6 }
+
+-- and by its kind
 abbrev pub length_for : Reader → ℕ → ℕ
-length_for Purchasing kind = cond (eqb kind 3) 8 6 + state_size
-length_for Maintenance kind = cond (eqb kind 3) 6 25
+length_for reader kind = weight_of (lengths_for reader) kind
 
 -- the bytes that a view has of an event
 abbrev pub view_length : Reader → StockField → List ℕ → ℕ
 view_length reader field s = length (event_view reader (event_of field s))
-
--- what the pass over a record finds: the first refusal, or 0, and the bytes of the view of the events before it or of all
-abbrev pub measured_as : Reader → StockField → List ℕ → Measured
-measured_as reader field bytes = record {
-  number = record_refusal field bytes;
-  length = tally (view_length reader field) (before_first (is_refused (event_refusal field)) (cut_events field bytes));
-}
 
 -- what every view begins with: its map, the hour and the kind, as they stand in an event's bytes
 abbrev pub head_of : ℕ → List ℕ → List ℕ

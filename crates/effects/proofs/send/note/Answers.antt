@@ -1,15 +1,10 @@
 -- `effects::send::note` meets its contract.
-use Rattle.effects.proofs.Stores.{note-idle, note-lowered, note-stays, note-stopped}
+use mathlib.Core.Logic.{inl, inr}
+use Rattle.effects.proofs.Stores.{with-note}
 use Rattle.effects.proofs.send.note.Goals as goal
 
+pub returns-in-Counting : goal.returns-in-Counting
+returns-in-Counting c = with-note c.args.hour c.args.round _ (rw c.in-Counting.is c.min.ensures)
+
 pub returns-in-Idle : goal.returns-in-Idle
-returns-in-Idle c = search note-idle
-
-pub returns-then-hour-round : goal.returns-then-hour-round
-returns-then-hour-round c = search note-lowered
-
-pub returns-else-hour-round : goal.returns-else-hour-round
-returns-else-hour-round c = search note-stays
-
-pub returns-in-Stopped : goal.returns-in-Stopped
-returns-in-Stopped c = search note-stopped
+returns-in-Idle c = with-note c.args.hour c.args.round _ (elim c.in-Idle.is [ inl e ↦ rw e | inr e ↦ rw e ])

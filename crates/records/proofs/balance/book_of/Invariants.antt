@@ -1,10 +1,6 @@
-use Prim.Native.Nat.{◌-◌}
-use lib.ListN.{length}
+use Rattle.records.specs.Inside.Walking.{events_left}
 use Rattle.records.proofs.Booking.{Booking}
 use Rattle.records.proofs.balance.book_of.Given as goal
 
-abbrev pub invariant-loop-at : goal.invariant-loop-at
-invariant-loop-at l = Booking l.opening l.bytes l.book l.at
-
-abbrev pub decreases-loop-at : goal.decreases-loop-at
-decreases-loop-at l = length l.bytes - l.at
+abbrev pub invariant-loop-event : goal.invariant-loop-event
+invariant-loop-event l = Booking l.opening l.bytes l.book (events_left l.event-iterator)

@@ -9,32 +9,41 @@ use Rattle.records.proofs.balance.booked.Goals as goal
 pub bounds-event-1 : goal.bounds-event-1
 bounds-event-1 c =
     let s = c.args.event.now in
-    let b = bytes-known s c.type_inv.event in
-    kind-inside Present s b c.requires.0
-
-pub read16-requires : goal.read16-requires
-read16-requires c =
-    let s = c.args.event.now in
-    let b = bytes-known s c.type_inv.event in
-    omega (arith, restock-long c.args.book s b c.requires.0 c.if-kind-eq3.true)
+    kind-inside Present s (bytes-known s c.type_inv.event) c.requires.0
 
 pub read32-requires : goal.read32-requires
 read32-requires c =
     let s = c.args.event.now in
-    let b = bytes-known s c.type_inv.event in
-    omega (arith, restock-long c.args.book s b c.requires.0 c.if-kind-eq3.true)
+    omega (arith, lamp-long c.args.book s (bytes-known s c.type_inv.event) c.requires.0 (λ e. omega (arith, e, c.in-1.is)))
 
-pub returns-then-kind-eq3 : goal.returns-then-kind-eq3
-returns-then-kind-eq3 c = search (restock-booked, bytes-known)
-
-pub read32-stock-requires : goal.read32-stock-requires
-read32-stock-requires c =
+pub read16-requires : goal.read16-requires
+read16-requires c =
     let s = c.args.event.now in
-    let b = bytes-known s c.type_inv.event in
-    omega (arith, lamp-long c.args.book s b c.requires.0 c.if-kind-eq3.false)
+    omega (arith, restock-long c.args.book s (bytes-known s c.type_inv.event) c.requires.0 c.in-3.is)
 
-pub returns-then-kind-eq1 : goal.returns-then-kind-eq1
-returns-then-kind-eq1 c = search (request-booked, bytes-known)
+pub read32-requires-in-3 : goal.read32-requires-in-3
+read32-requires-in-3 c =
+    let s = c.args.event.now in
+    omega (arith, restock-long c.args.book s (bytes-known s c.type_inv.event) c.requires.0 c.in-3.is)
 
-pub returns : goal.returns
-returns c = search (other-booked, bytes-known)
+pub read32-requires-in_default : goal.read32-requires-in_default
+read32-requires-in_default c =
+    let s = c.args.event.now in
+    omega (arith, lamp-long c.args.book s (bytes-known s c.type_inv.event) c.requires.0 (λ e. omega (arith, e, c.in_default)))
+
+pub returns-in-1 : goal.returns-in-1
+returns-in-1 c =
+    let s = c.args.event.now in
+    request-booked c.args.book s (bytes-known s c.type_inv.event) c.requires.0 (λ e. omega (arith, e, c.in-1.is)) c.read32.ensures c.in-1.is
+    c.requested.ensures
+
+pub returns-in-3 : goal.returns-in-3
+returns-in-3 c =
+    let s = c.args.event.now in
+    restock-booked c.args.book s (bytes-known s c.type_inv.event) c.requires.0 c.in-3.is c.read16.ensures c.read32-in-3.ensures c.restocked.ensures
+
+pub returns-in_default : goal.returns-in_default
+returns-in_default c =
+    let s = c.args.event.now in
+    other-booked c.args.book s (bytes-known s c.type_inv.event) c.requires.0 (λ e. omega (arith, e, c.in_default)) c.read32-in_default.ensures
+    (λ e. omega arith) c.from.ensures

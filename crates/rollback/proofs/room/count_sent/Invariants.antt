@@ -1,5 +1,4 @@
 use Prim.Native.Nat.{◌≤◌, ◌+◌, ◌-◌}
-use mathlib.Core.Path.{◌≡◌}
 use lib.ListN.{length}
 use Rattle.memory.specs.Layout.{queue_at, queue_size}
 use Rattle.memory.specs.Records.{site_of}
@@ -10,9 +9,6 @@ use Rattle.rollback.proofs.room.count_sent.Given as goal
 
 abbrev pub invariant-loop-i : goal.invariant-loop-i
 invariant-loop-i l =
-    (l.queued ≡ l.header.queued) × (l.k ≤ l.i) × (l.i ≤ l.queued) × (l.sent + l.k ≤ l.i)
-    × Counted (site_of l.header.settings) l.memory l.queued (length (sent_back (site_of l.header.settings) (processed_of (places_at entry_of queue_size
-    l.memory (queue_at l.k) (l.queued - l.k))))) l.i l.sent
-
-abbrev pub decreases-loop-i : goal.decreases-loop-i
-decreases-loop-i l = l.queued - l.i
+    (l.sent + l.k ≤ l.i)
+    × Counted (site_of l.header.settings) l.memory l.header.queued (length (sent_back (site_of l.header.settings) (processed_of (places_at entry_of queue_size
+    l.memory (queue_at l.k) (l.header.queued - l.k))))) l.i l.sent

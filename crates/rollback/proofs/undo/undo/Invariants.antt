@@ -12,6 +12,3 @@ invariant-loop-left l =
     (l.k ≤ l.left) × (length l.memory ≡ length l.initial.memory)
     × ((before : List ℕ) (g : Gateway) → l.k ≤ length g.queue → MaySendBack before g l.initial.memory l.initial.so_far (sent_by_entries g (drop l.k g.queue)) →
     UndoneTo before g l.memory l.left l.so_far)
-
-abbrev pub decreases-loop-left : goal.decreases-loop-left
-decreases-loop-left l = l.left

@@ -24,14 +24,14 @@ write_entry-requires c =
 pub undo_entry-requires : goal.undo_entry-requires
 undo_entry-requires c =
     let d = may-undo c.requires.5 c.requires.6 c.read_entry-entry.ensures c.is_processed.ensures
-    (ap not c.if-not-is_processed.false) c.pending.ensures c.write_entry.ensures in
+    (ap not c.if-not-is_processed.false) c.unprocessed.ensures c.write_entry.ensures in
     (c.requires.0, _, d.0, d.1)
 
 pub returns : goal.returns
 returns c =
     λ before g xs e zs b may.
     let d = may-undo b may c.read_entry-entry.ensures c.is_processed.ensures (ap not c.if-not-is_processed.false)
-    c.pending.ensures c.write_entry.ensures in
+    c.unprocessed.ensures c.write_entry.ensures in
     place-undone b may c.read_entry-entry.ensures c.is_processed.ensures (ap not c.if-not-is_processed.false)
-    c.pending.ensures c.write_entry.ensures
+    c.unprocessed.ensures c.write_entry.ensures
     (c.undo_entry.ensures before _ d.0 d.1)
