@@ -15,7 +15,7 @@ use lamp::lamp_number;
 use model::LeadTimes;
 use neighbours::neighbours_of;
 use opening::set_up::set_up;
-use packing::{number_at, packed, packed_two, put_four, put_three};
+use packing::{number_at, packed, packed_two, put_front};
 use records::balance::balance;
 use refusal::Refusal;
 use round::agreed::agreed_time;
@@ -43,13 +43,13 @@ fn route(n: u32, own: u32, neighbours: &mut [u16]) -> Result<(), Refusal>
     if neighbours.len() < 4 {
         return Err(Refusal::NoRoom);
     }
-    put_four(
-        neighbours,
+    let numbers = [
         number_at(around.from, 0),
         number_at(around.from, 1),
         number_at(around.to, 0),
         number_at(around.to, 1),
-    );
+    ];
+    put_front(neighbours, numbers);
     Ok(())
 }
 
@@ -179,6 +179,6 @@ pub extern "C" fn hurfaith_balance(bytes: &[u8], opening_stock: u32, figures: &m
     if figures.len() < 3 {
         return u32::from(Refusal::NoRoom.number());
     }
-    put_three(figures, found.received, found.served, found.stock);
+    put_front(figures, [found.received, found.served, found.stock]);
     0
 }

@@ -1,7 +1,7 @@
 // How an answer of several numbers goes to programs in C and other languages: packed into one, or in an array of four.
 #![tactic(auto)]
 
-ghost use Rattle.std.specs.Prelude.{◌≡◌, ◌∷◌, ◌<◌, ◌≤◌, get_or, length, drop};
+ghost use Rattle.std.specs.Prelude.{◌≡◌, ◌++◌, ◌<◌, ◌≤◌, get_or, length, drop};
 ghost use Rattle.packing.specs.Packed as Packed;
 ghost use Rattle.packing.specs.Packed.{number_at};
 ghost use Rattle.routing.specs.AtMostTwo.{listed};
@@ -32,22 +32,10 @@ pub fn number_at(among: AtMostTwo<u32>, i: usize) -> u16
     among.get(i).map_or(65535, |number| number as u16)
 }
 
-pub fn put_four(neighbours: &mut [u16], first: u16, second: u16, third: u16, fourth: u16)
-    requires { 4 ≤ length neighbours.old }
-    ensures { neighbours.new ≡ first ∷ second ∷ third ∷ fourth ∷ drop 4 neighbours.old }
+// Puts N values to the front of an array.
+pub fn put_front<T: Copy, const N: usize>(array: &mut [T], values: [T; N])
+    requires { N ≤ length array.old }
+    ensures { array.new ≡ values ++ drop N array.old }
 {
-    neighbours[0] = first;
-    neighbours[1] = second;
-    neighbours[2] = third;
-    neighbours[3] = fourth;
-}
-
-// Puts three numbers to the front of an array.
-pub fn put_three(figures: &mut [u64], first: u64, second: u64, third: u64)
-    requires { 3 ≤ length figures.old }
-    ensures { figures.new ≡ first ∷ second ∷ third ∷ drop 3 figures.old }
-{
-    figures[0] = first;
-    figures[1] = second;
-    figures[2] = third;
+    array[..N].copy_from_slice(&values);
 }

@@ -6,7 +6,7 @@ ghost use Rattle.gateway.specs.Inside.Premises.{Known};
 ghost use Rattle.places.specs.Inside.Changes.{without_entry, without_sent};
 
 use crate::place::Place;
-use buffer::{move_within, write16};
+use buffer::{Number, move_within};
 use memory::{Entry, HEADER_SIZE, Header, QUEUE_SIZE, Sent};
 
 // Takes the entry out of queue place k.
@@ -36,5 +36,5 @@ fn remove<P: Place>(memory: &mut [u8], base: usize, count: u16, k: usize)
     let at = base + P::SIZE * k;
     let behind = count as usize - k - 1;
     move_within(memory, at + P::SIZE, at, P::SIZE * behind);
-    write16(memory, P::COUNT_AT, count - 1);
+    (count - 1).write(memory, P::COUNT_AT);
 }

@@ -10,7 +10,7 @@ ghost use Rattle.records.specs.declared.StockField.TheVariants.{Present};
 
 use crate::events::Events;
 use crate::{RECORD_LIMIT, RESTOCK, StockField, Weights, pass_over};
-use buffer::{read16, read32};
+use buffer::Number;
 use frame::lamps::LAMP_END;
 use frame::tables::{QUANTITY_END, QUANTITY_PLACE};
 use refusal::Refusal;
@@ -97,14 +97,14 @@ fn booked(book: Book, event: &[u8]) -> Book
     ensures { result ≡ entered_event book (event_of Present event.now) }
 {
     match event[1] {
-        REQUEST => requested(book, read32(event, LAMP_END)),
+        REQUEST => requested(book, u32::read(event, LAMP_END)),
         RESTOCK => restocked(
             book,
-            read16(event, QUANTITY_PLACE),
-            read32(event, QUANTITY_END),
+            u16::read(event, QUANTITY_PLACE),
+            u32::read(event, QUANTITY_END),
         ),
         _ => Book {
-            stock: u64::from(read32(event, LAMP_END)),
+            stock: u64::from(u32::read(event, LAMP_END)),
             ..book
         },
     }

@@ -12,7 +12,7 @@ ghost use Rattle.records.specs.Events.{state_size_of, is_event, frame_refusal, e
 ghost use Rattle.records.specs.declared.StockField.TheVariants.{Present, Old};
 ghost use Rattle.records.specs.Inside.Finding.{event_at, Finds, length_of_kind, weight_of, numbered, passed_in, passed_as, good_with_lamp, good_restock, good_gateways};
 
-use buffer::read32;
+use buffer::Number;
 use frame::forms::number_where;
 use frame::lamps::{LAMP_END, LAMP_PLACE, read_lamp};
 use frame::pieces::frame_end;
@@ -254,7 +254,7 @@ fn good_with_lamp(frame: &[u8]) -> bool
             frame[3],
             kind_of(frame[1], frame[ORIGIN_PLACE], 0),
         )
-        && read32(frame, HOUR_PLACE) <= LATEST_HOUR
+        && u32::read(frame, HOUR_PLACE) <= LATEST_HOUR
         && all_between(read_lamp(frame, LAMP_PLACE), 33, 126)
 }
 
@@ -267,7 +267,7 @@ fn good_restock(frame: &[u8]) -> bool
     frame[0] == RESTOCK_MAP
         && frame[1] == RESTOCK
         && good_gateways(frame[2], frame[3], Kind::Restock { quantity: 0 })
-        && read32(frame, HOUR_PLACE) <= LATEST_HOUR
+        && u32::read(frame, HOUR_PLACE) <= LATEST_HOUR
 }
 
 #[tactic(auto, unfolding(crate::specs::Inside::Finding::good_gateways))]

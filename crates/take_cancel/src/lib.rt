@@ -11,7 +11,7 @@ ghost use Rattle.gateway.specs.Inside.Premises.{Known, Leaves};
 ghost use Rattle.rollback.specs.Inside.Entering.{struck_out};
 ghost use Rattle.rollback.specs.Inside.Undone.{CanTakeOut, TakesOut};
 
-use buffer::{move_within, write16};
+use buffer::{Number, move_within};
 use decoding::read_entry;
 use effects::insert::{insert_place, unprocessed};
 use effects::send::{outstanding_at, put_frames};
@@ -49,7 +49,7 @@ fn enter_cancel(memory: &mut [u8], output: &mut [u8], header: Header, message: M
     }
     let written = put_frame(output, 0, acknowledgment(true, message));
     insert_place(memory, queued, k, unprocessed(message, Mark::Waiting));
-    write16(memory, QUEUED_AT, header.queued + 1);
+    (header.queued + 1).write(memory, QUEUED_AT);
     Answer { number: 0, written }
 }
 

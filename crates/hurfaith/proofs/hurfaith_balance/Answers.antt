@@ -16,4 +16,4 @@ returns-then-figures-lt3 c =
 
 pub returns : goal.returns
 returns c =
-    balance-found c.args.opening_stock c.args.bytes.now c.args.figures.now c.in-Ok.ensures refl c.if-figures-lt3.false c.put_three.ensures
+    balance-found c.args.opening_stock c.args.bytes.now c.args.figures.now c.in-Ok.ensures refl c.if-figures-lt3.false c.put_front.ensures

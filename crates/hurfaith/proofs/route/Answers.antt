@@ -24,4 +24,4 @@ number_at-requires-4 c = (small _ _ (sym c.in_ok-around.was ∙ c.neighbours_of.
 pub returns : goal.returns
 returns c =
     route-found _ _ _ (sym c.in_ok-around.was ∙ c.neighbours_of.ensures) c.if-neighbours-lt4.false c.number_at.ensures c.number_at-2.ensures
-    c.number_at-3.ensures c.number_at-4.ensures c.put_four.ensures
+    c.number_at-3.ensures c.number_at-4.ensures c.put_front.ensures

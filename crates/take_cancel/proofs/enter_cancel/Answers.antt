@@ -39,8 +39,8 @@ overflow_add-header c =
     c.has_room.ensures (ap not c.if-not-has_room.false) c.unprocessed.ensures in
     let r = roomy w in record { fits = omega (arith, r.counted) }
 
-pub write16-requires : goal.write16-requires
-write16-requires c =
+pub write-requires : goal.write-requires
+write-requires c =
     let z = sizes _ _ c.requires.0 in omega (arith, z.long)
 
 pub returns : goal.returns
@@ -51,4 +51,4 @@ returns c =
     waits-done c.args.memory.now c.args.output.now _ c.requires.0 b _ c.requires.1 c.requires.2 _ c.place_for-k.ensures
     c.has_room.ensures (ap not c.if-not-has_room.false) c.acknowledgment.ensures c.unprocessed.ensures
     c.put_frame-written.ensures
-    (entered-alone c.args.memory.now _ b c.requires.0 w c.insert_place.ensures c.write16.ensures)
+    (entered-alone c.args.memory.now _ b c.requires.0 w c.insert_place.ensures c.write.ensures)

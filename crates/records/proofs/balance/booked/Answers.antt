@@ -11,39 +11,39 @@ bounds-event-1 c =
     let s = c.args.event.now in
     kind-inside Present s (bytes-known s c.type_inv.event) c.requires.0
 
-pub read32-requires : goal.read32-requires
-read32-requires c =
+pub read-requires : goal.read-requires
+read-requires c =
     let s = c.args.event.now in
     omega (arith, lamp-long c.args.book s (bytes-known s c.type_inv.event) c.requires.0 (λ e. omega (arith, e, c.in-1.is)))
 
-pub read16-requires : goal.read16-requires
-read16-requires c =
+pub read-requires-in-3 : goal.read-requires-in-3
+read-requires-in-3 c =
     let s = c.args.event.now in
     omega (arith, restock-long c.args.book s (bytes-known s c.type_inv.event) c.requires.0 c.in-3.is)
 
-pub read32-requires-in-3 : goal.read32-requires-in-3
-read32-requires-in-3 c =
+pub read-requires-in-3-2 : goal.read-requires-in-3-2
+read-requires-in-3-2 c =
     let s = c.args.event.now in
     omega (arith, restock-long c.args.book s (bytes-known s c.type_inv.event) c.requires.0 c.in-3.is)
 
-pub read32-requires-in_default : goal.read32-requires-in_default
-read32-requires-in_default c =
+pub read-requires-in_default : goal.read-requires-in_default
+read-requires-in_default c =
     let s = c.args.event.now in
     omega (arith, lamp-long c.args.book s (bytes-known s c.type_inv.event) c.requires.0 (λ e. omega (arith, e, c.in_default)))
 
 pub returns-in-1 : goal.returns-in-1
 returns-in-1 c =
     let s = c.args.event.now in
-    request-booked c.args.book s (bytes-known s c.type_inv.event) c.requires.0 (λ e. omega (arith, e, c.in-1.is)) c.read32.ensures c.in-1.is
+    request-booked c.args.book s (bytes-known s c.type_inv.event) c.requires.0 (λ e. omega (arith, e, c.in-1.is)) c.read.ensures c.in-1.is
     c.requested.ensures
 
 pub returns-in-3 : goal.returns-in-3
 returns-in-3 c =
     let s = c.args.event.now in
-    restock-booked c.args.book s (bytes-known s c.type_inv.event) c.requires.0 c.in-3.is c.read16.ensures c.read32-in-3.ensures c.restocked.ensures
+    restock-booked c.args.book s (bytes-known s c.type_inv.event) c.requires.0 c.in-3.is c.read-in-3.ensures c.read-in-3-2.ensures c.restocked.ensures
 
 pub returns-in_default : goal.returns-in_default
 returns-in_default c =
     let s = c.args.event.now in
-    other-booked c.args.book s (bytes-known s c.type_inv.event) c.requires.0 (λ e. omega (arith, e, c.in_default)) c.read32-in_default.ensures
+    other-booked c.args.book s (bytes-known s c.type_inv.event) c.requires.0 (λ e. omega (arith, e, c.in_default)) c.read-in_default.ensures
     (λ e. omega arith) c.from.ensures
