@@ -33,10 +33,12 @@ fn bring(gateways: &mut [Gateway; 2], frame: &[u8], line: &mut Vec<u8>) -> Resul
     append(line, &output, answer.written)
 }
 
-// The gateway that a frame is addressed to; the second for a number that no gateway has.
+// The gateway that a frame is addressed to; the second for a number that no gateway has, the first for what is no frame.
 fn receiver_of(bytes: &[u8]) -> usize
     ensures { result ≤ 1 }
 {
-    let frame = read(bytes).frame;
-    usize::from(addressed_to(frame.sense, frame.message)).min(1)
+    match read(bytes) {
+        Ok(frame) => usize::from(addressed_to(frame.sense, frame.message)).min(1),
+        Err(_) => 0,
+    }
 }

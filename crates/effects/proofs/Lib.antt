@@ -3,3 +3,4 @@ pub mod Stores
 pub mod PlacedLaws
 pub mod StoredFrames
 pub mod StoredSent
+pub mod WriterLaws

@@ -7,7 +7,7 @@ use lib.ListN.{length, length-append}
 use Rattle.lists.specs.Lists.{joined}
 use Rattle.lists.proofs.ListLaws.{joined-append}
 use Rattle.buffer.specs.Slice.{part, Puts}
-use Rattle.buffer.proofs.Putting.{puts-nothing, puts-more, puts-length}
+use Rattle.buffer.proofs.Putting.{puts-more, puts-length}
 use Rattle.frame.specs.Writing.{written}
 use Rattle.frame.specs.declared.Frame.{Frame}
 use Rattle.memory.specs.Layout.{outstanding_size}
@@ -34,20 +34,15 @@ module _ (m : List ℕ) (place : ℕ) where
   unfolding joined places_at
   one_place k = append-nil (written (frame_here k))
 
-  one_more : (k : ℕ) → bytes_to (k + 1) ≡ bytes_to k ++ written (frame_here k)
+  pub one_more : (k : ℕ) → bytes_to (k + 1) ≡ bytes_to k ++ written (frame_here k)
   one_more k = bytes-add k 1 ∙ ap (λ (b : List ℕ). bytes_to k ++ b) (one_place k)
 
-  more_bytes : (k n : ℕ) → k < n → length (bytes_to k) + length (written (frame_here k)) ≤ length (bytes_to n)
+  pub more_bytes : (k n : ℕ) → k < n → length (bytes_to k) + length (written (frame_here k)) ≤ length (bytes_to n)
   more_bytes k n h =
       let e : k + 1 + (n - (k + 1)) ≡ n = omega arith in
       let a = rw (e, length-append) at (ap length (bytes-add (k + 1) (n - (k + 1)))) in
       let b = rw length-append at (ap length (one_more k)) in
       omega arith
-
-  -- no frame is put, and one more behind those of k places
-  pub none-put : (at : ℕ) (output : List ℕ) → Puts at (bytes_to 0) output output at
-  unfolding joined places_at
-  none-put at output = puts-nothing at output
 
   module _ {at count k behind : ℕ} {output now : List ℕ} (p : Puts at (bytes_to k) output now behind) (h : k < count)
       (room : at + length (bytes_to count) ≤ length output) {f : Frame} (e : f ≡ frame_here k) where
@@ -56,9 +51,6 @@ module _ (m : List ℕ) (place : ℕ) where
 
     pub next-room : behind + length (written f) ≤ length now
     next-room = rw (e, puts-length inside p, p.position) (omega (arith, more_bytes k count h, room))
-
-    pub next-put : {later : List ℕ} {end : ℕ} → Puts behind (written f) now later end → Puts at (bytes_to (k + 1)) output later end
-    next-put q = rw (one_more k) (puts-more inside p (rw e at q))
 
 -- a frame and the others
 module _ (first : Frame) (frames : List Frame) (output : List ℕ) (room : length (bytes_of_frames (first ∷ frames)) ≤ length output) where

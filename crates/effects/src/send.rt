@@ -4,13 +4,13 @@ ghost use Rattle.buffer.specs.Slice.{part, Puts};
 ghost use Rattle.memory.specs.Layout.{outstanding_at, outstanding_size};
 ghost use Rattle.memory.specs.Codec.{sent_of};
 ghost use Rattle.gateway.specs.Effects.{noted, bytes_of_frames};
-ghost use Rattle.effects.specs.Inside.Sending.{header_sent, frame_of, stored_frames};
+ghost use Rattle.effects.specs.Inside.Sending.{header_sent, frame_of, stored_frames, advanced_by};
 
 use decoding::read_sent;
 use entries::frame_if;
 use frame::Frame;
 use memory::{HEADER_SIZE, Header, OUTSTANDING_SIZE, Phase, QUEUE_SIZE, Round};
-use writer::put;
+use writer::outgoing::Writer;
 
 // Where the next outstanding place begins.
 pub fn outstanding_at(header: Header) -> usize
@@ -27,11 +27,13 @@ pub fn put_stored(memory: &[u8], output: &mut [u8], place: usize, count: usize) 
         × (length (bytes_of_frames (stored_frames memory.now place count)) ≤ length output.old) }
     ensures { Puts 0 (bytes_of_frames (stored_frames memory.now place count)) output.old output.new result }
 {
-    put_behind(memory, output, 0, place, count)
+    let mut writer = Writer { output, at: 0 };
+    put_places(&mut writer, memory, place, count);
+    writer.at
 }
 
 // Puts a frame, and behind it the frames of what count outstanding places hold, from position place of the memory on; gives the
-// position behind the last.
+// position behind the last. One writer holds the output over all of them.
 pub fn put_frames(
     memory: &[u8],
     output: &mut [u8],
@@ -43,22 +45,21 @@ pub fn put_frames(
         × (length (bytes_of_frames (first ∷ stored_frames memory.now place count)) ≤ length output.old) }
     ensures { Puts 0 (bytes_of_frames (first ∷ stored_frames memory.now place count)) output.old output.new result }
 {
-    let behind = put(output, 0, first);
-    put_behind(memory, output, behind, place, count)
+    let mut writer = Writer { output, at: 0 };
+    writer.put_next(first);
+    put_places(&mut writer, memory, place, count);
+    writer.at
 }
 
-// Puts the frames of what count outstanding places hold, from position place of the memory on, into the output from position at on;
-// gives the position behind the last.
-fn put_behind(memory: &[u8], output: &mut [u8], at: usize, place: usize, count: usize) -> usize
+// Puts the frames of what count outstanding places hold, from position place of the memory on, behind those before.
+fn put_places(writer: &mut Writer<'_>, memory: &[u8], place: usize, count: usize)
     requires { (place + outstanding_size * count ≤ length memory.now)
-        × (at + length (bytes_of_frames (stored_frames memory.now place count)) ≤ length output.old) }
-    ensures { Puts at (bytes_of_frames (stored_frames memory.now place count)) output.old output.new result }
+        × (writer.old.at + length (bytes_of_frames (stored_frames memory.now place count)) ≤ length writer.old.output.now) }
+    ensures { writer.new ≡ advanced_by (bytes_of_frames (stored_frames memory.now place count)) writer.old }
 {
-    let mut behind = at;
     for k in 0..count {
-        behind = put(output, behind, stored_frame(memory, place, k));
+        writer.put_next(stored_frame(memory, place, k));
     }
-    behind
 }
 
 // The frame of what the outstanding place holds that is k places behind the one at position place.

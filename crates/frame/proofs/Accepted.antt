@@ -12,15 +12,14 @@ use Rattle.lists.proofs.BoolLaws.{and_left}
 use Rattle.model.specs.Messages.{kind_number, kind_of}
 use Rattle.frame.specs.Layout.{odd, whole_length}
 use Rattle.frame.specs.Writing.{lamp_fits, gateways_agree, unless}
-use Rattle.frame.specs.Reasons.{fields_of, frame_of, map_fits, sense_fits, fields_form, form_of, is_good, form_number, form_refusal, read_as, reading}
+use Rattle.std.specs.Prelude.{Result, Ok, Err, is_ok}
+use Rattle.frame.specs.Reasons.{fields_of, frame_of, map_fits, sense_fits, fields_reading, reading, frame_in, frame_read, read_number}
 use Rattle.buffer.proofs.Readings.{read_one}
 use Rattle.frame.specs.Lamps.{lamp_form, carries_lamp, lamp_refusal}
 use Rattle.frame.proofs.Presence.{lamp-kinds}
-use Rattle.frame.proofs.FormNumbers.{good-number, good-form, form_both}
+use Rattle.frame.proofs.FormNumbers.{ok-number, ok-passed}
 use Rattle.frame.specs.declared.Frame.{Frame}
-use Rattle.frame.specs.declared.Form.{Form}
-use Rattle.frame.specs.declared.Reading.{Reading}
-use Rattle.frame.specs.declared.Form.TheVariants.{Good, TooShort, WrongMap, WrongLength, WrongSense, WrongLamp, WrongGateways, NotTaken}
+use Rattle.frame.specs.declared.forms.FormError.{FormError}
 
 -- each test was passed
 pub record Passes (s : List ℕ) : Type 0 where
@@ -30,46 +29,30 @@ pub record Passes (s : List ℕ) : Type 0 where
   pub sense : sense_fits (get_or s 0 0) (fields_of s).sense ≡ true
   pub lamp : lamp_fits (frame_of (fields_of s)).message ≡ true
   pub gateways : gateways_agree (fields_of s).from (fields_of s).to (frame_of (fields_of s)).message.kind ≡ true
-  pub frame : (reading s).frame ≡ frame_of (fields_of s)
+  pub frame : frame_read s ≡ frame_of (fields_of s)
 
 -- a reason counts unless its test was passed
-passed : (b : Bool) (reason rest : Form) → is_good reason ≡ false → unless b reason rest ≡ Good → (b ≡ true) × (rest ≡ Good)
-passed true reason rest n e = (refl, e)
-passed false reason rest n e = absurd (false≢true (sym n ∙ ap is_good e))
+passed : (b : Bool) (reason : FormError) (rest : Result Frame FormError) {f : Frame} → unless b (Err reason) rest ≡ Ok f → (b ≡ true) × (rest ≡ Ok f)
+passed true reason rest e = (refl, e)
+passed false reason rest e = absurd (false≢true (ap is_ok e))
 
-form-read : (form : Form) (f : Frame) → (read_as form f).form ≡ form
-form-read Good f = refl
-form-read TooShort f = refl
-form-read WrongMap f = refl
-form-read WrongLength f = refl
-form-read WrongSense f = refl
-form-read WrongLamp f = refl
-form-read WrongGateways f = refl
-form-read NotTaken f = refl
-
--- what is read has the number of its form
-pub reads : (s : List ℕ) {r : Reading} → r ≡ reading s → (r ≡ reading s) × (form_number r.form ≡ form_refusal s)
-unfolding reading
-reads s e = (e, ap (λ (x : Reading). form_number x.form) e ∙ ap form_number (form-read (form_of s) (frame_of (fields_of s))))
-
-pub accepted : (s : List ℕ) → (reading s).form ≡ Good → Passes s
-unfolding reading form_of fields_form
+pub accepted : (s : List ℕ) {f : Frame} → reading s ≡ Ok f → Passes s
+unfolding reading fields_reading
 accepted s e =
-    let good : form_of s ≡ Good = sym (form-read (form_of s) (frame_of (fields_of s))) ∙ e in
-    let a = passed _ _ _ refl good in
-    let b = passed _ _ _ refl a.1 in
-    let c = passed _ _ _ refl b.1 in
-    let d = passed _ _ _ refl c.1 in
-    let f = passed _ _ _ refl d.1 in
-    let g = passed _ _ _ refl f.1 in
+    let a = passed _ _ _ e in
+    let b = passed _ _ _ a.1 in
+    let c = passed _ _ _ b.1 in
+    let d = passed _ _ _ c.1 in
+    let g = passed _ _ _ d.1 in
+    let h = passed _ _ _ g.1 in
     record {
       long = leb-true _ _ a.0;
       map = b.0;
       whole = eqb-true _ _ c.0;
       sense = d.0;
-      lamp = f.0;
-      gateways = g.0;
-      frame = rw good;
+      lamp = g.0;
+      gateways = h.0;
+      frame = ap frame_in (e ∙ sym h.1);
     }
 
 -- the five maps, with the kinds that have them
@@ -130,22 +113,22 @@ kind-byte s p = by (table (get_or s 0 0) (get_or s 1 0) p.map)
 
 -- there is a lamp just where reading it is not refused
 pub lamp-carried : (s : List ℕ) → lamp_refusal s ≡ 0 → carries_lamp (reading s) ≡ true
-lamp-carried s h = good-number (lamp_form (reading s)) ∙ eq-eqb (lamp_refusal s) 0 h
+lamp-carried s h = ok-number (lamp_form (reading s)) ∙ eq-eqb (lamp_refusal s) 0 h
 
 pub lamp-not-carried : (s : List ℕ) → (lamp_refusal s ≡ 0 → ⊥) → carries_lamp (reading s) ≡ false
-lamp-not-carried s h = good-number (lamp_form (reading s)) ∙ ne_eqb (lamp_refusal s) 0 h
+lamp-not-carried s h = ok-number (lamp_form (reading s)) ∙ ne_eqb (lamp_refusal s) 0 h
 
 -- a frame with a lamp has one of two maps
 pub lamp-maps : (s : List ℕ) → carries_lamp (reading s) ≡ true → Passes s × ((get_or s 0 0 ≡ 63) ⊎ (get_or s 0 0 ≡ 191))
 lamp-maps s e =
-    let both = form_both _ (reading s).form e in
-    let p : Passes s = accepted s (good-form (reading s).form both.0) in
+    let both = ok-passed _ (reading s) e in
+    let p : Passes s = accepted s both.0 in
     (p, by p (table (get_or s 0 0) (get_or s 1 0) p.map) (leb-true _ 2 (sym (lamp-kinds _) ∙ both.1)))
   where
-    kind : (p : Passes s) → get_or s 1 0 < 7 → kind_number (reading s).frame.message.kind ≡ get_or s 1 0
+    kind : (p : Passes s) → get_or s 1 0 < 7 → kind_number (frame_read s).message.kind ≡ get_or s 1 0
     kind p h = ap (λ (f : Frame). kind_number f.message.kind) p.frame ∙ kind-back (fields_of s).kind _ _ (rw (kind-byte s p) h) ∙ kind-byte s p
 
-    by : (p : Passes s) → Table (get_or s 0 0) (get_or s 1 0) → kind_number (reading s).frame.message.kind ≤ 2 → (get_or s 0 0 ≡ 63) ⊎ (get_or s 0 0 ≡ 191)
+    by : (p : Passes s) → Table (get_or s 0 0) (get_or s 1 0) → kind_number (frame_read s).message.kind ≤ 2 → (get_or s 0 0 ≡ 63) ⊎ (get_or s 0 0 ≡ 191)
     by p (plain q h) k = inl q
     by p (sensed q h) k = inr q
     by p (restock q h) k = let same = kind p (omega arith) in absurd (omega arith)

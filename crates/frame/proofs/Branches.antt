@@ -10,11 +10,12 @@ use borrow.Author.Tests.{le-leb, lt-leb, lt-ltb, le-ltb, eq-eqb, ne_eqb, not-tru
 use Rattle.frame.specs.Layout.{odd, whole_length}
 use Rattle.frame.specs.Kinds.{map_of_kind, has_lamp, sense_of}
 use Rattle.frame.specs.Writing.{lamp_fits, gateways_agree}
-use Rattle.frame.specs.Reasons.{map_fits, sense_fits, fields_of, frame_of, fields_form, reading, read_as, refused_as}
+use Rattle.std.specs.Prelude.{Result, Ok, Err}
+use Rattle.frame.specs.Reasons.{map_fits, sense_fits, fields_of, frame_of, fields_reading, reading}
 use Rattle.frame.specs.declared.Sense.TheVariants.{Plain}
 use Rattle.frame.specs.declared.Frame.{Frame}
-use Rattle.frame.specs.declared.Form.TheVariants.{Good, TooShort, WrongMap, WrongLength, WrongSense, WrongLamp, WrongGateways}
-use Rattle.frame.specs.declared.Reading.{Reading}
+use Rattle.frame.specs.declared.forms.FormError.{FormError}
+use Rattle.frame.specs.declared.forms.FormError.TheVariants.{TooShort, WrongMap, WrongLength, WrongSense, WrongLamp, WrongGateways}
 use Rattle.frame.specs.declared.Fields.{Fields}
 
 pub sense-last : (n : ℕ) → (n ≡ 1 → ⊥) → (n ≡ 2 → ⊥) → (n ≡ 3 → ⊥) → Plain ≡ sense_of n
@@ -63,49 +64,49 @@ module _ (map sense : ℕ) where
 
 -- the last three reasons, each with the tests before it passed
 module _ (map : ℕ) (v : Fields) {ok : Bool} (e : ok ≡ sense_fits map v.sense) where
-  pub wrong-sense : {r : Reading} → not ok ≡ true → r ≡ refused_as WrongSense → r ≡ read_as (fields_form map v) (frame_of v)
-  unfolding fields_form
-  wrong-sense h q = q ∙ rw (sym e ∙ not-true ok h)
+  pub wrong-sense : not ok ≡ true → Err WrongSense ≡ fields_reading map v
+  unfolding fields_reading
+  wrong-sense h = rw (sym e ∙ not-true ok h)
 
   module _ (h : not ok ≡ false) {f : Frame} (g : f ≡ frame_of v) {lamp : Bool} (l : lamp ≡ lamp_fits f.message) where
     lamp-test : lamp ≡ lamp_fits (frame_of v).message
     lamp-test = l ∙ ap (λ (x : Frame). lamp_fits x.message) g
 
-    pub wrong-lamp : {r : Reading} → not lamp ≡ true → r ≡ refused_as WrongLamp → r ≡ read_as (fields_form map v) (frame_of v)
-    unfolding fields_form
-    wrong-lamp k q = q ∙ rw (sym e ∙ not-false ok h, sym lamp-test ∙ not-true lamp k)
+    pub wrong-lamp : not lamp ≡ true → Err WrongLamp ≡ fields_reading map v
+    unfolding fields_reading
+    wrong-lamp k = rw (sym e ∙ not-false ok h, sym lamp-test ∙ not-true lamp k)
 
     module _ (k : not lamp ≡ false) {agree : Bool} (a : agree ≡ gateways_agree f.message.from f.message.to f.message.kind) where
       gateways-test : agree ≡ gateways_agree (frame_of v).message.from (frame_of v).message.to (frame_of v).message.kind
       gateways-test = a ∙ ap (λ (x : Frame). gateways_agree x.message.from x.message.to x.message.kind) g
 
-      pub wrong-gateways : {r : Reading} → not agree ≡ true → r ≡ refused_as WrongGateways → r ≡ read_as (fields_form map v) (frame_of v)
-      unfolding fields_form
-      wrong-gateways b q = q ∙ rw (sym e ∙ not-false ok h, sym lamp-test ∙ not-false lamp k, sym gateways-test ∙ not-true agree b)
+      pub wrong-gateways : not agree ≡ true → Err WrongGateways ≡ fields_reading map v
+      unfolding fields_reading
+      wrong-gateways b = rw (sym e ∙ not-false ok h, sym lamp-test ∙ not-false lamp k, sym gateways-test ∙ not-true agree b)
 
-      pub all_right : not agree ≡ false → read_as Good f ≡ read_as (fields_form map v) (frame_of v)
-      unfolding fields_form
-      all_right b = rw (sym e ∙ not-false ok h, sym lamp-test ∙ not-false lamp k, sym gateways-test ∙ not-false agree b) (ap (read_as Good) g)
+      pub all_right : not agree ≡ false → Ok f ≡ fields_reading map v
+      unfolding fields_reading
+      all_right b = rw (sym e ∙ not-false ok h, sym lamp-test ∙ not-false lamp k, sym gateways-test ∙ not-false agree b) (ap Ok g)
 
 -- the first three reasons, and then the others
 module _ (s : List ℕ) where
-  pub too_short : {r : Reading} → length s < 2 → r ≡ refused_as TooShort → r ≡ reading s
+  pub too_short : length s < 2 → Err TooShort ≡ reading s
   unfolding reading
-  too_short h q = q ∙ rw (lt-leb 2 (length s) h)
+  too_short h = rw (lt-leb 2 (length s) h)
 
   module _ (h : 2 ≤ length s) {fits : Bool} (e : fits ≡ map_fits (get_or s 0 0) (get_or s 1 0)) where
-    pub wrong-map : {r : Reading} → not fits ≡ true → r ≡ refused_as WrongMap → r ≡ reading s
+    pub wrong-map : not fits ≡ true → Err WrongMap ≡ reading s
     unfolding reading
-    wrong-map k q = q ∙ rw (le-leb 2 (length s) h, sym e ∙ not-true fits k)
+    wrong-map k = rw (le-leb 2 (length s) h, sym e ∙ not-true fits k)
 
     module _ (k : not fits ≡ false) {n : ℕ} (l : n ≡ whole_length (get_or s 0 0)) where
-      pub wrong-length : {r : Reading} → (length s ≡ n → ⊥) → r ≡ refused_as WrongLength → r ≡ reading s
+      pub wrong-length : (length s ≡ n → ⊥) → Err WrongLength ≡ reading s
       unfolding reading
-      wrong-length d q =
+      wrong-length d =
           let no-match : eqb (length s) (whole_length (get_or s 0 0)) ≡ false = ne_eqb _ _ (λ p. d (p ∙ sym l)) in
-          q ∙ rw (le-leb 2 (length s) h, sym e ∙ not-false fits k, no-match)
+          rw (le-leb 2 (length s) h, sym e ∙ not-false fits k, no-match)
 
-      pub judged : {v : Fields} {r : Reading} → length s ≡ n → v ≡ fields_of s → r ≡ read_as (fields_form (get_or s 0 0) v) (frame_of v) → r ≡ reading s
+      pub judged : {v : Fields} {r : Result Frame FormError} → length s ≡ n → v ≡ fields_of s → r ≡ fields_reading (get_or s 0 0) v → r ≡ reading s
       unfolding reading
       judged d p q =
           let match : eqb (length s) (whole_length (get_or s 0 0)) ≡ true = eq-eqb _ _ (d ∙ l) in

@@ -1,40 +1,55 @@
 -- Laws of the reasons for which a byte string is refused, and of their numbers.
-use mathlib.Core.Path.{◌≡◌, refl, sym, ◌∙◌}
+use mathlib.Core.Path.{◌≡◌, refl, sym, ◌∙◌, ap}
 use Prim.Native.Nat.{ℕ, ◌<◌}
 use native.Mathlib.Omega.{arith}
 use mathlib.Core.Bool.{Bool, true, false, not, ◌&&◌, false≢true}
+use mathlib.Core.List.{List}
 use lib.Dec.{eqb}
-use borrow.Author.Tests.{not-true, not-false}
-use Rattle.frame.specs.Reasons.{is_good, form_where, form_in, form_number}
-use Rattle.frame.specs.declared.Form.{Form}
+use borrow.Author.Tests.{eq-eqb}
+use Rattle.std.specs.Prelude.{Result, Ok, Err, is_ok}
+use Rattle.std.specs.Result.{result_unwrap_or}
+use Rattle.frame.specs.Writing.{unless}
+use Rattle.frame.specs.Reasons.{reading, blank_frame, frame_in, frame_read, read_in, read_number, refusal_in, form_number, form_refusal}
+use Rattle.frame.specs.declared.forms.FormError.{FormError}
+use Rattle.frame.specs.declared.forms.FormError.TheVariants.{TooShort, WrongMap, WrongLength, WrongSense, WrongLamp, WrongGateways, NotTaken}
 use Rattle.frame.specs.declared.Frame.{Frame}
-use Rattle.frame.specs.declared.Reading.{Reading}
-use Rattle.frame.specs.declared.Form.TheVariants.{Good, TooShort, WrongMap, WrongLength, WrongSense, WrongLamp, WrongGateways, NotTaken}
 
--- a form is good just where its number is 0
-pub good-number : (form : Form) → is_good form ≡ eqb (form_number form) 0
-good-number Good = refl
-good-number TooShort = refl
-good-number WrongMap = refl
-good-number WrongLength = refl
-good-number WrongSense = refl
-good-number WrongLamp = refl
-good-number WrongGateways = refl
-good-number NotTaken = refl
+-- what was read is a frame just where its number is 0
+pub ok-number : (r : Result Frame FormError) → is_ok r ≡ eqb (read_number r) 0
+ok-number (Ok f) = refl
+ok-number (Err TooShort) = refl
+ok-number (Err WrongMap) = refl
+ok-number (Err WrongLength) = refl
+ok-number (Err WrongSense) = refl
+ok-number (Err WrongLamp) = refl
+ok-number (Err WrongGateways) = refl
+ok-number (Err NotTaken) = refl
 
-pub good-form : (form : Form) → is_good form ≡ true → form ≡ Good
-good-form Good e = refl
-good-form TooShort e = absurd (false≢true e)
-good-form WrongMap e = absurd (false≢true e)
-good-form WrongLength e = absurd (false≢true e)
-good-form WrongSense e = absurd (false≢true e)
-good-form WrongLamp e = absurd (false≢true e)
-good-form WrongGateways e = absurd (false≢true e)
-good-form NotTaken e = absurd (false≢true e)
+pub ok-read : (r : Result Frame FormError) → is_ok r ≡ true → r ≡ Ok (frame_in r)
+ok-read (Ok f) e = refl
+ok-read (Err reason) e = absurd (false≢true e)
 
--- no form has the number of unsound memory
-pub number-sound : (form : Form) → form_number form ≡ 10 → ⊥
-number-sound Good e = omega arith
+-- a byte string that is not refused for its form is a frame
+pub read-frame : (s : List ℕ) → form_refusal s ≡ 0 → reading s ≡ Ok (frame_read s)
+read-frame s e = ok-read (reading s) (ok-number (reading s) ∙ eq-eqb (form_refusal s) 0 e)
+
+-- a blank frame stands for a reason
+pub unwrapped : (r : Result Frame FormError) → result_unwrap_or r blank_frame ≡ frame_in r
+unwrapped (Ok f) = refl
+unwrapped (Err reason) = refl
+
+-- each reason has a number
+pub number-some : (reason : FormError) → form_number reason ≡ 0 → ⊥
+number-some TooShort e = omega arith
+number-some WrongMap e = omega arith
+number-some WrongLength e = omega arith
+number-some WrongSense e = omega arith
+number-some WrongLamp e = omega arith
+number-some WrongGateways e = omega arith
+number-some NotTaken e = omega arith
+
+-- no reason has the number of unsound memory
+pub number-sound : (reason : FormError) → form_number reason ≡ 10 → ⊥
 number-sound TooShort e = omega arith
 number-sound WrongMap e = omega arith
 number-sound WrongLength e = omega arith
@@ -43,9 +58,12 @@ number-sound WrongLamp e = omega arith
 number-sound WrongGateways e = omega arith
 number-sound NotTaken e = omega arith
 
+pub read-sound : (r : Result Frame FormError) → read_number r ≡ 10 → ⊥
+read-sound (Ok f) e = omega arith
+read-sound (Err reason) e = number-sound reason e
+
 -- and each number fits a byte
-pub number_small : (form : Form) → form_number form < 256
-number_small Good = omega arith
+pub number_small : (reason : FormError) → form_number reason < 256
 number_small TooShort = omega arith
 number_small WrongMap = omega arith
 number_small WrongLength = omega arith
@@ -54,50 +72,61 @@ number_small WrongLamp = omega arith
 number_small WrongGateways = omega arith
 number_small NotTaken = omega arith
 
--- a form passes a call just where it is good and taken there
-pub form-passes : (taken : Bool) (form : Form) → is_good (form_where taken form) ≡ (is_good form && taken)
-form-passes true Good = refl
-form-passes false Good = refl
-form-passes true TooShort = refl
-form-passes false TooShort = refl
-form-passes true WrongMap = refl
-form-passes false WrongMap = refl
-form-passes true WrongLength = refl
-form-passes false WrongLength = refl
-form-passes true WrongSense = refl
-form-passes false WrongSense = refl
-form-passes true WrongLamp = refl
-form-passes false WrongLamp = refl
-form-passes true WrongGateways = refl
-form-passes false WrongGateways = refl
-form-passes true NotTaken = refl
-form-passes false NotTaken = refl
+pub read-small : (r : Result Frame FormError) → read_number r < 256
+read-small (Ok f) = omega arith
+read-small (Err reason) = number_small reason
+
+-- what was read passes a call just where it is a frame and taken there
+pub ok-passes : (taken : Frame → Bool) (r : Result Frame FormError) → is_ok (read_in taken r) ≡ (is_ok r && taken (frame_in r))
+ok-passes taken (Ok f) = by (taken f)
+  where
+    by : (b : Bool) → is_ok (unless b (Err NotTaken) (Ok f)) ≡ b
+    by true = refl
+    by false = refl
+ok-passes taken (Err reason) = refl
 
 -- and so by its number
-pub number-passes : (taken : Bool) (form : Form) → eqb (form_number (form_where taken form)) 0 ≡ (is_good form && taken)
-number-passes taken form = sym (good-number (form_where taken form)) ∙ form-passes taken form
+pub number-passes : (taken : Frame → Bool) (r : Result Frame FormError) → eqb (read_number (read_in taken r)) 0 ≡ (is_ok r && taken (frame_in r))
+number-passes taken r = sym (ok-number (read_in taken r)) ∙ ok-passes taken r
 
-pub form_both : (taken : Bool) (form : Form) → is_good (form_where taken form) ≡ true → (is_good form ≡ true) × (taken ≡ true)
-form_both taken form e = by (is_good form) taken (sym (form-passes taken form) ∙ e)
+both : (a b : Bool) → (a && b) ≡ true → (a ≡ true) × (b ≡ true)
+both true b h = (refl, h)
+both false b h = absurd (false≢true h)
+
+-- what a call takes is a frame, and of those that it takes
+pub ok-passed : (taken : Frame → Bool) (r : Result Frame FormError) → is_ok (read_in taken r) ≡ true → (r ≡ Ok (frame_in r)) × (taken (frame_in r) ≡ true)
+ok-passed taken r h = let (good, right) = both _ _ (sym (ok-passes taken r) ∙ h) in (ok-read r good, right)
+
+pub form-passed : (taken : Frame → Bool) (r : Result Frame FormError) → eqb (read_number (read_in taken r)) 0 ≡ true
+    → (r ≡ Ok (frame_in r)) × (taken (frame_in r) ≡ true)
+form-passed taken r h = ok-passed taken r (ok-number (read_in taken r) ∙ h)
+
+-- what a call makes of what was read: it takes the frame, or refuses for a reason
+pub data Taking (taken : Frame → Bool) (r : Result Frame FormError) : Result Frame FormError → Type 0 where
+  takes : r ≡ Ok (frame_in r) → taken (frame_in r) ≡ true → Taking taken r (Ok (frame_in r))
+  refuses : (reason : FormError) → Taking taken r (Err reason)
+
+pub taking : (taken : Frame → Bool) (r : Result Frame FormError) → Taking taken r (read_in taken r)
+taking taken (Ok f) = by (taken f) refl
   where
-    by : (a b : Bool) → (a && b) ≡ true → (a ≡ true) × (b ≡ true)
-    by true b h = (refl, h)
-    by false b h = absurd (false≢true h)
+    by : (b : Bool) → taken f ≡ b → Taking taken (Ok f) (unless b (Err NotTaken) (Ok f))
+    by true e = takes refl e
+    by false e = refuses NotTaken
+taking taken (Err reason) = refuses reason
 
--- a frame that a call takes is good, and of those that it takes
-pub form-passed : (taken : Frame → Bool) (r : Reading) → eqb (form_number (form_in taken r)) 0 ≡ true → (r.form ≡ Good) × (taken r.frame ≡ true)
-form-passed taken r h =
-    let both = form_both (taken r.frame) r.form (good-number (form_in taken r) ∙ h) in
-    (good-form r.form both.0, both.1)
+-- the frame that it takes is the one that was read
+pub taken-read : (taken : Frame → Bool) (r : Result Frame FormError) {f : Frame} → read_in taken r ≡ Ok f → r ≡ Ok f
+taken-read taken r {f} = by (taking taken r)
+  where
+    by : {q : Result Frame FormError} → Taking taken r q → q ≡ Ok f → r ≡ Ok f
+    by (takes e t) p = e ∙ p
+    by (refuses reason) p = absurd (false≢true (ap is_ok p))
 
--- the branches of the code that finds it
-module _ (taken : Bool) (form : Form) {good : Bool} (e : good ≡ is_good form) where
-  pub form-kept : {number : ℕ} → not good ≡ true → number ≡ form_number form → number ≡ form_number (form_where taken form)
-  form-kept h n = n ∙ rw (sym e ∙ not-true good h)
-
-  module _ (h : not good ≡ false) where
-    pub form-taken : taken ≡ true → 0 ≡ form_number (form_where taken form)
-    form-taken t = rw (sym e ∙ not-false good h, t)
-
-    pub form-not-taken : {number : ℕ} → taken ≡ false → number ≡ form_number NotTaken → number ≡ form_number (form_where taken form)
-    form-not-taken t n = n ∙ rw (sym e ∙ not-false good h, t)
+-- what passes such a call and has no number is a frame that is taken and not refused
+pub refusal-passed : (taken : Frame → Bool) (refusal : Frame → ℕ) (r : Result Frame FormError) → refusal_in refusal (read_in taken r) ≡ 0
+    → (r ≡ Ok (frame_in r)) × (taken (frame_in r) ≡ true) × (refusal (frame_in r) ≡ 0)
+refusal-passed taken refusal r = by (taking taken r)
+  where
+    by : {q : Result Frame FormError} → Taking taken r q → refusal_in refusal q ≡ 0 → (r ≡ Ok (frame_in r)) × (taken (frame_in r) ≡ true) × (refusal (frame_in r) ≡ 0)
+    by (takes e t) h = (e, t, h)
+    by (refuses reason) h = absurd (number-some reason h)

@@ -8,7 +8,8 @@ use Rattle.buffer.specs.Slice.{part}
 use Rattle.buffer.proofs.Writes.{length_part}
 use Rattle.frame.specs.Layout.{lamp_width, widths}
 use Rattle.frame.specs.Writing.{well_formed, written}
-use Rattle.frame.specs.Reasons.{reading}
+use Rattle.std.specs.Prelude.{Ok}
+use Rattle.frame.specs.Reasons.{fields_of, frame_of, reading, frame_in, frame_read}
 use Rattle.frame.specs.Lamps.{lamp_place, lamp_refusal, IsLamp}
 use Rattle.frame.specs.Claims.{RangedFrame, OneToOne, FieldCount, LampAndNumber}
 use Rattle.frame.specs.declared.Frame.{Frame}
@@ -17,12 +18,16 @@ use Rattle.frame.proofs.Accepted.{accepted, lamp-carried, lamp-not-carried, lamp
 use Rattle.frame.proofs.ReadFirst.{lamp-part, returned, returned-formed, returned-ranged}
 use Rattle.frame.proofs.WriteFirst.{read-after-write}
 
+-- the frame is the one with the fields
+is-read : (s : List ℕ) {f : Frame} → reading s ≡ Ok f → f ≡ frame_of (fields_of s)
+is-read s e = sym (ap frame_in e) ∙ (accepted s e).frame
+
 pub one-to-one : OneToOne
 one-to-one = record {
   written_read = read-after-write;
-  read_written = λ s b e. let p = accepted s e in ap written p.frame ∙ (returned s b p).same;
-  read_well_formed = λ s b e. let p = accepted s e in ap well_formed p.frame ∙ returned-formed s b p;
-  read_ranged = λ s b e. let p = accepted s e in subst RangedFrame (sym p.frame) (returned-ranged s b p);
+  read_written = λ s b f e. ap written (is-read s e) ∙ (returned s b (accepted s e)).same;
+  read_well_formed = λ s b f e. ap well_formed (is-read s e) ∙ returned-formed s b (accepted s e);
+  read_ranged = λ s b f e. subst RangedFrame (sym (is-read s e)) (returned-ranged s b (accepted s e));
 }
 
 pub field-count : FieldCount
@@ -30,7 +35,7 @@ field-count = record { fields = standing-count widths }
 
 -- the part and the number go by one test
 module _ (frame p : Bor (List ℕ)) (is : IsLamp frame p) where
-  lamp-found : lamp_refusal frame.now ≡ 0 → p.now ≡ (reading frame.now).frame.message.lamp
+  lamp-found : lamp_refusal frame.now ≡ 0 → p.now ≡ (frame_read frame.now).message.lamp
   unfolding lamp_place
   lamp-found h =
       let some = lamp-carried frame.now h in

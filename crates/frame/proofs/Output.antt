@@ -7,7 +7,7 @@ use mathlib.Core.Bool.{Bool, true, false, cond, not}
 use mathlib.Core.List.{List, [], ◌∷◌, ◌++◌, append_assoc, append-nil, map as mapped}
 use lib.Dec.{leb}
 use lib.ListN.{length, set, length-append}
-use borrow.Author.Tests.{le-leb, lt-leb, not-true, not-false}
+use borrow.Author.Tests.{le-leb, lt-leb, ne_eqb, not-true, not-false}
 use Rattle.buffer.proofs.Numbers.{one_byte}
 use Rattle.lists.specs.Lists.{tally, joined}
 use Rattle.buffer.specs.Slice.{write, Puts}
@@ -22,9 +22,12 @@ use Rattle.frame.specs.Kinds.{map_of, map_of_kind, sense_number}
 use Rattle.frame.specs.Writing.{contents, written, value_refusal, outcome_of, writing}
 use Rattle.frame.specs.Inside.Steps.{head_bytes, field_bytes, body_bytes}
 use Rattle.frame.proofs.Presence.{HasHead, head-stands}
-use Rattle.frame.proofs.Values.{refused-with-1}
 use Rattle.frame.specs.declared.Frame.{Frame}
-use Rattle.frame.specs.declared.WriteAnswer.TheVariants.{Written, NoFrame, WrongLamp, NoRoom}
+use Rattle.std.specs.Prelude.{Result, Ok, Err}
+use Rattle.refusal.specs.Numbers.{refusal_number, number_in}
+use Rattle.refusal.specs.declared.Refusal.{Refusal}
+use Rattle.refusal.specs.declared.Refusal.TheVariants.{NoRoom}
+use Rattle.refusal.proofs.Numbers.{refusal-some}
 
 pub puts-as : {at behind : ℕ} {xs ys m after : List ℕ} → Puts at xs m after behind → xs ≡ ys → Puts at ys m after behind
 puts-as p e = record { position = p.position ∙ rw e; output = p.output ∙ rw e }
@@ -265,28 +268,23 @@ whole-size f e = ap (λ (n : ℕ). suc n) (joined-size (map_of f) (contents f) �
     (contents-sizes f e)) ∙ omega arith
 
 -- a frame written, by what its value is refused with
-module _ (f : Frame) (m : List ℕ) {refusal : ℕ} (e : refusal ≡ value_refusal f) where
-  pub wrong-lamp : refusal ≡ 12 → outcome_of WrongLamp m ≡ writing f m
+module _ (f : Frame) (m : List ℕ) where
+  pub value-refused : (why : Refusal) → refusal_number why ≡ value_refusal f → outcome_of (Err why) m ≡ writing f m
   unfolding writing
-  wrong-lamp h = rw (sym e ∙ h)
+  value-refused why e = rw (← e, ne_eqb (refusal_number why) 0 (refusal-some why))
 
-  module _ (l : refusal ≡ 12 → ⊥) where
-    pub no-frame : (refusal ≡ 0 → ⊥) → outcome_of NoFrame m ≡ writing f m
-    unfolding writing
-    no-frame h = rw (refused-with-1 f (λ z. h (e ∙ z)) (λ z. l (e ∙ z)))
-
-  module _ (h : refusal ≡ 0) (lamp : length f.message.lamp ≡ 18) {map size : ℕ} (g : map ≡ map_of f) (s : size ≡ whole_length map) where
+  module _ (h : 0 ≡ value_refusal f) (lamp : length f.message.lamp ≡ 18) {map size : ℕ} (g : map ≡ map_of f) (s : size ≡ whole_length map) where
     size_is : size ≡ length (written f)
     size_is = s ∙ rw g (sym (whole-size f lamp))
 
-    pub no_room : length m < size → outcome_of NoRoom m ≡ writing f m
+    pub no_room : length m < size → outcome_of (Err NoRoom) m ≡ writing f m
     unfolding writing
-    no_room l = rw (sym e ∙ h, lt-leb (length (written f)) (length m) (rw (← size_is) l))
+    no_room l = rw (sym h, lt-leb (length (written f)) (length m) (rw (← size_is) l))
 
     pub room-enough : size ≤ length m → 0 + length (written f) ≤ length m
     room-enough l = rw (← size_is) (omega arith)
 
     pub all-written : {after : List ℕ} {count : ℕ} → size ≤ length m → Puts 0 (written f) m after count
-        → outcome_of (Written count) after ≡ writing f m
+        → outcome_of (Ok count) after ≡ writing f m
     unfolding writing
-    all-written l p = rw (sym e ∙ h, le-leb (length (written f)) (length m) (rw (← size_is) l), p.position, p.output, zero-add)
+    all-written l p = rw (sym h, le-leb (length (written f)) (length m) (rw (← size_is) l), p.position, p.output, zero-add)

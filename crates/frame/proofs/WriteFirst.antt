@@ -16,13 +16,13 @@ use Rattle.model.specs.declared.Kind.TheVariants.{Failure, Request, Delivery, Re
 use Rattle.frame.specs.Layout.{widths, whole_length, cut}
 use Rattle.frame.specs.Kinds.{map_of_kind, has_hour, map_of, sense_number, sense_of, with_sense}
 use Rattle.frame.specs.Writing.{contents, written, all_between, sense_allowed, hour_fits, well_formed, lamp_fits, gateways_agree}
-use Rattle.frame.specs.Reasons.{lamp_of, values_of, fields_of, frame_of, map_fits, sense_fits, fields_form, form_of, read_as, reading}
+use Rattle.frame.specs.Reasons.{lamp_of, values_of, fields_of, frame_of, map_fits, sense_fits, fields_reading, reading}
 use Rattle.frame.specs.Inside.Steps.{head_bytes}
 use Rattle.frame.specs.Claims.{RangedFrame}
 use Rattle.frame.specs.declared.Frame.{Frame}
 use Rattle.frame.specs.declared.Sense.{Sense}
 use Rattle.frame.specs.declared.Sense.TheVariants.{Plain, Cancel, Acknowledgment, CancelAcknowledgment}
-use Rattle.frame.specs.declared.Form.TheVariants.{Good}
+use Rattle.std.specs.Prelude.{Ok}
 use Rattle.frame.specs.declared.Fields.{Fields}
 use Rattle.lists.proofs.BoolLaws.{and_left, and_right}
 use Rattle.frame.proofs.Cutting.{kept, cut-joined}
@@ -271,9 +271,9 @@ module _ (f : Frame) (r : RangedFrame f) (w : Keeps f) where
   long-passes : leb 2 (length (written f)) ≡ true
   long-passes = let size = written-size f in le-leb 2 (length (written f)) (omega arith)
 
-  form-good : form_of (written f) ≡ Good
-  unfolding form_of fields_form
-  form-good =
+  frame-read : reading (written f) ≡ Ok f
+  unfolding reading fields_reading
+  frame-read =
       let map : map_fits (get_or (written f) 0 0) (get_or (written f) 1 0) ≡ true = ap₂ map_fits first_byte (second-byte f r w) ∙ map-passes in
       let whole : eqb (length (written f)) (whole_length (get_or (written f) 0 0)) ≡ true = eq-eqb _ _ (whole-size f r.lamp ∙ ap whole_length
       (sym first_byte)) in
@@ -284,8 +284,7 @@ module _ (f : Frame) (r : RangedFrame f) (w : Keeps f) where
       (fields_of (written f))).message.kind ≡ true =
       ap (λ (x : Frame). gateways_agree x.message.from x.message.to x.message.kind) (frame_back f r w) ∙ w.gateways
       in
-      rw (long-passes, map, whole, sense, lamp, gateways)
+      rw (long-passes, map, whole, sense, lamp, gateways) (ap Ok (frame_back f r w))
 
-pub read-after-write : (f : Frame) → RangedFrame f → well_formed f ≡ true → reading (written f) ≡ read_as Good f
-unfolding reading
-read-after-write f r e = let w = keeps f e in ap₂ read_as (form-good f r w) (frame_back f r w)
+pub read-after-write : (f : Frame) → RangedFrame f → well_formed f ≡ true → reading (written f) ≡ Ok f
+read-after-write f r e = frame-read f r (keeps f e)

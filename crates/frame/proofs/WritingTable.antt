@@ -6,13 +6,13 @@ use Rattle.buffer.specs.Number.{bytes_of, number_from, number_of}
 use Rattle.frame.specs.Layout.{standing, whole_length, cut}
 use Rattle.frame.specs.Kinds.{map_of_kind, has_hour, has_lamp, map_of}
 use Rattle.frame.specs.Writing.{contents, written, all_between, lamp_fits, value_refusal, writing}
-use Rattle.frame.specs.Reasons.{values_of, fields_of, map_fits, fields_form, form_of, reading}
+use Rattle.frame.specs.Reasons.{values_of, fields_of, map_fits, fields_reading, reading}
 use Rattle.frame.specs.WritingExamples.{WrittenNumbers}
 
 pub written-numbers : WrittenNumbers
 unfolding
     tally joined part write bytes_of number_from number_of standing whole_length cut map_of_kind has_hour has_lamp map_of contents written all_between lamp_fits
-    value_refusal writing values_of fields_of map_fits fields_form form_of reading
+    value_refusal writing values_of fields_of map_fits fields_reading reading
 written-numbers =
     record {
       ends = (refl, refl, refl);

@@ -1,5 +1,5 @@
 -- What is proved of these definitions beside the contracts.
-use Rattle.std.specs.Prelude.{◌≡◌, true, not, cond, ◌&&◌, List, [], ℕ, ◌<◌, ◌^◌, eqb, length}
+use Rattle.std.specs.Prelude.{◌≡◌, true, not, cond, ◌&&◌, Ok, List, [], ℕ, ◌<◌, ◌^◌, eqb, length}
 use Rattle.std.specs.Int.Count.{ones}
 use Rattle.std.specs.Borrow.{Bor}
 use Rattle.buffer.specs.Slice.{Bytes}
@@ -7,10 +7,9 @@ use Rattle.model.specs.Messages.{kind_number, origin_of, quantity_of, kind_of}
 use Rattle.frame.specs.Layout.{gateway_width, lamp_width, widths, standing}
 use Rattle.frame.specs.Kinds.{has_origin, has_lamp, has_quantity}
 use Rattle.frame.specs.Writing.{all_between, well_formed, value_refusal, written}
-use Rattle.frame.specs.Reasons.{reading, read_as}
+use Rattle.frame.specs.Reasons.{reading, frame_read}
 use Rattle.frame.specs.Lamps.{IsLamp, lamp_refusal}
 use Rattle.frame.specs.declared.Frame.{Frame}
-use Rattle.frame.specs.declared.Form.TheVariants.{Good}
 
 -- the numbers fit their fields, as those of every frame that a program holds do
 pub record RangedFrame (f : Frame) : Type 0 where
@@ -26,12 +25,12 @@ pub record RangedFrame (f : Frame) : Type 0 where
 -- Frames and well-formed values are one to one.
 pub record OneToOne : Type 0 where
   -- reading what was written gives the value
-  pub written_read : (f : Frame) → RangedFrame f → well_formed f ≡ true → reading (written f) ≡ read_as Good f
+  pub written_read : (f : Frame) → RangedFrame f → well_formed f ≡ true → reading (written f) ≡ Ok f
   -- a byte string that is read is what its value is written as
-  pub read_written : (s : List ℕ) → Bytes s → (reading s).form ≡ Good → written (reading s).frame ≡ s
+  pub read_written : (s : List ℕ) → Bytes s → (f : Frame) → reading s ≡ Ok f → written f ≡ s
   -- and that value is well formed
-  pub read_well_formed : (s : List ℕ) → Bytes s → (reading s).form ≡ Good → well_formed (reading s).frame ≡ true
-  pub read_ranged : (s : List ℕ) → Bytes s → (reading s).form ≡ Good → RangedFrame (reading s).frame
+  pub read_well_formed : (s : List ℕ) → Bytes s → (f : Frame) → reading s ≡ Ok f → well_formed f ≡ true
+  pub read_ranged : (s : List ℕ) → Bytes s → (f : Frame) → reading s ≡ Ok f → RangedFrame f
 
 -- what a value is refused with, and which values are frames
 pub record ValueNumbers : Type 0 where
@@ -51,6 +50,6 @@ pub record OwnFields : Type 0 where
 
 -- the part that reading the lamp hands back is the lamp where its number is 0, eighteen bytes, and is empty exactly where it is not
 pub record LampAndNumber : Type 0 where
-  pub found : (frame p : Bor (List ℕ)) → IsLamp frame p → lamp_refusal frame.now ≡ 0 → p.now ≡ (reading frame.now).frame.message.lamp
+  pub found : (frame p : Bor (List ℕ)) → IsLamp frame p → lamp_refusal frame.now ≡ 0 → p.now ≡ (frame_read frame.now).message.lamp
   pub whole : (frame p : Bor (List ℕ)) → IsLamp frame p → lamp_refusal frame.now ≡ 0 → length p.now ≡ lamp_width
   pub refused : (frame p : Bor (List ℕ)) → IsLamp frame p → (lamp_refusal frame.now ≡ 0 → ⊥) → p.now ≡ []

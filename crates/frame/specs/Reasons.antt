@@ -1,5 +1,5 @@
 -- What a byte string is: a frame, or refused for the first reason that holds.
-use Rattle.std.specs.Prelude.{ℕ, ◌+◌, Bool, true, false, cond, ◌&&◌, ◌||◌, List, [], ◌∷◌, leb, ltb, eqb, length, get_or, replicate}
+use Rattle.std.specs.Prelude.{ℕ, ◌+◌, Bool, true, false, cond, ◌&&◌, ◌||◌, Result, Ok, Err, List, [], ◌∷◌, leb, ltb, eqb, length, get_or, replicate}
 use Rattle.buffer.specs.Number.{number_of}
 use Rattle.model.specs.Messages.{kind_of}
 use Rattle.model.specs.declared.Kind.TheVariants.{Start}
@@ -8,9 +8,8 @@ use Rattle.frame.specs.Kinds.{has_lamp, map_of_kind, sense_bit, sense_of}
 use Rattle.frame.specs.Writing.{lamp_fits, gateways_agree, unless}
 use Rattle.frame.specs.declared.Sense.TheVariants.{Plain}
 use Rattle.frame.specs.declared.Frame.{Frame}
-use Rattle.frame.specs.declared.Form.{Form}
-use Rattle.frame.specs.declared.Form.TheVariants.{Good, TooShort, WrongMap, WrongLength, WrongSense, WrongLamp, WrongGateways, NotTaken}
-use Rattle.frame.specs.declared.Reading.{Reading}
+use Rattle.frame.specs.declared.forms.FormError.{FormError}
+use Rattle.frame.specs.declared.forms.FormError.TheVariants.{TooShort, WrongMap, WrongLength, WrongSense, WrongLamp, WrongGateways, NotTaken}
 use Rattle.frame.specs.declared.Fields.{Fields}
 
 -- a lamp's bytes; eighteen zeros where there is none
@@ -52,72 +51,46 @@ map_fits map kind = ltb kind 7 && (eqb map (map_of_kind kind) || (has_lamp kind 
 abbrev pub sense_fits : ℕ → ℕ → Bool
 sense_fits map sense = cond (leb sense_bit map) (leb 1 sense && leb sense 3) true
 
--- why fields are refused: the last three reasons, in this order, or Good
-unfoldable pub fields_form : ℕ → Fields → Form
+-- why fields are refused: the last three reasons, in this order; or else the frame with them
+unfoldable pub fields_reading : ℕ → Fields → Result Frame FormError
 unfolding lamp_fits
-fields_form map v =
+fields_reading map v =
     let m = (frame_of v).message in
-    unless (sense_fits map v.sense) WrongSense
-    (unless (lamp_fits m) WrongLamp
-    (unless (gateways_agree m.from m.to m.kind) WrongGateways
-    Good))
+    unless (sense_fits map v.sense) (Err WrongSense)
+    (unless (lamp_fits m) (Err WrongLamp)
+    (unless (gateways_agree m.from m.to m.kind) (Err WrongGateways)
+    (Ok (frame_of v))))
 
--- why a byte string is refused: the first reason in this order, or Good
-unfoldable pub form_of : List ℕ → Form
-unfolding map_fits fields_of fields_form whole_length
-form_of s =
+-- what reading a byte string gives: the first reason in this order, or the frame
+unfoldable pub reading : List ℕ → Result Frame FormError
+unfolding map_fits fields_of fields_reading whole_length
+reading s =
     let map = get_or s 0 0 in
-    unless (leb 2 (length s)) TooShort
-    (unless (map_fits map (get_or s 1 0)) WrongMap
-    (unless (eqb (length s) (whole_length map)) WrongLength
-    (fields_form map (fields_of s))))
+    unless (leb 2 (length s)) (Err TooShort)
+    (unless (map_fits map (get_or s 1 0)) (Err WrongMap)
+    (unless (eqb (length s) (whole_length map)) (Err WrongLength)
+    (fields_reading map (fields_of s))))
 
 -- what stands for the frame of a byte string that is refused
 abbrev pub blank_frame : Frame
 blank_frame = record { message = record { hour = 0; from = 0; to = 0; kind = Start; lamp = replicate lamp_width 0 }; sense = Plain }
 
--- a byte string that is refused for that reason
-abbrev pub refused_as : Form → Reading
-refused_as form = record { form = form; frame = blank_frame }
+-- the frame that was read
+abbrev pub frame_in : Result Frame FormError → Frame
+frame_in (Ok f) = f
+frame_in (Err reason) = blank_frame
 
--- a reading with that form; only a good one has the frame
-abbrev pub read_as : Form → Frame → Reading
-read_as Good f = record { form = Good; frame = f }
-read_as TooShort f = refused_as TooShort
-read_as WrongMap f = refused_as WrongMap
-read_as WrongLength f = refused_as WrongLength
-read_as WrongSense f = refused_as WrongSense
-read_as WrongLamp f = refused_as WrongLamp
-read_as WrongGateways f = refused_as WrongGateways
-read_as NotTaken f = refused_as NotTaken
+-- the frame of a byte string
+abbrev pub frame_read : List ℕ → Frame
+frame_read s = frame_in (reading s)
 
--- what reading a byte string gives
-unfoldable pub reading : List ℕ → Reading
-unfolding form_of fields_of
-reading s = read_as (form_of s) (frame_of (fields_of s))
-
--- there is no reason: it is a frame
-abbrev pub is_good : Form → Bool
-is_good Good = true
-is_good TooShort = false
-is_good WrongMap = false
-is_good WrongLength = false
-is_good WrongSense = false
-is_good WrongLamp = false
-is_good WrongGateways = false
-is_good NotTaken = false
-
--- in a call that takes such a frame or does not, the last reason is that this form is not taken
-abbrev pub form_where : Bool → Form → Form
-form_where taken form = unless (is_good form) form (unless taken NotTaken Good)
-
--- the first reason in a call that takes these frames only
-abbrev pub form_in : (Frame → Bool) → Reading → Form
-form_in taken r = form_where (taken r.frame) r.form
+-- what was read, in a call that takes these frames only: its last reason is that this form is not taken
+abbrev pub read_in : (Frame → Bool) → Result Frame FormError → Result Frame FormError
+read_in taken (Ok f) = unless (taken f) (Err NotTaken) (Ok f)
+read_in taken (Err reason) = Err reason
 
 -- the number of a reason: 11 length, 12 lamp, 1 map, kind, sense, gateway fields and a form not taken in this call
-abbrev pub form_number : Form → ℕ
-form_number Good = 0
+abbrev pub form_number : FormError → ℕ
 form_number TooShort = 11
 form_number WrongMap = 1
 form_number WrongLength = 11
@@ -126,6 +99,16 @@ form_number WrongLamp = 12
 form_number WrongGateways = 1
 form_number NotTaken = 1
 
+-- that of what was read: 0 where it is a frame
+abbrev pub read_number : Result Frame FormError → ℕ
+read_number (Ok f) = 0
+read_number (Err reason) = form_number reason
+
+-- what was read is refused with where frames are refused with these numbers, 0 for none: a reason comes first
+abbrev pub refusal_in : (Frame → ℕ) → Result Frame FormError → ℕ
+refusal_in refusal (Ok f) = refusal f
+refusal_in refusal (Err reason) = form_number reason
+
 -- what a byte string is refused with for its form, in whatever call, or 0
 abbrev pub form_refusal : List ℕ → ℕ
-form_refusal s = form_number (form_of s)
+form_refusal s = read_number (reading s)

@@ -1,5 +1,5 @@
 -- What a frame is written as, which values are frames, and what writing a value answers.
-use Rattle.std.specs.Prelude.{ℕ, Bool, true, false, cond, ◌&&◌, ◌||◌, List, [], ◌∷◌, leb, eqb, length}
+use Rattle.std.specs.Prelude.{ℕ, Bool, true, false, cond, ◌&&◌, ◌||◌, Result, Ok, Err, List, [], ◌∷◌, leb, eqb, length}
 use Rattle.lists.specs.Lists.{joined}
 use Rattle.buffer.specs.Slice.{write}
 use Rattle.buffer.specs.Number.{bytes_of}
@@ -10,8 +10,8 @@ use Rattle.model.specs.declared.Message.{Message}
 use Rattle.frame.specs.Layout.{gateway_width, standing}
 use Rattle.frame.specs.Kinds.{has_hour, has_lamp, map_of, sense_number}
 use Rattle.frame.specs.declared.Frame.{Frame}
-use Rattle.frame.specs.declared.WriteAnswer.{WriteAnswer}
-use Rattle.frame.specs.declared.WriteAnswer.TheVariants.{Written, NoFrame, WrongLamp, NoRoom}
+use Rattle.refusal.specs.Numbers.{number_in}
+use Rattle.refusal.specs.declared.Refusal.{Refusal}
 
 -- the bytes of every field, bit 0 first: kind, from, to, hour, origin, lamp, quantity, sense; numbers high byte first
 unfoldable pub contents : Frame → List (List ℕ)
@@ -89,29 +89,20 @@ value_refusal f =
     (unless (gateways_agree m.from m.to m.kind) 1
     0))
 
--- this paper's number of an answer: 1 no frame, 12 a wrong lamp, 5 no room
-abbrev pub answer_number : WriteAnswer → ℕ
-answer_number (Written count) = 0
-answer_number NoFrame = 1
-answer_number WrongLamp = 12
-answer_number NoRoom = 5
-
--- and its value: how many bytes were written
-abbrev pub answer_count : WriteAnswer → ℕ
-answer_count (Written count) = count
-answer_count NoFrame = 0
-answer_count WrongLamp = 0
-answer_count NoRoom = 0
-
 -- what writing a frame comes to: its number, the bytes written and the output afterwards
 pub record WriteOutcome : Type 0 where
   pub number : ℕ
   pub count : ℕ
   pub output : List ℕ
 
--- that of an answer
-abbrev pub outcome_of : WriteAnswer → List ℕ → WriteOutcome
-outcome_of answer output = record { number = answer_number answer; count = answer_count answer; output = output }
+-- how many bytes an answer says that it wrote: none where it is a refusal
+abbrev pub count_in : Result ℕ Refusal → ℕ
+count_in (Ok count) = count
+count_in (Err why) = 0
+
+-- what an answer comes to
+abbrev pub outcome_of : Result ℕ Refusal → List ℕ → WriteOutcome
+outcome_of answer output = record { number = number_in answer; count = count_in answer; output = output }
 
 -- nothing is written
 abbrev pub not_written : ℕ → List ℕ → WriteOutcome

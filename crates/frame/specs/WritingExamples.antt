@@ -1,15 +1,14 @@
 -- Examples of writing a frame, as one table: its number, how many bytes are written and the output afterwards; and of reading what stands
 -- at the ends of a lamp's bytes.
-use Rattle.std.specs.Prelude.{◌≡◌, ℕ, ◌-◌, List, [], ◌∷◌, ◌++◌, length, take, replicate}
+use Rattle.std.specs.Prelude.{◌≡◌, ℕ, ◌-◌, Ok, List, [], ◌∷◌, ◌++◌, length, take, replicate}
 use Rattle.model.specs.declared.Kind.{Kind}
 use Rattle.model.specs.declared.Kind.TheVariants.{Failure, Request, Restock, Start, Update}
 use Rattle.frame.specs.Layout.{lamp_width}
 use Rattle.frame.specs.Writing.{not_written, writing}
-use Rattle.frame.specs.Reasons.{form_refusal, read_as, reading}
+use Rattle.frame.specs.Reasons.{form_refusal, reading}
 use Rattle.frame.specs.declared.Sense.{Sense}
 use Rattle.frame.specs.declared.Sense.TheVariants.{Plain, Cancel}
 use Rattle.frame.specs.declared.Frame.{Frame}
-use Rattle.frame.specs.declared.Form.TheVariants.{Good}
 
 -- a lamp by its first and its last character, and what stands for the lamp of a kind that has none
 abbrev lamp : ℕ → ℕ → List ℕ
@@ -65,7 +64,7 @@ pub record WrittenNumbers : Type 0 where
   pub restock : WrittenAs (value (Restock 5) 0 0 7 none Plain) (79 ∷ 3 ∷ 0 ∷ 0 ∷ 0 ∷ 0 ∷ 0 ∷ 7 ∷ 0 ∷ 5 ∷ [])
   pub update : WrittenAs (value Update 0 1 7 none Plain) (15 ∷ 6 ∷ 0 ∷ 1 ∷ 0 ∷ 0 ∷ 0 ∷ 7 ∷ [])
   -- reading has the same ends: 33 and 126 are taken, 32 and 127 are 12
-  pub ends_read : reading (failure_bytes (lamp 33 126)) ≡ read_as Good (failure (lamp 33 126))
+  pub ends_read : reading (failure_bytes (lamp 33 126)) ≡ Ok (failure (lamp 33 126))
   pub below_read : form_refusal (failure_bytes (lamp 32 48)) ≡ 12
   pub above_read : form_refusal (failure_bytes (lamp 48 127)) ≡ 12
   -- a cut frame with a bad lamp: the length comes first

@@ -1,50 +1,53 @@
 // The reasons for which a byte string is refused, and the number of each.
 ghost use Rattle.std.specs.Prelude.{◌≡◌};
-ghost use Rattle.frame.specs.Reasons.{is_good, form_where, form_number};
+ghost use Rattle.refusal.specs.Numbers.{refusal_number};
+ghost use Rattle.frame.specs.Reasons.{form_number};
 
-use crate::Form;
+use crate::{Frame, Sense};
+use model::{Kind, Message};
+use refusal::Refusal;
 
-pub fn is_good(form: Form) -> bool
-    ensures { result ≡ is_good form }
-{
-    match form {
-        Form::Good => true,
-        Form::TooShort => false,
-        Form::WrongMap => false,
-        Form::WrongLength => false,
-        Form::WrongSense => false,
-        Form::WrongLamp => false,
-        Form::WrongGateways => false,
-        Form::NotTaken => false,
+// Why a byte string is no frame that a call takes. Reading knows of no call: the last reason is the call's.
+#[derive(Clone, Copy, PartialEq, Eq)]
+pub enum FormError {
+    TooShort,
+    WrongMap,
+    WrongLength,
+    WrongSense,
+    WrongLamp,
+    WrongGateways,
+    NotTaken,
+}
+
+impl FormError {
+    // The number with which a call refuses for that reason.
+    pub fn number(self) -> u8
+        ensures { result ≡ form_number self }
+    {
+        Refusal::from(self).number()
     }
 }
 
-// The number with which a call refuses for that reason, or 0. Asked in two steps: of one with eight answers the compiler makes a table
-// of branches in each call that asks.
-pub fn form_number(form: Form) -> u8
-    ensures { result ≡ form_number form }
-{
-    let other = match form {
-        Form::WrongLamp => 12,
-        _ => 1,
-    };
-    match form {
-        Form::Good => 0,
-        Form::TooShort => 11,
-        Form::WrongLength => 11,
-        _ => other,
+impl From<FormError> for Refusal {
+    ghost from_gives = { λ reason refusal. refusal_number refusal ≡ form_number reason };
+
+    fn from(reason: FormError) -> Refusal {
+        match reason {
+            FormError::TooShort | FormError::WrongLength => Refusal::WrongLength,
+            FormError::WrongLamp => Refusal::WrongLamp,
+            _ => Refusal::NoFrame,
+        }
     }
 }
 
-// The number of the first reason in a call that takes such a frame or does not, or 0.
-pub fn number_where(taken: bool, form: Form) -> u8
-    ensures { result ≡ form_number (form_where taken form) }
-{
-    if !is_good(form) {
-        return form_number(form);
-    }
-    if taken {
-        return 0;
-    }
-    form_number(Form::NotTaken)
-}
+// What stands for the frame of a byte string that is refused.
+pub const BLANK_FRAME: Frame = Frame {
+    message: Message {
+        hour: 0,
+        from: 0,
+        to: 0,
+        kind: Kind::Start,
+        lamp: [0; 18],
+    },
+    sense: Sense::Plain,
+};

@@ -36,32 +36,3 @@ pub struct Fields {
     pub quantity: u16,
     pub sense: u8,
 }
-
-// Whether a byte string is a frame that a call takes, or the first reason why not. Reading knows of no call: the last reason is the call's.
-#[derive(Clone, Copy)]
-pub enum Form {
-    Good,
-    TooShort,
-    WrongMap,
-    WrongLength,
-    WrongSense,
-    WrongLamp,
-    WrongGateways,
-    NotTaken,
-}
-
-// What reading a byte string gives. The frame counts only where the form is good.
-#[derive(Clone, Copy)]
-pub struct Reading {
-    pub form: Form,
-    pub frame: Frame,
-}
-
-// What writing a frame gives: how many bytes were written, or why nothing was.
-#[derive(Clone, Copy)]
-pub enum WriteAnswer {
-    Written(usize),
-    NoFrame,
-    WrongLamp,
-    NoRoom,
-}

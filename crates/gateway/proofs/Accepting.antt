@@ -10,22 +10,14 @@ use Rattle.model.specs.declared.Message.{Message}
 use Rattle.frame.specs.Claims.{RangedFrame}
 use Rattle.frame.specs.Kinds.{has_lamp}
 use Rattle.frame.specs.Limits.{addressee, numbers_below, hour_allowed, nothing_due, refusal, refusal_where}
-use Rattle.frame.specs.Reasons.{form_number}
 use Rattle.frame.specs.Writing.{well_formed}
 use Rattle.frame.specs.declared.Frame.{Frame}
-use Rattle.frame.specs.declared.Form.{Form}
-use Rattle.frame.specs.declared.Form.TheVariants.{Good as GoodForm}
-use Rattle.frame.proofs.FormNumbers.{good-number, good-form}
 use Rattle.frame.proofs.Turning.{refusal-few}
 use Rattle.frame.proofs.Presence.{lamp-kinds}
 use Rattle.memory.specs.Validity.{frame_if}
 use Rattle.memory.specs.declared.Settings.{Settings}
 use Rattle.lists.proofs.BoolLaws.{and_left, and_right}
 use Rattle.gateway.proofs.Replies.{Good}
-
--- only Good has the number 0
-pub form-good : (form : Form) → eqb (form_number form) 0 ≡ true → form ≡ GoodForm
-form-good form h = good-form form (good-number form ∙ h)
 
 -- a frame passes 2 and 3
 pub record Passes (s : Settings) (f : Frame) : Type 0 where

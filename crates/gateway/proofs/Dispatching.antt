@@ -15,12 +15,13 @@ use Rattle.model.specs.declared.Kind.{Kind}
 use Rattle.model.specs.declared.Kind.TheVariants.{Failure, Request, Delivery, Restock, Start, Lvt, Update}
 use Rattle.frame.specs.Limits.{refusal}
 use Rattle.frame.specs.Writing.{well_formed}
-use Rattle.frame.specs.Reasons.{reading, form_in, form_number}
+use Rattle.frame.specs.Reasons.{reading, form_number, read_in}
 use Rattle.frame.specs.declared.Frame.{Frame}
-use Rattle.frame.specs.declared.Reading.{Reading}
-use Rattle.frame.specs.declared.Form.TheVariants.{NotTaken}
+use Rattle.std.specs.Prelude.{Ok, Err}
+use Rattle.frame.specs.declared.forms.FormError.{FormError}
+use Rattle.frame.specs.declared.forms.FormError.TheVariants.{NotTaken}
 use Rattle.frame.specs.declared.Sense.TheVariants.{Plain, Cancel, Acknowledgment, CancelAcknowledgment}
-use Rattle.frame.proofs.FormNumbers.{form-passed}
+use Rattle.frame.proofs.FormNumbers.{number-some, taken-read}
 use Rattle.frame.proofs.Laws.{one-to-one}
 use Rattle.memory.specs.Codec.{decode}
 use Rattle.memory.specs.Inside.Fits.{MessageFits}
@@ -29,10 +30,10 @@ use Rattle.memory.specs.declared.Header.{Header}
 use Rattle.gateway.specs.Effects.{Outcome, refused, settled}
 use Rattle.gateway.specs.Taking.{take_plain, take_cancel, take_acknowledgment}
 use Rattle.gateway.specs.Rounds.{take_start, take_lvt, take_update}
-use Rattle.gateway.specs.Calls.{CallResult, leaving, unless_below, by_carrier, take_by_kind, take_frame, take_bytes, taken, on_sound}
+use Rattle.gateway.specs.Calls.{CallResult, leaving, unless_below, by_carrier, take_by_kind, take_for, take_frame, take_bytes, taken, on_sound}
 use Rattle.gateway.specs.Inside.Premises.{Known}
 use Rattle.gateway.specs.declared.Answer.{Answer}
-use Rattle.gateway.proofs.ReadMessages.{reading-fits}
+use Rattle.gateway.proofs.ReadMessages.{ranged-fits}
 use Rattle.gateway.proofs.Knowing.{agreed-is, settings-are}
 
 -- what a refusal with a number other than 0 leaves
@@ -134,37 +135,30 @@ module _ (m output : List ℕ) (x : Outcome) (g : Gateway) {number wanted : ℕ}
   pub number_passed : number ≡ 0 → {l : CallResult Answer} → l ≡ leaving x m output → l ≡ leaving (cond (eqb wanted 0) x (refused wanted g)) m output
   number_passed h p = p ∙ rw (← e, eq-eqb number 0 h)
 
--- a byte string by its reading
-module _ (m bytes output : List ℕ) (h : Header) (k : Known m h) {r : Reading} (e : r ≡ reading bytes) {number : ℕ}
-    (u : number ≡ form_number (form_in by_carrier r))
-  where
-    is_number : number ≡ form_number (form_in by_carrier (reading bytes))
-    is_number = u ∙ ap (λ (x : Reading). form_number (form_in by_carrier x)) e
+-- a byte string by what was read in this call
+module _ (m bytes output : List ℕ) (h : Header) (k : Known m h) where
+  pub form-refused : {reason : FormError} → Err reason ≡ read_in by_carrier (reading bytes) → {a : Answer} → (a.number ≡ form_number reason) × (a.written ≡ 0)
+      → record { answer = a; memory = m; output = output } ≡ leaving (take_bytes bytes (length output) (decode m)) m output
+  unfolding take_bytes
+  form-refused {reason} e p = leaves-refused m output (decode m) (form_number reason) (ne_eqb (form_number reason) 0 (number-some reason)) p ∙ rw (← e)
 
-    pub form-refused : (number ≡ 0 → ⊥) → {a : Answer} → (a.number ≡ number) × (a.written ≡ 0) → record { answer = a; memory = m; output = output } ≡
-        leaving (take_bytes bytes (length output) (decode m)) m output
-    unfolding take_bytes
-    form-refused n p = number-refused m output _ (decode m) is_number n p
-
-    pub form-taken : number ≡ 0 → {l : CallResult Answer}
-        → l ≡ leaving (cond (eqb (refusal r.frame h.settings.n h.settings.own h.settings.last) 0) (take_frame (length output)
-        r.frame (decode m)) (refused (refusal r.frame h.settings.n h.settings.own h.settings.last) (decode m))) m output
-        → l ≡ leaving (take_bytes bytes (length output) (decode m)) m output
-    unfolding take_bytes
-    form-taken n p = (p ∙ rw (e, settings-are m h k)) ∙ number_passed m output _ (decode m) is_number n refl
+  pub form-taken : {f : Frame} → Ok f ≡ read_in by_carrier (reading bytes) → {l : CallResult Answer}
+      → l ≡ leaving (take_for h.settings f (length output) (decode m)) m output → l ≡ leaving (take_bytes bytes (length output) (decode m)) m output
+  unfolding take_bytes
+  form-taken e p = p ∙ rw (← e, settings-are m h k)
 
 -- take is such a call
 pub take-call : (m bytes output : List ℕ) → on_sound (take_bytes bytes) m output ≡ taken m bytes output
 unfolding taken
 take-call m bytes output = refl
 
--- a message that was read fits its fields
-pub read_fits : (bytes : List ℕ) → Bytes bytes → {r : Reading} → r ≡ reading bytes → MessageFits r.frame.message
-read_fits bytes b e = rw e (reading-fits bytes b)
+-- the message of a frame that this call takes fits its fields, and the frame is well formed
+module _ (bytes : List ℕ) (b : Bytes bytes) {f : Frame} (e : Ok f ≡ read_in by_carrier (reading bytes)) where
+  is-read : reading bytes ≡ Ok f
+  is-read = taken-read by_carrier (reading bytes) (sym e)
 
--- and one that is taken is well formed
-pub read-formed : (bytes : List ℕ) → Bytes bytes → {r : Reading} → r ≡ reading bytes → {number : ℕ} → number ≡ form_number (form_in by_carrier r) → number ≡ 0
-    → well_formed r.frame ≡ true
-read-formed bytes b {r} e {number} u n =
-    let good = (form-passed by_carrier r (rw (← u) (eq-eqb number 0 n))).0 in
-    rw e (one-to-one.read_well_formed bytes b (rw e at good))
+  pub read_fits : MessageFits f.message
+  read_fits = ranged-fits f (one-to-one.read_ranged bytes b f is-read)
+
+  pub read-formed : well_formed f ≡ true
+  read-formed = one-to-one.read_well_formed bytes b f is-read

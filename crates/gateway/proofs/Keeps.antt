@@ -18,11 +18,12 @@ use Rattle.model.specs.declared.Message.{Message}
 use Rattle.model.specs.declared.Kind.{Kind}
 use Rattle.model.specs.declared.Kind.TheVariants.{Failure, Request, Delivery, Restock, Start, Lvt, Update}
 use Rattle.frame.proofs.Laws.{one-to-one}
-use Rattle.frame.specs.Reasons.{reading, form_in, form_number}
+use Rattle.std.specs.Prelude.{Result}
+use Rattle.frame.specs.Reasons.{reading, form_number, frame_read}
 use Rattle.frame.specs.Limits.{refusal}
 use Rattle.frame.specs.declared.Frame.{Frame}
-use Rattle.frame.specs.declared.Form.{Form}
-use Rattle.frame.specs.declared.Form.TheVariants.{NotTaken}
+use Rattle.frame.specs.declared.forms.FormError.{FormError}
+use Rattle.frame.specs.declared.forms.FormError.TheVariants.{NotTaken}
 use Rattle.frame.specs.declared.Sense.{Sense}
 use Rattle.frame.specs.declared.Sense.TheVariants.{Plain, Cancel, Acknowledgment, CancelAcknowledgment}
 use Rattle.memory.specs.Records.{Gateway}
@@ -37,7 +38,7 @@ use Rattle.gateway.specs.Taking.{take_plain, take_cancel, is_sent, take_acknowle
 use Rattle.gateway.specs.Working.{pending_of, done, Progress, none_done, once_more, worked_by, worked}
 use Rattle.gateway.specs.Rounds.{begun, is_idle, start, awaited, take_start, take_lvt, take_update}
 use Rattle.gateway.specs.Committing.{record_of, commit_oldest, commit}
-use Rattle.gateway.specs.Calls.{unless_below, by_carrier, take_by_kind, take_by_sense, take_frame, take_bytes}
+use Rattle.gateway.specs.Calls.{unless_below, by_carrier, take_by_kind, take_by_sense, take_frame, take_read, take_bytes}
 use Rattle.gateway.proofs.Searches.{pending-member}
 use Rattle.gateway.proofs.Replies.{Good}
 use Rattle.gateway.proofs.Maintaining.{Proper, Standing, standing, Kept, enough, Ends, below-ten, unchanged, refuse, with-agreed, with-outstanding, fitting, settle}
@@ -45,7 +46,7 @@ use Rattle.gateway.proofs.Queues.{leave-out}
 use Rattle.model.proofs.KindNumbers.{no-restock}
 use Rattle.gateway.proofs.Stocks.{stocks-part}
 use Rattle.gateway.proofs.Arrivals.{begun-stands, start-stands, lvt-stands}
-use Rattle.frame.proofs.FormNumbers.{number-sound, number_small, form-passed}
+use Rattle.frame.proofs.FormNumbers.{number-sound, number_small, Taking, takes, refuses as refuses_for, taking}
 use Rattle.gateway.proofs.Accepting.{Accepted, refusal-below, not-refused, accepted-good, cancel-kind}
 use Rattle.gateway.proofs.Takings.{plain-stands, cancel-stands, done-stands, queue-of, requeue}
 
@@ -58,8 +59,8 @@ module _ {g : Gateway} (p : Proper g) where
   refuses : (number : ℕ) → number < 10 → {b : Bool} → b ≡ false → Ends g.settings (refused number g)
   refuses number h e = refuse p number (below-ten h)
 
-  refuses-form : (form : Form) → {b : Bool} → b ≡ false → Ends g.settings (refused (form_number form) g)
-  refuses-form form e = refuse p (form_number form) (record { sound = number-sound form; small = number_small form })
+  refuses-form : (reason : FormError) → Ends g.settings (refused (form_number reason) g)
+  refuses-form reason = refuse p (form_number reason) (record { sound = number-sound reason; small = number_small reason })
 
   pub plain-keeps : (room : ℕ) (m : Message) → Good g.settings false m → m.to ≡ g.settings.own → quantity_of m.kind ≡ 0
       → Ends g.settings (settled room g (take_plain m g))
@@ -153,7 +154,7 @@ module _ {g : Gateway} (p : Proper g) where
       by-kind e (Failure origin) i = plain e (rw i (omega arith))
       by-kind e (Request origin) i = plain e (rw i (omega arith))
       by-kind e (Delivery origin) i = plain e (rw i (omega arith))
-      by-kind e (Restock quantity) i = refuses-form NotTaken {b = false} refl
+      by-kind e (Restock quantity) i = refuses-form NotTaken
       by-kind e Start i = take-start-keeps room f.message.from
       by-kind e Lvt i = below-keeps f.message.hour (take-lvt-keeps room f.message.from f.message.hour)
       by-kind e Update i = take-update-keeps room f.message.from f.message.hour (omega (arith, a.ranged.hour))
@@ -169,22 +170,21 @@ module _ {g : Gateway} (p : Proper g) where
   -- taking a byte string
   pub bytes-keep : (bytes : List ℕ) → Bytes bytes → (room : ℕ) → Ends g.settings (take_bytes bytes room g)
   unfolding take_bytes
-  bytes-keep bytes h room =
-      let r = reading bytes in
-      let s = g.settings in
-      let form = form_number (form_in by_carrier r) in
-      let number = refusal r.frame s.n s.own s.last in
-      either (eqb form 0)
-      (λ e.
-      let good = (form-passed by_carrier r e).0 in
-      either (eqb number 0)
-      (λ z. frame-keeps room r.frame (record {
-        form = one-to-one.read_well_formed bytes h good;
-        ranged = one-to-one.read_ranged bytes h good;
-        passes = not-refused s r.frame (eqb-true number 0 z);
-      }))
-      (refuses number (refusal-below r.frame s.n s.own s.last)))
-      (refuses-form (form_in by_carrier r))
+  bytes-keep bytes h room = by (taking by_carrier (reading bytes))
+    where
+      by : {q : Result Frame FormError} → Taking by_carrier (reading bytes) q → Ends g.settings (take_read q room g)
+      by (takes good kind) =
+          let f = frame_read bytes in
+          let s = g.settings in
+          let number = refusal f s.n s.own s.last in
+          either (eqb number 0)
+          (λ z. frame-keeps room f (record {
+            form = one-to-one.read_well_formed bytes h f good;
+            ranged = one-to-one.read_ranged bytes h f good;
+            passes = not-refused s f (eqb-true number 0 z);
+          }))
+          (refuses number (refusal-below f s.n s.own s.last))
+      by (refuses_for reason) = refuses-form reason
 
 -- how work ends, however many events it does
 pub record WorkEnds (s : Settings) (r : Progress) : Type 0 where

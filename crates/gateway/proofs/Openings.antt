@@ -21,7 +21,7 @@ use Rattle.frame.proofs.Laws.{one-to-one}
 use Rattle.frame.specs.Kinds.{sense_number}
 use Rattle.frame.specs.Layout.{whole_length}
 use Rattle.frame.specs.Limits.{refusal}
-use Rattle.frame.specs.Reasons.{reading, form_in, form_number}
+use Rattle.frame.specs.Reasons.{reading, frame_read, read_in, read_number}
 use Rattle.frame.specs.declared.Frame.{Frame}
 use Rattle.frame.specs.declared.Sense.{Sense}
 use Rattle.frame.specs.declared.Sense.TheVariants.{Plain, Cancel, Acknowledgment, CancelAcknowledgment}
@@ -44,7 +44,7 @@ use Rattle.frame.proofs.PieceBytes.{cut-bytes}
 use Rattle.gateway.proofs.Maintaining.{Kept, enough}
 use Rattle.gateway.proofs.Queues.{GoodQueue, pending-good, opening-enters, pending-not-processed}
 use Rattle.gateway.proofs.Stocks.{stocks-open}
-use Rattle.frame.proofs.FormNumbers.{form-passed}
+use Rattle.frame.proofs.FormNumbers.{refusal-passed}
 use Rattle.gateway.proofs.Accepting.{Accepted, Taken, not-refused, accepted-good}
 
 -- only a plain message has sense 0
@@ -63,27 +63,18 @@ few-kinds n = by-case (eqb n 0) refl
 
 -- an opening message
 module _ (s : Settings) where
-  opening-taken : (bytes : List ℕ) → Bytes bytes → opening_refusal s bytes ≡ 0 → Taken s false (reading bytes).frame.message
+  opening-taken : (bytes : List ℕ) → Bytes bytes → opening_refusal s bytes ≡ 0 → Taken s false (frame_read bytes).message
   unfolding opening_refusal
-  opening-taken bytes h = by-case (eqb (form_number (form_in may_open (reading bytes))) 0) refl
-    where
-      f : Frame
-      f = (reading bytes).frame
-
-      number : ℕ
-      number = form_number (form_in may_open (reading bytes))
-
-      by-case : (b : Bool) → eqb number 0 ≡ b → ◌≡◌ {A = ℕ} (cond b (refusal f s.n s.own s.last) number) 0 → Taken s false f.message
-      by-case true e z =
-          let (good, may) = form-passed may_open (reading bytes) e in
-          let plain = plain-sense f.sense (and_left (eqb (sense_number f.sense) 0) (eqb (kind_number f.message.kind) 0 || eqb
-          (kind_number f.message.kind) 3) may) in
-          accepted-good s false f.message
-          (few-kinds (kind_number f.message.kind) (and_right (eqb (sense_number f.sense) 0) (eqb (kind_number f.message.kind) 0 ||
-          eqb (kind_number f.message.kind) 3) may))
-          (subst (λ (t : Sense). Accepted s (record { message = f.message; sense = t })) plain
-          (record { form = one-to-one.read_well_formed bytes h good; ranged = one-to-one.read_ranged bytes h good; passes = not-refused s f z }))
-      by-case false e z = absurd (eqb-false number 0 e z)
+  opening-taken bytes h z =
+      let f = frame_read bytes in
+      let (good, may, passed) = refusal-passed may_open (λ (x : Frame). refusal x s.n s.own s.last) (reading bytes) z in
+      let plain = plain-sense f.sense (and_left (eqb (sense_number f.sense) 0) (eqb (kind_number f.message.kind) 0 || eqb
+      (kind_number f.message.kind) 3) may) in
+      accepted-good s false f.message
+      (few-kinds (kind_number f.message.kind) (and_right (eqb (sense_number f.sense) 0) (eqb (kind_number f.message.kind) 0 ||
+      eqb (kind_number f.message.kind) 3) may))
+      (subst (λ (t : Sense). Accepted s (record { message = f.message; sense = t })) plain
+      (record { form = one-to-one.read_well_formed bytes h f good; ranged = one-to-one.read_ranged bytes h f good; passes = not-refused s f passed }))
 
 -- the queue that the opening messages make
 pub length-entered : (m : Message) (e : Entry) (es : List Entry) → length (before_first (is_later m) es ++ (e ∷ from_first (is_later m) es)) ≡ suc (length es)
@@ -96,7 +87,7 @@ pub length-queued : (es : List Entry) (fs : List (List ℕ)) → length (queued 
 unfolding queued
 length-queued es [] = omega arith
 length-queued es (f ∷ fs) =
-    let m = (reading f).frame.message in
+    let m = (frame_read f).message in
     omega (arith, length-queued (before_first (is_later m) es ++ (pending_entry m ∷ from_first (is_later m) es)) fs, length-entered m (pending_entry m) es)
 
 pub record OpeningQueue (s : Settings) (es : List Entry) : Type 0 where
@@ -104,11 +95,11 @@ pub record OpeningQueue (s : Settings) (es : List Entry) : Type 0 where
   pub pending : (e : Entry) → e ∈ es → is_pending e ≡ true
 
 queued-good : {s : Settings} (es : List Entry) → GoodQueue s es → ((e : Entry) → e ∈ es → is_pending e ≡ true)
-    → (fs : List (List ℕ)) → ((f : List ℕ) → f ∈ fs → Taken s false (reading f).frame.message) → OpeningQueue s (queued es fs)
+    → (fs : List (List ℕ)) → ((f : List ℕ) → f ∈ fs → Taken s false (frame_read f).message) → OpeningQueue s (queued es fs)
 unfolding queued
 queued-good es q h [] t = record { good = q; pending = h }
 queued-good es q h (f ∷ fs) t =
-    let m = (reading f).frame.message in
+    let m = (frame_read f).message in
     let a = t f (here refl) in
     queued-good (before_first (is_later m) es ++ (pending_entry m ∷ from_first (is_later m) es))
     (opening-enters m es q (pending-good m a.here a.good) h)

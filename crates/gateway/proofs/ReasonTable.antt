@@ -8,7 +8,7 @@ use Rattle.model.specs.EventOrder.{key, compared}
 use Rattle.frame.specs.Layout.{standing, whole_length, cut}
 use Rattle.frame.specs.Kinds.{map_of_kind, has_hour, has_lamp, map_of}
 use Rattle.frame.specs.Writing.{contents, written, all_between, lamp_fits}
-use Rattle.frame.specs.Reasons.{values_of, fields_of, map_fits, fields_form, form_of, reading}
+use Rattle.frame.specs.Reasons.{values_of, fields_of, map_fits, fields_reading, reading}
 use Rattle.frame.specs.Limits.{refusal, refusal_where}
 use Rattle.memory.specs.Validity.{settings_valid, equal}
 use Rattle.memory.specs.Soundness.{sound}
@@ -22,7 +22,7 @@ use Rattle.gateway.specs.ReasonExamples.{FirstReasons}
 pub first-reasons : FirstReasons
 unfolding
     tally joined every any before_first from_first part write bytes_of number_from number_of key compared standing whole_length cut map_of_kind has_hour has_lamp map_of contents written
-    all_between lamp_fits values_of fields_of map_fits fields_form form_of reading refusal refusal_where settings_valid lead_times_valid equal sound fits settled processed_of
+    all_between lamp_fits values_of fields_of map_fits fields_reading reading refusal refusal_where settings_valid lead_times_valid equal sound fits settled processed_of
     undone restored sent_back rolled_back sent_all take_plain opening_valid cut_by opening_refusal first_number set_up_refusal on_sound take_frame take_bytes taken
 first-reasons =
     record {

@@ -23,7 +23,7 @@ use Rattle.model.specs.declared.State.{State}
 use Rattle.frame.specs.Layout.{standing, whole_length, cut}
 use Rattle.frame.specs.Kinds.{map_of_kind, has_hour, has_lamp, map_of}
 use Rattle.frame.specs.Writing.{contents, written, all_between, lamp_fits, well_formed}
-use Rattle.frame.specs.Reasons.{values_of, fields_of, map_fits, fields_form, form_of, reading}
+use Rattle.frame.specs.Reasons.{values_of, fields_of, map_fits, fields_reading, reading, frame_read}
 use Rattle.frame.specs.Limits.{refusal, refusal_where}
 use Rattle.frame.specs.declared.Frame.{Frame}
 use Rattle.memory.specs.Records.{Gateway}
@@ -71,7 +71,7 @@ frames-cut n = pieces-joined whole_length whole-some written (replicate n frame)
 frame-accepted : opening_refusal (settings_of (told 65535)) (written frame) ≡ 0
 unfolding
     opening_refusal tally joined every part bytes_of number_from number_of standing whole_length cut map_of_kind has_hour has_lamp map_of contents written all_between lamp_fits values_of
-    fields_of map_fits fields_form form_of reading refusal refusal_where
+    fields_of map_fits fields_reading reading refusal refusal_where
 frame-accepted = refl
 
 told-valid : opening_valid (told 65535) 33056 ≡ true
@@ -95,13 +95,13 @@ unfolding before_first from_first
 enters-last zero = refl
 enters-last (suc k) = rw (not-later-self one) (ap (◌∷◌ entry) (enters-last k))
 
-frame-read : (reading (written frame)).frame.message ≡ one
+frame-read : (frame_read (written frame)).message ≡ one
 unfolding
     tally joined every part bytes_of number_from number_of standing whole_length cut map_of_kind has_hour has_lamp map_of contents written all_between lamp_fits values_of fields_of map_fits
-    fields_form form_of reading
+    fields_reading reading
 frame-read = refl
 
-enters-next : (es : List Entry) (fs : List (List ℕ)) (f : List ℕ) (m : Message) → (reading f).frame.message ≡ m
+enters-next : (es : List Entry) (fs : List (List ℕ)) (f : List ℕ) (m : Message) → (frame_read f).message ≡ m
     → queued es (f ∷ fs) ≡ queued (before_first (is_later m) es ++ (pending_entry m ∷ from_first (is_later m) es)) fs
 unfolding queued
 enters-next es fs f m e = ap (λ (x : Message). queued (before_first (is_later x) es ++ (pending_entry x ∷ from_first (is_later x) es)) fs) e

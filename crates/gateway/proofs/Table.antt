@@ -12,7 +12,7 @@ use Rattle.model.specs.EventOrder.{key, compared}
 use Rattle.frame.specs.Layout.{standing, whole_length, cut}
 use Rattle.frame.specs.Kinds.{map_of_kind, has_hour, has_lamp, map_of}
 use Rattle.frame.specs.Writing.{contents, written, all_between, lamp_fits, well_formed}
-use Rattle.frame.specs.Reasons.{values_of, fields_of, map_fits, form_of, reading}
+use Rattle.frame.specs.Reasons.{values_of, fields_of, map_fits, fields_reading, reading}
 use Rattle.frame.specs.Limits.{refusal, refusal_where}
 use Rattle.memory.specs.Codec.{state_bytes}
 use Rattle.memory.specs.Validity.{settings_valid, round_possible, equal, later, ordered, processed_first, none_meet, storable, entry_valid, sent_valid}
@@ -30,7 +30,7 @@ pub starred : Starred
 unfolding
     gvtcfg widen share set_from set_to from to mid0 mid1 arcs arcs_of_first sum together children round_messages neighbours_of totals_of
     part write bytes_of number_from number_of state_bytes key compared standing tally joined whole_length cut map_of_kind has_hour has_lamp map_of contents written
-    all_between lamp_fits well_formed values_of fields_of map_fits form_of reading refusal refusal_where every settings_valid lead_times_valid round_possible equal later ordered
+    all_between lamp_fits well_formed values_of fields_of map_fits fields_reading reading refusal refusal_where every settings_valid lead_times_valid round_possible equal later ordered
     processed_first none_meet saved_stocks_bounded held_stock_bounded storable entry_valid sent_valid valid fits settled sent_all processed_of undone restored sent_back
     rolled_back any without_first before_last from_last take_cancel least_outstanding least_queued finished begun start bit_of all_bits
     one_start take_start one_lvt take_lvt take_update record_for commit opening_valid set_up_refusal set_up take_frame take_bytes round_of_two

@@ -10,7 +10,7 @@ use Rattle.model.specs.EventOrder.{key, compared}
 use Rattle.frame.specs.Layout.{standing, whole_length, cut}
 use Rattle.frame.specs.Kinds.{map_of_kind, has_hour, has_lamp, map_of}
 use Rattle.frame.specs.Writing.{contents, written, all_between, lamp_fits, well_formed}
-use Rattle.frame.specs.Reasons.{values_of, fields_of, map_fits, fields_form, form_of, reading}
+use Rattle.frame.specs.Reasons.{values_of, fields_of, map_fits, fields_reading, reading}
 use Rattle.frame.specs.Limits.{refusal, refusal_where}
 use Rattle.memory.specs.Codec.{entry_bytes, entry_of, sent_bytes, sent_of, state_bytes, state_with, decode, encode}
 use Rattle.memory.specs.Validity.{settings_valid, round_possible, equal, later, ordered, processed_first, none_meet, storable, entry_valid, sent_valid}
@@ -29,7 +29,7 @@ pub taking-examples : TakingExamples
 unfolding
     tally joined every any without_first before_first from_first before_last from_last part write bytes_of number_from number_of gvtcfg widen share set_from set_to
     from to mid0 mid1 children lead_times_valid sent key compared standing whole_length cut map_of_kind has_hour has_lamp map_of contents written all_between
-    lamp_fits well_formed values_of fields_of map_fits fields_form form_of reading refusal refusal_where state_bytes settings_valid round_possible equal later ordered
+    lamp_fits well_formed values_of fields_of map_fits fields_reading reading refusal refusal_where state_bytes settings_valid round_possible equal later ordered
     processed_first none_meet storable entry_valid sent_valid saved_stocks_bounded held_stock_bounded valid sound fits settled noted sent_one sent_all processed_of
     undone restored sent_back rolled_back take_plain take_cancel take_acknowledgment pending_of processed_next done worked least_outstanding least_queued finished
     begun start bit_of all_bits one_start take_start one_lvt take_lvt take_update record_for commit on_sound take_frame take_bytes started committed worked_off

@@ -1,14 +1,15 @@
 -- The calls on lent bytes: what each answers, the memory afterwards and the output afterwards, for every input.
 -- Demand 2: "every call does what document 01's rules say". The rules are the files before this one; the contract of each call is that it
 -- leaves what is defined here.
-use Rattle.std.specs.Prelude.{ℕ, Bool, true, false, cond, not, List, [], ltb, eqb, length}
+use Rattle.std.specs.Prelude.{ℕ, Bool, true, false, cond, not, Result, Ok, Err, List, [], ltb, eqb, length}
 use Rattle.buffer.specs.Slice.{write}
 use Rattle.model.specs.Messages.{kind_number}
 use Rattle.model.specs.declared.Message.{Message}
-use Rattle.frame.specs.Reasons.{reading, form_in, form_number}
+use Rattle.frame.specs.Reasons.{reading, read_in, form_number}
 use Rattle.frame.specs.Limits.{refusal}
 use Rattle.frame.specs.declared.Frame.{Frame}
-use Rattle.frame.specs.declared.Form.TheVariants.{NotTaken}
+use Rattle.frame.specs.declared.forms.FormError.{FormError}
+use Rattle.frame.specs.declared.forms.FormError.TheVariants.{NotTaken}
 use Rattle.frame.specs.declared.Sense.{Sense}
 use Rattle.frame.specs.declared.Sense.TheVariants.{Plain, Cancel, Acknowledgment, CancelAcknowledgment}
 use Rattle.model.specs.declared.Kind.{Kind}
@@ -96,13 +97,15 @@ take_for s f room g =
     let number = refusal f s.n s.own s.last in
     cond (eqb number 0) (take_frame room f g) (refused number g)
 
--- taking a byte string: the number of the first reason why it is no frame or is not taken in this call, then the rest
+-- taking what was read: the number of the reason, or the rest
+abbrev pub take_read : Result Frame FormError → ℕ → Gateway → Outcome
+take_read (Ok f) room g = take_for g.settings f room g
+take_read (Err reason) room g = refused (form_number reason) g
+
+-- taking a byte string: the first reason why it is no frame or is not taken in this call, then the rest
 unfoldable pub take_bytes : List ℕ → ℕ → Gateway → Outcome
 unfolding take_frame
-take_bytes bytes room g =
-    let r = reading bytes in
-    let number = form_number (form_in by_carrier r) in
-    cond (eqb number 0) (take_for g.settings r.frame room g) (refused number g)
+take_bytes bytes = take_read (read_in by_carrier (reading bytes))
 
 -- the calls
 unfoldable pub taken : List ℕ → List ℕ → List ℕ → CallResult Answer

@@ -4,7 +4,7 @@ use Rattle.model.specs.Messages.{kind_number}
 use Rattle.model.specs.Doing.{opening_state}
 use Rattle.frame.specs.Layout.{whole_length}
 use Rattle.frame.specs.Kinds.{sense_number}
-use Rattle.frame.specs.Reasons.{reading, form_in, form_number}
+use Rattle.frame.specs.Reasons.{reading, frame_read, read_in, refusal_in}
 use Rattle.frame.specs.Limits.{refusal}
 use Rattle.frame.specs.declared.Frame.{Frame}
 use Rattle.memory.specs.Layout.{size_for}
@@ -37,10 +37,7 @@ may_open f = eqb (sense_number f.sense) 0 && (eqb (kind_number f.message.kind) 0
 -- what a frame of the opening list is refused with, or 0: the number of the first reason why it is no frame or is not taken in
 -- a list, then 2, then 3. Both kinds have from = to, so that a frame addressed here is from here too
 unfoldable pub opening_refusal : Settings → List ℕ → ℕ
-opening_refusal s bytes =
-    let r = reading bytes in
-    let number = form_number (form_in may_open r) in
-    cond (eqb number 0) (refusal r.frame s.n s.own s.last) number
+opening_refusal s bytes = refusal_in (λ f. refusal f s.n s.own s.last) (read_in may_open (reading bytes))
 
 -- the first refusal among the frames, or 0
 abbrev pub first_refusal : Settings → List (List ℕ) → ℕ
@@ -50,7 +47,7 @@ first_refusal s fs = first_number (opening_refusal s) fs
 unfoldable pub queued : List Entry → List (List ℕ) → List Entry
 queued queue [] = queue
 queued queue (f ∷ fs) =
-    let m = (reading f).frame.message in
+    let m = (frame_read f).message in
     queued (before_first (is_later m) queue ++ (pending_entry m ∷ from_first (is_later m) queue)) fs
 
 -- the gateway just set up: the opening stock, the other counters 0, agreed time 0, no round

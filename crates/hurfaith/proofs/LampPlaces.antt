@@ -6,7 +6,7 @@ use native.Mathlib.Omega.{arith}
 use denote.Ref.{Bor}
 use Rattle.frame.specs.Reasons.{reading}
 use Rattle.frame.specs.Lamps.{lamp_place, lamp_form, lamp_start, lamp_refusal}
-use Rattle.frame.proofs.FormNumbers.{number_small}
+use Rattle.frame.proofs.FormNumbers.{read-small}
 use Rattle.frame.proofs.Accepted.{lamp-carried, lamp-not-carried}
 use Rattle.packing.specs.Packed.{packed}
 use Rattle.hurfaith.specs.Exported.{LampAnswer}
@@ -16,7 +16,7 @@ module _ (frame : Bor (List ℕ)) {number answer : ℕ} (n : number ≡ lamp_ref
   answered : (place : ℕ) → answer ≡ packed number place 0 → lamp_start (reading frame.now) ≡ place → LampAnswer frame answer
   unfolding packed
   answered place e s =
-      let small = number_small (lamp_form (reading frame.now)) in
+      let small = read-small (lamp_form (reading frame.now)) in
       let above : answer / 256 ≡ lamp_start (reading frame.now) = omega arith in
       record {
         equal = e ∙ ap (λ (x : ℕ). packed x place 0) n ∙ ap (λ (x : ℕ). packed (lamp_refusal frame.now) x 0) (sym s);

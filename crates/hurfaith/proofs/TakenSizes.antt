@@ -21,7 +21,9 @@ use Rattle.model.specs.declared.Message.{Message}
 use Rattle.model.specs.declared.Kind.{Kind}
 use Rattle.model.specs.declared.Kind.TheVariants.{Failure, Request, Delivery, Restock, Start, Lvt, Update}
 use Rattle.frame.proofs.Laws.{one-to-one}
-use Rattle.frame.specs.Reasons.{reading, form_in, form_number}
+use Rattle.std.specs.Prelude.{Result, Ok}
+use Rattle.frame.specs.Reasons.{reading, frame_read}
+use Rattle.frame.specs.declared.forms.FormError.{FormError}
 use Rattle.frame.specs.Limits.{refusal}
 use Rattle.frame.specs.declared.Frame.{Frame}
 use Rattle.frame.specs.declared.Sense.{Sense}
@@ -35,11 +37,11 @@ use Rattle.gateway.specs.Undoing.{processed_of, restored, sent_back, rolled_back
 use Rattle.lists.specs.Lists.{before_first, from_first}
 use Rattle.gateway.specs.Taking.{is_later, is_cancel_of, is_plain, is_sent, acknowledgment, take_plain, take_cancel, take_acknowledgment}
 use Rattle.gateway.specs.Rounds.{is_idle, bit_of, all_bits, awaited, value_in, one_start, take_start, one_lvt, take_lvt, take_update}
-use Rattle.gateway.specs.Calls.{unless_below, by_carrier, take_by_kind, take_by_sense, take_frame, take_bytes, taken}
+use Rattle.gateway.specs.Calls.{unless_below, by_carrier, take_by_kind, take_by_sense, take_frame, take_read, take_bytes, taken}
 use Rattle.gateway.proofs.Searches.{processed-member}
 use Rattle.gateway.proofs.Queues.{found-member}
 use Rattle.gateway.proofs.Replies.{Good, sent-good}
-use Rattle.frame.proofs.FormNumbers.{form-passed}
+use Rattle.frame.proofs.FormNumbers.{Taking, takes, refuses, taking}
 use Rattle.gateway.proofs.Accepting.{Accepted, not-refused, accepted-good, cancel-kind}
 use Rattle.gateway.proofs.Maintaining.{Proper, Standing, standing, fitting}
 use Rattle.gateway.proofs.Takings.{queue-of, plain-stands, cancel-stands}
@@ -190,30 +192,26 @@ module _ {g : Gateway} (p : Proper g) where
 
   take-bytes-small : (bytes : List ℕ) → Bytes bytes → (room : ℕ) → length (take_bytes bytes room g).output ≤ 14364
   unfolding take_bytes
-  take-bytes-small bytes h room = by (eqb form 0) refl
+  take-bytes-small bytes h room = by (taking by_carrier (reading bytes))
     where
       f : Frame
-      f = (reading bytes).frame
-
-      form : ℕ
-      form = form_number (form_in by_carrier (reading bytes))
+      f = frame_read bytes
 
       number : ℕ
       number = refusal f s.n s.own s.last
 
-      passed : eqb form 0 ≡ true → (b : Bool) → eqb number 0 ≡ b → length (cond b (take_frame room f g) (refused number g)).output ≤ 14364
-      passed e true z =
-          let good = (form-passed by_carrier (reading bytes) e).0 in
+      passed : reading bytes ≡ Ok f → (b : Bool) → eqb number 0 ≡ b → length (cond b (take_frame room f g) (refused number g)).output ≤ 14364
+      passed good true z =
           take-frame-small room f (record {
-            form = one-to-one.read_well_formed bytes h good;
-            ranged = one-to-one.read_ranged bytes h good;
+            form = one-to-one.read_well_formed bytes h f good;
+            ranged = one-to-one.read_ranged bytes h f good;
             passes = not-refused s f (eqb-true number 0 z);
           })
-      passed e false z = omega arith
+      passed good false z = omega arith
 
-      by : (b : Bool) → eqb form 0 ≡ b → length (cond b (cond (eqb number 0) (take_frame room f g) (refused number g)) (refused form g)).output ≤ 14364
-      by true e = passed e (eqb number 0) refl
-      by false e = omega arith
+      by : {q : Result Frame FormError} → Taking by_carrier (reading bytes) q → length (take_read q room g).output ≤ 14364
+      by (takes good kind) = passed good (eqb number 0) refl
+      by (refuses reason) = omega arith
 
 -- 28 for the acknowledgment and 28 × 512 for the cancels
 pub taken-small : (memory frame output : List ℕ) → Bytes memory → Bytes frame → (taken memory frame output).answer.written ≤ 14364

@@ -11,7 +11,7 @@ ghost use Rattle.hurfaith.specs.Exported.{packed_answer, packed_work, packed_tim
 use commit::commit;
 use frame::lamps::LAMP_PLACE;
 use gateway::Opening;
-use lamp::lamp_number;
+use lamp::lamp;
 use model::LeadTimes;
 use neighbours::neighbours_of;
 use opening::set_up::set_up;
@@ -145,11 +145,10 @@ pub extern "C" fn hurfaith_agreed_time(memory: &[u8]) -> u64
 pub extern "C" fn hurfaith_lamp(frame: &[u8]) -> u64
     ensures { LampAnswer frame.entry result }
 {
-    let number = lamp_number(frame);
-    if number != 0 {
-        return packed(number, 0, 0);
+    match lamp(frame) {
+        Ok(_) => packed(0, LAMP_PLACE, 0),
+        Err(reason) => packed(reason.number(), 0, 0),
     }
-    packed(number, LAMP_PLACE, 0)
 }
 
 // A reader's view of a record: the number, and the bytes written. Reader 0 is purchasing, 1 maintenance; old_stock is 1 for a record with

@@ -1,41 +1,30 @@
-// The lamp of a frame: the part that holds it, and beside it the number that says why there is none.
+// The lamp of a frame: the part that holds it, or why there is none.
 #![tactic(auto)]
 
-ghost use Rattle.std.specs.Prelude.{◌≡◌};
-ghost use Rattle.frame.specs.Reasons.{form_number};
-ghost use Rattle.frame.specs.Lamps.{lamp_form, IsLamp, lamp_refusal};
+ghost use Rattle.std.specs.Prelude.{◌≡◌, Err, MatchResult};
+ghost use Rattle.frame.specs.Reasons.{reading, form_number};
+ghost use Rattle.frame.specs.Lamps.{with_lamp, lamp_form, IsLamp, lamp_refusal};
 
-use frame::Reading;
-use frame::forms::number_where;
+use frame::Frame;
+use frame::forms::FormError;
 use frame::lamps::{LAMP_END, LAMP_PLACE};
 use frame::tables::has_lamp;
 use model::kind_number;
-use reader::read;
+use reader::read_where;
 
-// The eighteen bytes of a frame's lamp, as the part of the frame that holds them. The part is empty where `lamp_number` is not 0.
-pub fn lamp(frame: &[u8]) -> &[u8]
-    ensures { IsLamp frame.entry result }
+// The eighteen bytes of a frame's lamp, as the part of the frame that holds them, or the first reason why there are none: the last
+// is that the frame has no lamp.
+pub fn lamp(frame: &[u8]) -> Result<&[u8], FormError>
+    ensures { MatchResult result (λ part. IsLamp frame.entry part × (lamp_refusal frame.now ≡ 0))
+        (λ reason. lamp_form (reading frame.now) ≡ Err reason) }
 {
-    if lamp_number(frame) == 0 {
-        return &frame[LAMP_PLACE..LAMP_END];
-    }
-    &frame[0..0]
+    read_where(frame, with_lamp)?;
+    Ok(&frame[LAMP_PLACE..LAMP_END])
 }
 
-// What reading a frame's lamp is refused with, or 0.
-pub fn lamp_number(frame: &[u8]) -> u8
-    ensures { result ≡ lamp_refusal frame.now }
+// Whether a frame's kind has a lamp.
+fn with_lamp(frame: Frame) -> bool
+    ensures { result ≡ with_lamp frame }
 {
-    form_refusal(read(frame))
-}
-
-// The number of the first reason why there is no lamp to read, or 0; the last reason is that the frame has none.
-fn form_refusal(reading: Reading) -> u8
-    ensures { result ≡ form_number (lamp_form reading) }
-{
-    let form = reading.form;
-    let frame = reading.frame;
-    let message = frame.message;
-    let kind = message.kind;
-    number_where(has_lamp(kind_number(kind)), form)
+    has_lamp(kind_number(frame.message.kind))
 }

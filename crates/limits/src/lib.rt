@@ -3,35 +3,36 @@
 
 ghost use Rattle.std.specs.Prelude.{◌≡◌};
 ghost use Rattle.frame.specs.Limits.{refusal, refusal_where, numbers_below, addressee, hour_allowed};
+ghost use Rattle.refusal.specs.Numbers.{number_in};
 
 use frame::{Frame, Sense};
-use model::{Message, kind_number, origin_of};
+use model::{Kind, Message, origin_of};
+use refusal::Refusal;
 
-// 0, or the number with which the gateway own of n turns the frame down.
-pub fn check(frame: Frame, n: u16, own: u8, last: u32) -> u8
-    ensures { result ≡ refusal frame n own last }
+// The hour that means nothing due.
+const NOTHING_DUE: u32 = 4294967295;
+
+#[tactic(auto, unfolding(frame::specs::Limits::refusal))]
+// What the gateway own of n turns the frame down with.
+pub fn check(frame: Frame, n: u16, own: u8, last: u32) -> Result<(), Refusal>
+    ensures { number_in result ≡ refusal frame n own last }
 {
-    let message = frame.message;
-    let sense = frame.sense;
-    let here = addressed_to(sense, message) == own;
+    let here = addressed_to(frame.sense, frame.message) == own;
     check_where(here, frame, n, last)
 }
 
+#[tactic(auto, unfolding(frame::specs::Limits::refusal_where))]
 // The same, told whether the frame is addressed here.
-pub fn check_where(here: bool, frame: Frame, n: u16, last: u32) -> u8
-    ensures { result ≡ refusal_where here frame n last }
+pub fn check_where(here: bool, frame: Frame, n: u16, last: u32) -> Result<(), Refusal>
+    ensures { number_in result ≡ refusal_where here frame n last }
 {
-    let message = frame.message;
-    if !numbers_below(n, message) {
-        return 2;
+    if !(numbers_below(n, frame.message) && here) {
+        return Err(Refusal::WrongGateway);
     }
-    if !here {
-        return 2;
+    if !hour_allowed(last, frame.message) {
+        return Err(Refusal::PastLastHour);
     }
-    if !hour_allowed(last, message) {
-        return 3;
-    }
-    0
+    Ok(())
 }
 
 // An acknowledgment is addressed to from, every other frame to to.
@@ -39,36 +40,23 @@ pub fn addressed_to(sense: Sense, message: Message) -> u8
     ensures { result ≡ addressee sense message }
 {
     match sense {
-        Sense::Plain => message.to,
-        Sense::Cancel => message.to,
-        Sense::Acknowledgment => message.from,
-        Sense::CancelAcknowledgment => message.from,
+        Sense::Plain | Sense::Cancel => message.to,
+        Sense::Acknowledgment | Sense::CancelAcknowledgment => message.from,
     }
 }
 
 pub fn numbers_below(n: u16, message: Message) -> bool
     ensures { result ≡ numbers_below n message }
 {
-    let kind = message.kind;
-    if message.from as u16 >= n {
-        return false;
-    }
-    if message.to as u16 >= n {
-        return false;
-    }
-    (origin_of(kind) as u16) < n
+    u16::from(message.from) < n
+        && u16::from(message.to) < n
+        && u16::from(origin_of(message.kind)) < n
 }
 
 // Nothing due is allowed in Lvt and Update alone.
 fn hour_allowed(last: u32, message: Message) -> bool
     ensures { result ≡ hour_allowed last message }
 {
-    let kind = message.kind;
-    if message.hour <= last {
-        return true;
-    }
-    if kind_number(kind) < 5 {
-        return false;
-    }
-    message.hour == 4294967295
+    message.hour <= last
+        || (matches!(message.kind, Kind::Lvt | Kind::Update) && message.hour == NOTHING_DUE)
 }

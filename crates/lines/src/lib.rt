@@ -7,7 +7,6 @@ ghost use Rattle.gateway.specs.Examples.{town_hours};
 ghost use Rattle.lines.specs.Inside.Frames.{first_size, plain_frame};
 
 use entries::frame_if;
-use frame::WriteAnswer;
 use frame::tables::whole_length;
 use model::{LeadTimes, Message};
 use std::alloc::{AllocError, Global};
@@ -89,9 +88,7 @@ pub fn push_plain(frames: &mut Vec<u8>, message: Message) -> Result<(), AllocErr
 {
     let mut frame = [0u8; 28];
     match write(&mut frame, frame_if(false, message)) {
-        WriteAnswer::Written(count) => append(frames, &frame, count),
-        WriteAnswer::NoFrame => Ok(()),
-        WriteAnswer::WrongLamp => Ok(()),
-        WriteAnswer::NoRoom => Ok(()),
+        Ok(count) => append(frames, &frame, count),
+        Err(_) => Ok(()),
     }
 }

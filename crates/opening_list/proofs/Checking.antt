@@ -11,40 +11,9 @@ use Rattle.lists.specs.Inside.Pieces.{piece_end, is_refused}
 use Rattle.lists.proofs.PieceLaws.{pieces-all, Passing, Passed, passing-start, passing-end, passing-refused, passing-turn}
 use Rattle.frame.specs.Layout.{whole_length}
 use Rattle.frame.proofs.Sizes.{whole-some}
-use borrow.Author.Tests.{eq-eqb, ne_eqb}
-use Rattle.model.specs.Messages.{kind_number}
-use Rattle.frame.specs.Kinds.{sense_number}
-use Rattle.frame.specs.Limits.{refusal}
-use Rattle.frame.specs.Reasons.{reading, form_in, form_number}
-use Rattle.frame.specs.declared.Frame.{Frame}
-use Rattle.frame.specs.declared.Reading.{Reading}
 use Rattle.memory.specs.declared.Settings.{Settings}
 use Rattle.gateway.specs.SettingUp.{cut_frames, may_open, opening_refusal}
 use Rattle.opening_list.specs.Inside.Frames.{frames_from, checked_as}
-
--- whether a frame may stand in the list
-module _ (f : Frame) {sense : ℕ} (e : sense ≡ sense_number f.sense) where
-  pub has-sense : (sense ≡ 0 → ⊥) → false ≡ may_open f
-  has-sense d = rw (ne_eqb (sense_number f.sense) 0 (λ p. d (e ∙ p)))
-
-  module _ (d : sense ≡ 0) {number : ℕ} (k : number ≡ kind_number f.message.kind) where
-    pub is-failure : number ≡ 0 → true ≡ may_open f
-    is-failure h = rw (eq-eqb (sense_number f.sense) 0 (sym e ∙ d), eq-eqb (kind_number f.message.kind) 0 (sym k ∙ h))
-
-    pub is-restock : (number ≡ 0 → ⊥) → eqb number 3 ≡ may_open f
-    is-restock h = rw (eq-eqb (sense_number f.sense) 0 (sym e ∙ d), ne_eqb (kind_number f.message.kind) 0 (λ p. h (k ∙ p)), k)
-
-module _ (s : Settings) (bytes : List ℕ) {r : Reading} (e : r ≡ reading bytes) {form : ℕ} (f : form ≡ form_number (form_in may_open r)) where
-  is-form : form ≡ form_number (form_in may_open (reading bytes))
-  is-form = f ∙ ap (λ (x : Reading). form_number (form_in may_open x)) e
-
-  pub form-refused : (form ≡ 0 → ⊥) → form ≡ opening_refusal s bytes
-  unfolding opening_refusal
-  form-refused h = rw (← is-form, ne_eqb form 0 h)
-
-  pub frame-checked : {number : ℕ} → form ≡ 0 → number ≡ refusal r.frame s.n s.own s.last → number ≡ opening_refusal s bytes
-  unfolding opening_refusal
-  frame-checked h n = n ∙ ap (λ (x : Reading). refusal x.frame s.n s.own s.last) e ∙ rw (← is-form, eq-eqb form 0 h)
 
 pub frames-all : (list : List ℕ) → frames_from list 0 ≡ cut_frames (length list) list
 frames-all list = pieces-all whole_length whole-some list

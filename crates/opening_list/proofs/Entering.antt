@@ -13,8 +13,8 @@ use Rattle.lists.proofs.ListLaws.{all_map, all_append, all_left, all_right}
 use Rattle.buffer.specs.Slice.{Bytes, part, write}
 use Rattle.buffer.proofs.Writes.{length-write, write-nil}
 use Rattle.model.specs.declared.Message.{Message}
-use Rattle.frame.specs.Reasons.{reading}
-use Rattle.frame.specs.declared.Reading.{Reading}
+use Rattle.frame.specs.Reasons.{frame_read}
+use Rattle.frame.specs.declared.Frame.{Frame}
 use Rattle.memory.specs.Layout.{header_size, queue_at, queue_size}
 use Rattle.memory.specs.Codec.{entry_bytes, entry_of}
 use Rattle.memory.specs.Inside.Fits.{MessageFits, EntryFits}
@@ -144,13 +144,13 @@ module _ (before list memory : List ℕ) (count at : ℕ) (p : Entering before l
     pub enter-room : queue_at count + queue_size ≤ length before
     enter-room = omega (arith, here-length, p.counted)
 
-    pub enter-turn : Bytes list → {r : Reading} → r ≡ reading (take (end - at) (drop at list)) → {after : List ℕ} → after ≡ memory_entered
-        count r.frame.message memory
+    pub enter-turn : Bytes list → {f : Frame} → f ≡ frame_read (take (end - at) (drop at list)) → {after : List ℕ} → after ≡ memory_entered
+        count f.message memory
         → Entering before list after (count + 1) end
     unfolding queued part
-    enter-turn bytes {r} q {after} a =
+    enter-turn bytes {f = x} q {after} a =
         let b = end-between whole_length whole-some list at h e in
-        let m = r.frame.message in
+        let m = x.message in
         let f : MessageFits m = rw q (reading-fits (part list at (end - at)) (bytes-part list at (end - at) bytes)) in
         let space : queue_at (length p.entries) + queue_size ≤ length before = omega (arith, enter-room, p.few) in
         record {

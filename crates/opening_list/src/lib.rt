@@ -6,20 +6,20 @@ ghost use Rattle.memory.specs.Layout.{header_size, queue_size, queue_at};
 ghost use Rattle.lists.specs.Lists.{joined};
 ghost use Rattle.buffer.specs.Slice.{write};
 ghost use Rattle.memory.specs.Codec.{entry_bytes};
-ghost use Rattle.frame.specs.Reasons.{form_in, form_number};
+ghost use Rattle.refusal.specs.Numbers.{number_in};
 ghost use Rattle.gateway.specs.SettingUp.{may_open, opening_refusal, queued};
 ghost use Rattle.opening_list.specs.Inside.Frames.{frames_from, checked_as, memory_entered};
 
 use effects::insert::{insert_place, unprocessed};
-use frame::forms::number_where;
+use frame::forms::BLANK_FRAME;
 use frame::pieces::frame_end;
-use frame::tables::sense_number;
-use frame::{Frame, Reading};
+use frame::{Frame, Sense};
 use limits::check;
 use memory::{Mark, Settings};
-use model::{Message, kind_number};
+use model::{Kind, Message};
 use places::search::place_for;
-use reader::read;
+use reader::{read, read_where};
+use refusal::Refusal;
 
 // What the pass over the opening list finds: the first refusal, or 0, and how many frames stand before it or in all.
 #[derive(Clone, Copy)]
@@ -32,43 +32,19 @@ pub struct Checked {
 fn may_open(frame: Frame) -> bool
     ensures { result ≡ may_open frame }
 {
-    let sense = frame.sense;
-    let message = frame.message;
-    let kind = message.kind;
-    if sense_number(sense) != 0 {
-        return false;
-    }
-    let number = kind_number(kind);
-    if number == 0 {
-        return true;
-    }
-    number == 3
+    matches!(frame.sense, Sense::Plain)
+        && matches!(
+            frame.message.kind,
+            Kind::Failure { .. } | Kind::Restock { .. }
+        )
 }
 
-// What a frame of the list is refused with, or 0.
-fn opening_refusal(bytes: &[u8], settings: Settings) -> u8
-    ensures { result ≡ opening_refusal settings bytes.now }
+// What a frame of the list is refused with.
+fn opening_refusal(bytes: &[u8], settings: Settings) -> Result<(), Refusal>
+    ensures { number_in result ≡ opening_refusal settings bytes.now }
 {
-    let reading = read(bytes);
-    let number = form_refusal(reading);
-    if number != 0 {
-        return number;
-    }
-    check(
-        reading.frame,
-        settings.n as u16,
-        settings.own,
-        settings.last,
-    )
-}
-
-// The number of the first reason why a list does not hold what was read, or 0.
-fn form_refusal(reading: Reading) -> u8
-    ensures { result ≡ form_number (form_in may_open reading) }
-{
-    let form = reading.form;
-    let frame = reading.frame;
-    number_where(may_open(frame), form)
+    let frame = read_where(bytes, may_open)?;
+    check(frame, settings.n as u16, settings.own, settings.last)
 }
 
 // One pass: the first refusal, and the number of frames before it or in all.
@@ -79,9 +55,14 @@ pub fn check_list(list: &[u8], settings: Settings) -> Checked
     let mut at = 0;
     while at < list.len() {
         let end = frame_end(list, at);
-        let number = opening_refusal(&list[at..end], settings);
-        if number != 0 {
-            return Checked { number, count };
+        match opening_refusal(&list[at..end], settings) {
+            Ok(()) => {}
+            Err(refusal) => {
+                return Checked {
+                    number: refusal.number(),
+                    count,
+                };
+            }
         }
         at = end;
         count += 1;
@@ -89,7 +70,8 @@ pub fn check_list(list: &[u8], settings: Settings) -> Checked
     Checked { number: 0, count }
 }
 
-// Puts each message of the list into its queue place, behind those that are not later.
+// Puts each message of the list into its queue place, behind those that are not later. A blank frame stands for one that is none: there
+// is none in a list that was checked.
 pub fn enter_list(memory: &mut [u8], list: &[u8])
     requires { queue_at (length (frames_from list.now 0)) ≤ length memory.old }
     ensures { memory.new ≡ write header_size (joined entry_bytes (queued [] (frames_from list.now 0))) memory.old }
@@ -98,10 +80,8 @@ pub fn enter_list(memory: &mut [u8], list: &[u8])
     let mut at = 0;
     while at < list.len() {
         let end = frame_end(list, at);
-        let reading = read(&list[at..end]);
-        let frame = reading.frame;
-        let message = frame.message;
-        enter(memory, count, message);
+        let frame = read(&list[at..end]).unwrap_or(BLANK_FRAME);
+        enter(memory, count, frame.message);
         at = end;
         count += 1;
     }

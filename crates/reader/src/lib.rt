@@ -1,58 +1,70 @@
 // What a byte string is: a frame, or refused for the first reason that holds.
 #![tactic(auto)]
 
-ghost use Rattle.std.specs.Prelude.{◌≡◌, ◌+◌, ◌<◌, ◌≤◌, length, get_or};
+ghost use Rattle.std.specs.Prelude.{◌≡◌, Bool, ◌+◌, ◌<◌, ◌≤◌, length, get_or};
 ghost use Rattle.buffer.specs.Slice.{part};
 ghost use Rattle.buffer.specs.Number.{number_of};
 ghost use Rattle.frame.specs.Layout.{widths, whole_length};
-ghost use Rattle.frame.specs.Reasons.{reading, read_as, refused_as, fields_form, fields_of, frame_of, form_number, form_refusal};
+ghost use Rattle.frame.specs.Reasons.{reading, read_in, fields_reading, fields_of, frame_of};
 ghost use Rattle.frame.specs.Inside.Steps.{stored, no_fields};
 
 use buffer::{read16, read32};
+use frame::forms::FormError;
 use frame::lamps::read_lamp;
 use frame::tables::{sense_of, whole_length, width_of};
-use frame::{Fields, Form, Frame, Reading, Sense};
-use model::{Kind, Message, kind_of};
+use frame::{Fields, Frame};
+use model::{Message, kind_of};
 use rules::{gateways_agree, lamp_fits, map_fits, sense_fits};
 
-// Reads a byte string. The number of its form is what it is refused with, or 0.
-pub fn read(bytes: &[u8]) -> Reading
-    ensures { (result ≡ reading bytes.now) × (form_number result.form ≡ form_refusal bytes.now) }
+// Reads a byte string.
+pub fn read(bytes: &[u8]) -> Result<Frame, FormError>
+    ensures { result ≡ reading bytes.now }
 {
     if bytes.len() < 2 {
-        return refused(Form::TooShort);
+        return Err(FormError::TooShort);
     }
     let map = bytes[0];
     let kind = bytes[1];
     if !map_fits(map, kind) {
-        return refused(Form::WrongMap);
+        return Err(FormError::WrongMap);
     }
     if bytes.len() != whole_length(map) {
-        return refused(Form::WrongLength);
+        return Err(FormError::WrongLength);
     }
     judge(map, walk(bytes, map))
 }
 
+// Reads a byte string in a call that takes only some frames, as a test of them says.
+pub fn read_where<F: Fn(Frame) -> bool>(bytes: &[u8], taken: F) -> Result<Frame, FormError>
+    requires { F.IsAlwaysCallable taken }
+    ensures { (is_taken : Frame → Bool)
+        → ((f : Frame) (b : Bool) → F.post taken f b → b ≡ is_taken f)
+        → result ≡ read_in is_taken (reading bytes.now) }
+{
+    let frame = read(bytes)?;
+    if taken(frame) {
+        Ok(frame)
+    } else {
+        Err(FormError::NotTaken)
+    }
+}
+
 // The last three reasons.
-fn judge(map: u8, fields: Fields) -> Reading
-    ensures { result ≡ read_as (fields_form map fields) (frame_of fields) }
+fn judge(map: u8, fields: Fields) -> Result<Frame, FormError>
+    ensures { result ≡ fields_reading map fields }
 {
     if !sense_fits(map, fields.sense) {
-        return refused(Form::WrongSense);
+        return Err(FormError::WrongSense);
     }
     let frame = frame_of(fields);
     let message = frame.message;
     if !lamp_fits(message) {
-        return refused(Form::WrongLamp);
+        return Err(FormError::WrongLamp);
     }
-    let kind = message.kind;
-    if !gateways_agree(message.from, message.to, kind) {
-        return refused(Form::WrongGateways);
+    if !gateways_agree(message.from, message.to, message.kind) {
+        return Err(FormError::WrongGateways);
     }
-    Reading {
-        form: Form::Good,
-        frame,
-    }
+    Ok(frame)
 }
 
 // Reads as many fields as the map has one bits, in bit order.
@@ -136,23 +148,4 @@ fn frame_of(fields: Fields) -> Frame
     };
     let sense = sense_of(fields.sense);
     Frame { message, sense }
-}
-
-fn refused(form: Form) -> Reading
-    ensures { result ≡ refused_as form }
-{
-    let message = Message {
-        hour: 0,
-        from: 0,
-        to: 0,
-        kind: Kind::Start,
-        lamp: [0; 18],
-    };
-    Reading {
-        form,
-        frame: Frame {
-            message,
-            sense: Sense::Plain,
-        },
-    }
 }

@@ -1,15 +1,14 @@
 -- Why a byte string is refused, in words, as the program frames prints it.
-use Rattle.std.specs.Prelude.{ℕ, List, [], ◌++◌}
+use Rattle.std.specs.Prelude.{ℕ, List, ◌++◌}
 use Rattle.text.specs.Decimal.{field}
 use Rattle.text.specs.Letters.{codes}
 use Rattle.frame.specs.Reasons.{form_number}
-use Rattle.frame.specs.declared.Form.{Form}
-use Rattle.frame.specs.declared.Form.TheVariants.{Good, TooShort, WrongMap, WrongLength, WrongSense, WrongLamp, WrongGateways, NotTaken}
+use Rattle.frame.specs.declared.forms.FormError.{FormError}
+use Rattle.frame.specs.declared.forms.FormError.TheVariants.{TooShort, WrongMap, WrongLength, WrongSense, WrongLamp, WrongGateways, NotTaken}
 
 -- a reason in words
-abbrev pub reason_text : Form → List ℕ
+abbrev pub reason_text : FormError → List ℕ
 unfolding codes
-reason_text Good = []
 reason_text TooShort = codes "length: fewer than two bytes"
 reason_text WrongMap = codes "map and kind: not in the table of kinds"
 reason_text WrongLength = codes "length: not that of the map"
@@ -19,8 +18,8 @@ reason_text WrongGateways = codes "gateway fields: they do not agree"
 reason_text NotTaken = codes "form: not taken in this call"
 
 -- what is refused: its number and the reason
-unfoldable pub refused_text : Form → List ℕ
-refused_text form = field (form_number form) ++ reason_text form
+unfoldable pub refused_text : FormError → List ℕ
+refused_text reason = field (form_number reason) ++ reason_text reason
 
 -- why an item that the input cuts is refused, whatever its bytes are
 abbrev pub cut_reason : List ℕ

@@ -1,22 +1,21 @@
 // Why a byte string is refused, in words: the number of a reason and the reason.
 #![tactic(auto)]
 
-ghost use Rattle.std.specs.Prelude.{◌+◌, ◌≤◌, length};
+ghost use Rattle.std.specs.Prelude.{◌≡◌, ◌+◌, ◌≤◌, length};
 ghost use Rattle.buffer.specs.Slice.{Puts};
 ghost use Rattle.reasons.specs.Words.{reason_text, refused_text, cut_text};
 
 use buffer::copy;
-use frame::Form;
-use frame::forms::form_number;
+use frame::forms::FormError;
 use text::put_field;
 
 // Puts the number of a reason and the reason in words, and answers the position behind them.
-pub fn put_refused(out: &mut [u8], at: usize, form: Form) -> usize
+pub fn put_refused(out: &mut [u8], at: usize, reason: FormError) -> usize
     requires { at + 61 ≤ length out.old }
-    ensures { (Puts at (refused_text form) out.old out.new result) × (result ≤ at + 61) }
+    ensures { (Puts at (refused_text reason) out.old out.new result) × (result ≤ at + 61) }
 {
-    let behind_number = put_field(out, at, form_number(form) as u32);
-    put_reason(out, behind_number, form)
+    let behind_number = put_field(out, at, u32::from(reason.number()));
+    put_words(out, behind_number, words_of(reason))
 }
 
 // Puts what is said of an item that the input cuts.
@@ -24,7 +23,7 @@ pub fn put_cut(out: &mut [u8], at: usize) -> usize
     requires { at + 61 ≤ length out.old }
     ensures { (Puts at cut_text out.old out.new result) × (result ≤ at + 61) }
 {
-    let behind_number = put_field(out, at, form_number(Form::WrongLength) as u32);
+    let behind_number = put_field(out, at, u32::from(FormError::WrongLength.number()));
     put_words(
         out,
         behind_number,
@@ -32,19 +31,20 @@ pub fn put_cut(out: &mut [u8], at: usize) -> usize
     )
 }
 
-fn put_reason(out: &mut [u8], at: usize, form: Form) -> usize
-    requires { at + 50 ≤ length out.old }
-    ensures { (Puts at (reason_text form) out.old out.new result) × (result ≤ at + 50) }
+#[tactic(auto, unfolding(text::specs::Letters::codes))]
+// A reason in words.
+fn words_of(reason: FormError) -> &'static [u8]
+    ensures words { result.now ≡ reason_text reason }
+    ensures short { length result.now ≤ 50 }
 {
-    match form {
-        Form::Good => at,
-        Form::TooShort => put_words(out, at, b"length: fewer than two bytes"),
-        Form::WrongMap => put_words(out, at, b"map and kind: not in the table of kinds"),
-        Form::WrongLength => put_words(out, at, b"length: not that of the map"),
-        Form::WrongSense => put_words(out, at, b"sense: not 1 to 3"),
-        Form::WrongLamp => put_words(out, at, b"lamp: a byte outside 33 to 126"),
-        Form::WrongGateways => put_words(out, at, b"gateway fields: they do not agree"),
-        Form::NotTaken => put_words(out, at, b"form: not taken in this call"),
+    match reason {
+        FormError::TooShort => b"length: fewer than two bytes",
+        FormError::WrongMap => b"map and kind: not in the table of kinds",
+        FormError::WrongLength => b"length: not that of the map",
+        FormError::WrongSense => b"sense: not 1 to 3",
+        FormError::WrongLamp => b"lamp: a byte outside 33 to 126",
+        FormError::WrongGateways => b"gateway fields: they do not agree",
+        FormError::NotTaken => b"form: not taken in this call",
     }
 }
 

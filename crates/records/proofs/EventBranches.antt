@@ -14,12 +14,9 @@ use Rattle.buffer.specs.Slice.{part}
 use Rattle.buffer.proofs.Readings.{get_d_part}
 use Rattle.model.specs.Messages.{kind_number}
 use Rattle.frame.specs.Layout.{whole_length}
-use Rattle.frame.specs.Limits.{numbers_below, hour_allowed, refusal_where}
-use Rattle.frame.specs.Reasons.{reading, form_in, form_number}
+use Rattle.frame.specs.Limits.{refusal_where}
+use Rattle.frame.specs.Reasons.{reading, frame_read}
 use Rattle.frame.specs.declared.Frame.{Frame}
-use Rattle.frame.specs.declared.Reading.{Reading}
-use Rattle.frame.specs.declared.Form.{Form}
-use Rattle.frame.specs.declared.Form.TheVariants.{Good, TooShort, WrongMap, WrongLength, WrongSense, WrongLamp, WrongGateways, NotTaken}
 use Rattle.frame.proofs.Sizes.{whole-some}
 use Rattle.memory.specs.Layout.{state_size}
 use Rattle.records.specs.Events.{most_gateways, latest_hour, state_size_of, event_length, frame_in, state_in, is_event, frame_refusal, event_refusal, event_of}
@@ -29,34 +26,6 @@ use Rattle.records.specs.declared.StockField.{StockField}
 -- every event has a byte
 pub event-some : (field : StockField) (map : ℕ) → 1 ≤ event_length field map
 event-some field map = omega (arith, whole-some map)
-
-module _ (r : Reading) {form : ℕ} (f : form ≡ form_number (form_in is_event r)) where
-  pub form-refused : (form ≡ 0 → ⊥) → form ≡ frame_refusal r
-  unfolding frame_refusal
-  form-refused h = rw (← f, ne_eqb form 0 h)
-
-  pub frame-checked : {number : ℕ} → form ≡ 0 → number ≡ refusal_where true r.frame most_gateways latest_hour → number ≡ frame_refusal r
-  unfolding frame_refusal
-  frame-checked h n = n ∙ rw (← f, eq-eqb form 0 h)
-
--- the last number that a frame is refused with
-pub lamp-number : (r : Reading) {number : ℕ} → number ≡ frame_refusal r → (number ≡ 0 → ⊥) → (number ≡ 1 → ⊥) → (number ≡ 2 → ⊥) → (number ≡ 3 → ⊥)
-    → (number ≡ 11 → ⊥) → 12 ≡ frame_refusal r
-unfolding frame_refusal refusal_where
-lamp-number r {number} e a b c d f = by (form_in is_event r) (numbers_below most_gateways r.frame.message) (hour_allowed latest_hour r.frame.message) e
-  where
-    by : (form : Form) (below allowed : Bool) → number ≡ cond (eqb (form_number form) 0) (cond (below && true) (cond allowed 0 3) 2) (form_number form)
-        → 12 ≡ cond (eqb (form_number form) 0) (cond (below && true) (cond allowed 0 3) 2) (form_number form)
-    by Good true true e = absurd (a e)
-    by Good true false e = absurd (d e)
-    by Good false allowed e = absurd (c e)
-    by TooShort below allowed e = absurd (f e)
-    by WrongMap below allowed e = absurd (b e)
-    by WrongLength below allowed e = absurd (f e)
-    by WrongSense below allowed e = absurd (b e)
-    by WrongLamp below allowed e = refl
-    by WrongGateways below allowed e = absurd (b e)
-    by NotTaken below allowed e = absurd (b e)
 
 -- the event at a position
 module _ (field : StockField) (bytes : List ℕ) (at : ℕ) (inside : at < length bytes) where
@@ -112,10 +81,10 @@ module _ (field : StockField) (bytes : List ℕ) (at : ℕ) (inside : at < lengt
               rw (← frame-number, eq-eqb number 0 z, le-leb (state_size_of field) (length (state_in field s)) whole)
 
           -- and so found
-          pub at-found : {frame : Frame} {kind : ℕ} → frame ≡ (reading (take (end - at) (drop at bytes))).frame → kind ≡ kind_number frame.message.kind
+          pub at-found : {frame : Frame} {kind : ℕ} → frame ≡ frame_read (take (end - at) (drop at bytes)) → kind ≡ kind_number frame.message.kind
               → Finds field bytes at (record { kind = kind; end = end + size })
           unfolding event_of piece_end
           at-found q k = record {
-            kind = k ∙ ap (λ (f : Frame). kind_number f.message.kind) (q ∙ ap (λ (l : List ℕ). (reading l).frame) frame-of);
+            kind = k ∙ ap (λ (f : Frame). kind_number f.message.kind) (q ∙ ap frame_read frame-of);
             end = omega (arith, e, w.0);
           }

@@ -22,10 +22,10 @@ use Rattle.frame.specs.Layout.{standing, whole_length}
 use Rattle.frame.specs.Kinds.{map_of_kind, map_of, sense_number}
 use Rattle.frame.specs.Writing.{contents, written}
 use Rattle.frame.specs.Limits.{refusal_where}
-use Rattle.frame.specs.Reasons.{reading, form_in, form_number}
+use Rattle.std.specs.Prelude.{Ok}
+use Rattle.frame.specs.Reasons.{reading, frame_read}
 use Rattle.frame.specs.declared.Frame.{Frame}
-use Rattle.frame.specs.declared.Form.TheVariants.{Good}
-use Rattle.frame.proofs.FormNumbers.{form-passed}
+use Rattle.frame.proofs.FormNumbers.{refusal-passed}
 use Rattle.frame.proofs.Laws.{one-to-one}
 use Rattle.frame.proofs.Presence.{lamp-fields, restock-fields}
 use Rattle.frame.proofs.Sizes.{whole-some}
@@ -36,10 +36,10 @@ use Rattle.records.specs.Events.{most_gateways, latest_hour, stock_width_of, sta
 
 -- what an event keeps to that is not refused
 pub record TakenEvent (field : StockField) (s : List ℕ) : Type 0 where
-  pub form : (reading (frame_in s)).form ≡ Good
-  pub sense : sense_number (reading (frame_in s)).frame.sense ≡ 0
-  pub kind : kind_number (reading (frame_in s)).frame.message.kind ≤ 3
-  pub limits : refusal_where true (reading (frame_in s)).frame most_gateways latest_hour ≡ 0
+  pub form : reading (frame_in s) ≡ Ok (frame_read (frame_in s))
+  pub sense : sense_number (frame_read (frame_in s)).sense ≡ 0
+  pub kind : kind_number (frame_read (frame_in s)).message.kind ≤ 3
+  pub limits : refusal_where true (frame_read (frame_in s)) most_gateways latest_hour ≡ 0
   pub state : state_size_of field ≤ length (state_in field s)
 
 pub event-taken : (field : StockField) (s : List ℕ) → event_refusal field s ≡ 0 → TakenEvent field s
@@ -47,14 +47,14 @@ unfolding event_refusal frame_refusal
 event-taken field s z =
     let r = reading (frame_in s) in
     let outer = both_zero (frame_refusal r) (cond (leb (state_size_of field) (length (state_in field s))) 0 11) z in
-    let inner = both_zero (form_number (form_in is_event r)) (refusal_where true r.frame most_gateways latest_hour) outer.0 in
-    let passed = form-passed is_event r (eq-eqb (form_number (form_in is_event r)) 0 inner.0) in
+    let f = frame_read (frame_in s) in
+    let passed = refusal-passed is_event (λ (x : Frame). refusal_where true x most_gateways latest_hour) r outer.0 in
     let both = passed.1 in
     record {
       form = passed.0;
-      sense = eqb-true _ 0 (and_left _ (leb (kind_number r.frame.message.kind) 3) both);
-      kind = leb-true (kind_number r.frame.message.kind) 3 (and_right (eqb (sense_number r.frame.sense) 0) _ both);
-      limits = inner.1;
+      sense = eqb-true _ 0 (and_left _ (leb (kind_number f.message.kind) 3) both);
+      kind = leb-true (kind_number f.message.kind) 3 (and_right (eqb (sense_number f.sense) 0) _ both);
+      limits = passed.2;
       state = enough (length (state_in field s)) outer.1;
     }
   where
@@ -114,10 +114,10 @@ module _ (f : Frame) where
 
 module _ (field : StockField) (s : List ℕ) (bytes : Bytes s) (t : TakenEvent field s) where
   abbrev f : Frame
-  f = (reading (frame_in s)).frame
+  f = (frame_read (frame_in s))
 
   same : written f ≡ frame_in s
-  same = one-to-one.read_written (frame_in s) (bytes_take (whole_length (get_or s 0 0)) s bytes) t.form
+  same = one-to-one.read_written (frame_in s) (bytes_take (whole_length (get_or s 0 0)) s bytes) f t.form
 
   first : get_or (written f) 0 0 ≡ get_or s 0 0
   unfolding part
@@ -144,7 +144,7 @@ module _ (field : StockField) (s : List ℕ) (bytes : Bytes s) (t : TakenEvent f
     state-there = rw e
 
   lamp-whole : length f.message.lamp ≡ 18
-  lamp-whole = (one-to-one.read_ranged (frame_in s) (bytes_take (whole_length (get_or s 0 0)) s bytes) t.form).lamp
+  lamp-whole = (one-to-one.read_ranged (frame_in s) (bytes_take (whole_length (get_or s 0 0)) s bytes) f t.form).lamp
 
   kind-few : kind_number f.message.kind < 256
   kind-few = let k = t.kind in omega arith
@@ -183,14 +183,14 @@ module _ (field : StockField) (s : List ℕ) (bytes : Bytes s) (t : TakenEvent f
         long = whole-event whole;
         hour = sym (ap (λ (l : List ℕ). part l 4 4) is) ∙ in_frame whole 4 4 (omega arith);
         quantity = sym (ap (λ (l : List ℕ). part l 8 2) is) ∙ in_frame whole 8 2 (omega arith);
-        fits = (one-to-one.read_ranged (frame_in s) (bytes_take (whole_length (get_or s 0 0)) s bytes) t.form).quantity;
+        fits = (one-to-one.read_ranged (frame_in s) (bytes_take (whole_length (get_or s 0 0)) s bytes) f t.form).quantity;
         state = state-there whole;
       }
 
   pub parts : Parts field s
   parts = go (dec_lt (kind_number f.message.kind) 3)
     where
-      go : Dec (kind_number (reading (frame_in s)).frame.message.kind < 3) → Parts field s
+      go : Dec (kind_number (frame_read (frame_in s)).message.kind < 3) → Parts field s
       go (yes h) = with_lamp (lamp-parts (omega arith))
       go (no h) = restock (restock-parts (let k = t.kind in omega arith))
 

@@ -18,12 +18,11 @@ use Rattle.model.specs.declared.Message.{Message}
 use Rattle.frame.specs.Layout.{whole_length}
 use Rattle.frame.specs.Kinds.{map_of}
 use Rattle.frame.specs.Writing.{well_formed, written}
-use Rattle.frame.specs.Reasons.{reading, read_as}
+use Rattle.std.specs.Prelude.{Ok}
+use Rattle.frame.specs.Reasons.{reading}
 use Rattle.frame.specs.Limits.{refusal_where}
 use Rattle.frame.specs.Claims.{RangedFrame}
 use Rattle.frame.specs.declared.Frame.{Frame}
-use Rattle.frame.specs.declared.Reading.{Reading}
-use Rattle.frame.specs.declared.Form.TheVariants.{Good}
 use Rattle.frame.proofs.Laws.{one-to-one}
 use Rattle.frame.proofs.Output.{whole-size}
 use Rattle.memory.specs.Ranges.{RangedState}
@@ -76,7 +75,7 @@ module _ (field : StockField) (m : Message) (k : Recordable m) (state : List ℕ
       ∙ part-whole state (state_size_of field) (omega (arith, size))
 
   -- its frame is read as it was written, and is not refused
-  frame-taken : frame_refusal (read_as Good f) ≡ 0
+  frame-taken : frame_refusal (Ok f) ≡ 0
   unfolding frame_refusal refusal_where
   frame-taken = rw (
     le-leb (kind_number m.kind) 3 k.kind,
@@ -86,12 +85,12 @@ module _ (field : StockField) (m : Message) (k : Recordable m) (state : List ℕ
     le-leb m.hour latest_hour k.hour,
   )
 
-  frame-read : reading (frame_in s) ≡ read_as Good f
+  frame-read : reading (frame_in s) ≡ Ok f
   frame-read = ap reading frame_back ∙ one-to-one.written_read f k.ranged k.form
 
   pub message-read : (event_of field s).message ≡ m
   unfolding event_of
-  message-read = ap (λ (r : Reading). r.frame.message) frame-read
+  message-read = rw frame-read
 
   state-read : (event_of field s).state ≡ state_with (stock_width_of field) state
   unfolding event_of

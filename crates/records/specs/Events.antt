@@ -1,6 +1,6 @@
 -- A record, read event by event: each is its frame, then the state after it. A record does not tell of which forecast it is: N is read
 -- as 255, H as 4,294,967,294, and any addressee will do. Nor does it tell how wide the stock is in its states.
-use Rattle.std.specs.Prelude.{ℕ, ◌+◌, Bool, true, cond, ◌&&◌, List, map, leb, eqb, length, take, get_or}
+use Rattle.std.specs.Prelude.{ℕ, ◌+◌, Bool, true, cond, ◌&&◌, Result, List, map, leb, eqb, length, take, get_or}
 use Rattle.lists.specs.Lists.{first_number, cut_by}
 use Rattle.buffer.specs.Slice.{part}
 use Rattle.model.specs.Messages.{kind_number}
@@ -8,10 +8,10 @@ use Rattle.model.specs.declared.Message.{Message}
 use Rattle.model.specs.declared.State.{State}
 use Rattle.frame.specs.Layout.{whole_length}
 use Rattle.frame.specs.Kinds.{sense_number}
-use Rattle.frame.specs.Reasons.{reading, form_in, form_number}
+use Rattle.frame.specs.Reasons.{reading, frame_read, read_in, refusal_in}
 use Rattle.frame.specs.Limits.{refusal_where}
 use Rattle.frame.specs.declared.Frame.{Frame}
-use Rattle.frame.specs.declared.Reading.{Reading}
+use Rattle.frame.specs.declared.forms.FormError.{FormError}
 use Rattle.memory.specs.Layout.{stock_width}
 use Rattle.memory.specs.Codec.{state_with}
 use Rattle.records.specs.declared.StockField.{StockField}
@@ -59,10 +59,8 @@ is_event f = eqb (sense_number f.sense) 0 && leb (kind_number f.message.kind) 3
 
 -- what an event's frame is refused with, or 0: the number of the first reason why it is no frame or no plain message of kind 0 to 3,
 -- then 2, then 3
-unfoldable pub frame_refusal : Reading → ℕ
-frame_refusal r =
-    let number = form_number (form_in is_event r) in
-    cond (eqb number 0) (refusal_where true r.frame most_gateways latest_hour) number
+unfoldable pub frame_refusal : Result Frame FormError → ℕ
+frame_refusal r = refusal_in (λ f. refusal_where true f most_gateways latest_hour) (read_in is_event r)
 
 -- what an event is refused with, or 0: its frame's refusals, then 11 for a cut state
 unfoldable pub event_refusal : StockField → List ℕ → ℕ
@@ -79,7 +77,7 @@ record_refusal field bytes = first_number (event_refusal field) (cut_events fiel
 -- the event that bytes hold
 unfoldable pub event_of : StockField → List ℕ → Event
 event_of field s = record {
-  message = (reading (frame_in s)).frame.message;
+  message = (frame_read (frame_in s)).message;
   state = state_with (stock_width_of field) (state_in field s);
 }
 

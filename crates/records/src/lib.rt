@@ -6,22 +6,21 @@ pub mod balance; // balance.rt: what the Restocks brought, the Requests that fou
 
 ghost use Rattle.std.specs.Prelude.{◌≡◌, ◌+◌, ◌<◌, ◌≤◌, length, IfOk};
 ghost use Rattle.refusal.specs.Numbers.{number_in};
-ghost use Rattle.frame.specs.Reasons.{reading, form_in, form_number};
+ghost use Rattle.frame.specs.Reasons.{reading, frame_read};
 ghost use Rattle.memory.specs.Layout.{state_size};
 ghost use Rattle.records.specs.Events.{state_size_of, is_event, frame_refusal, event_refusal};
 ghost use Rattle.records.specs.declared.StockField.TheVariants.{Present, Old};
 ghost use Rattle.records.specs.Inside.Finding.{event_at, Finds, length_of_kind, weight_of, numbered, passed_in, passed_as, good_with_lamp, good_restock, good_gateways};
 
 use buffer::Number;
-use frame::forms::number_where;
 use frame::lamps::{LAMP_END, LAMP_PLACE, read_lamp};
 use frame::pieces::frame_end;
 use frame::tables::{HOUR_PLACE, ORIGIN_PLACE, QUANTITY_END};
-use frame::{Frame, Reading, Sense};
+use frame::{Frame, Sense};
 use limits::check_where;
 use memory::STATE_SIZE;
 use model::{Kind, kind_number, kind_of, origin_of};
-use reader::read;
+use reader::read_where;
 use refusal::Refusal;
 use rules::{all_between, gateways_agree};
 
@@ -187,38 +186,11 @@ fn event_read(bytes: &[u8], at: usize, stock: StockField) -> Result<Found, Refus
 // The frame of an event, or what it is refused with.
 fn event_frame(bytes: &[u8]) -> Result<Frame, Refusal>
     ensures number { number_in result ≡ frame_refusal (reading bytes.now) }
-    ensures frame { IfOk result (λ frame. frame ≡ (reading bytes.now).frame) }
+    ensures frame { IfOk result (λ frame. frame ≡ frame_read bytes.now) }
 {
-    let reading = read(bytes);
-    match frame_refusal(reading) {
-        0 => Ok(reading.frame),
-        1 => Err(Refusal::NoFrame),
-        2 => Err(Refusal::WrongGateway),
-        3 => Err(Refusal::PastLastHour),
-        11 => Err(Refusal::WrongLength),
-        _ => Err(Refusal::WrongLamp),
-    }
-}
-
-// What an event's frame is refused with, or 0.
-fn frame_refusal(reading: Reading) -> u8
-    ensures { result ≡ frame_refusal reading }
-{
-    let frame = reading.frame;
-    let number = form_refusal(reading);
-    if number != 0 {
-        return number;
-    }
-    check_where(true, frame, MOST_GATEWAYS, LATEST_HOUR)
-}
-
-// The number of the first reason why a record does not hold what was read, or 0.
-fn form_refusal(reading: Reading) -> u8
-    ensures { result ≡ form_number (form_in is_event reading) }
-{
-    let form = reading.form;
-    let frame = reading.frame;
-    number_where(is_event(frame), form)
+    let frame = read_where(bytes, is_event)?;
+    check_where(true, frame, MOST_GATEWAYS, LATEST_HOUR)?;
+    Ok(frame)
 }
 
 // Whether a frame is a plain message of kind 0 to 3.

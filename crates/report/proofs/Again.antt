@@ -11,14 +11,13 @@ use Rattle.buffer.specs.Slice.{Bytes, part, same_bytes, write}
 use Rattle.buffer.proofs.Equality.{bytes_same, same_bytes_lem}
 use Rattle.buffer.proofs.Standing.{stands-written}
 use Rattle.buffer.proofs.Writes.{length-write}
-use Rattle.frame.specs.Writing.{WriteOutcome, answer_number, answer_count, outcome_of, not_written, unless, value_refusal, well_formed, written, writing}
-use Rattle.frame.specs.Reasons.{reading, is_good}
-use Rattle.frame.specs.declared.Form.TheVariants.{Good}
+use Rattle.frame.specs.Writing.{WriteOutcome, count_in, outcome_of, not_written, unless, value_refusal, well_formed, written, writing}
+use Rattle.frame.specs.Reasons.{reading}
 use Rattle.frame.specs.declared.Frame.{Frame}
-use Rattle.frame.specs.declared.Reading.{Reading}
-use Rattle.frame.specs.declared.WriteAnswer.{WriteAnswer}
-use Rattle.frame.specs.declared.WriteAnswer.TheVariants.{Written, NoFrame, WrongLamp, NoRoom}
-use Rattle.frame.proofs.FormNumbers.{good-form}
+use Rattle.std.specs.Prelude.{Result, Ok, Err}
+use Rattle.refusal.specs.Numbers.{number_in}
+use Rattle.refusal.specs.declared.Refusal.{Refusal}
+use Rattle.refusal.proofs.Numbers.{refusal-some}
 use Rattle.frame.proofs.Laws.{one-to-one}
 use Rattle.frame.proofs.Sizes.{frame_small}
 use Rattle.frame.proofs.Values.{value-numbers}
@@ -73,36 +72,27 @@ rewritten {f} {m} (wrote v l) e = record {
 rewritten (crowded v l) e = absurd (omega arith)
 rewritten (formless number v k) e = absurd (k e)
 
-module _ (f : Frame) (item m : List ℕ) {out : List ℕ} (a : WriteAnswer) (w : outcome_of a out ≡ writing f m) where
-  came : Writes f m (answer_number a) (answer_count a) out
+module _ (f : Frame) (item m : List ℕ) {out : List ℕ} (a : Result ℕ Refusal) (w : outcome_of a out ≡ writing f m) where
+  came : Writes f m (number_in a) (count_in a) out
   came = subst (λ (o : WriteOutcome). Writes f m o.number o.count o.output) (sym w) (writes f m)
 
-  came-written : (count : ℕ) → a ≡ Written count → Rewritten f m out count
-  came-written count e = subst (λ (n : ℕ). Rewritten f m out n) (ap answer_count e) (rewritten came (ap answer_number e))
+  came-written : (count : ℕ) → a ≡ Ok count → Rewritten f m out count
+  came-written count e = subst (λ (n : ℕ). Rewritten f m out n) (ap count_in e) (rewritten came (ap number_in e))
 
   pub output-is : out ≡ (writing f m).output
   output-is = ap (λ (o : WriteOutcome). o.output) w
 
-  refused : (b : WriteAnswer) → a ≡ b → (answer_number b ≡ 0 → ⊥) → false ≡ written_as f item (length m)
-  refused b e n = unwritten item came (λ z. n (sym (ap answer_number e) ∙ z))
+  pub refused-again : (why : Refusal) → a ≡ Err why → false ≡ written_as f item (length m)
+  refused-again why e = unwritten item came (λ z. refusal-some why (sym (ap number_in e) ∙ z))
 
-  pub no-frame-again : a ≡ NoFrame → false ≡ written_as f item (length m)
-  no-frame-again e = refused NoFrame e (λ z. omega arith)
-
-  pub wrong-lamp-again : a ≡ WrongLamp → false ≡ written_as f item (length m)
-  wrong-lamp-again e = refused WrongLamp e (λ z. omega arith)
-
-  pub no-room-again : a ≡ NoRoom → false ≡ written_as f item (length m)
-  no-room-again e = refused NoRoom e (λ z. omega arith)
-
-  pub inside-again : (count : ℕ) → a ≡ Written count → count ≤ length out
+  pub inside-again : (count : ℕ) → a ≡ Ok count → count ≤ length out
   inside-again count e = (came-written count e).inside
 
-  pub prefix-again : (count : ℕ) → a ≡ Written count → count ≡ length (take count out)
+  pub prefix-again : (count : ℕ) → a ≡ Ok count → count ≡ length (take count out)
   prefix-again count e = let h = inside-again count e in simp length-take (omega arith)
 
   -- comparing the bytes decides
-  pub compared : (count : ℕ) {same : Bool} → a ≡ Written count → (same ≡ true → item ≡ take count out) × (item ≡ take count out → same ≡ true)
+  pub compared : (count : ℕ) {same : Bool} → a ≡ Ok count → (same ≡ true → item ≡ take count out) × (item ≡ take count out → same ≡ true)
       → same ≡ written_as f item (length m)
   compared count {same} e (yes-same, no_other) =
       let r = came-written count e in
@@ -117,10 +107,8 @@ module _ (f : Frame) (item m : List ℕ) {out : List ℕ} (a : WriteAnswer) (w :
           sym p ∙ no_other (sym ((came-written count e).bytes ∙ same_bytes_lem (written f) item q))
 
 -- a frame that was read is written as it was, in twenty-eight bytes
-pub read_again : (item : List ℕ) → Bytes item → {r : Reading} → r ≡ reading item → {good : Bool} → good ≡ is_good r.form → not good ≡ false
-    → {ok : Bool} → ok ≡ written_as r.frame item 28 → not ok ≡ false
-read_again item bytes {r} e {good} g h {ok} o =
-    let form : (reading item).form ≡ Good = good-form (reading item).form (ap (λ (x : Reading). is_good x.form) (sym e) ∙ (sym g ∙ not-false good h)) in
-    let again : written (reading item).frame ≡ item = one-to-one.read_written item bytes form in
-    let small = frame_small (reading item).frame (one-to-one.read_ranged item bytes form).lamp in
-    rw (o, e, one-to-one.read_well_formed item bytes form, le-leb (length (written (reading item).frame)) 28 small, again, bytes_same item)
+pub read_again : (item : List ℕ) → Bytes item → (f : Frame) → reading item ≡ Ok f → {ok : Bool} → ok ≡ written_as f item 28 → not ok ≡ false
+read_again item bytes f e o =
+    let again : written f ≡ item = one-to-one.read_written item bytes f e in
+    let small = frame_small f (one-to-one.read_ranged item bytes f e).lamp in
+    rw (o, one-to-one.read_well_formed item bytes f e, le-leb (length (written f)) 28 small, again, bytes_same item)

@@ -13,11 +13,12 @@ use Rattle.buffer.proofs.Putting.{puts-byte, puts-more, puts-length}
 use Rattle.model.specs.Messages.{kind_number, origin_of, quantity_of}
 use Rattle.model.specs.declared.Message.{Message}
 use Rattle.frame.specs.Kinds.{has_lamp, sense_number}
-use Rattle.frame.specs.Reasons.{reading, is_good}
-use Rattle.frame.specs.Lamps.{IsLamp, lamp_refusal, with_lamp}
+use Rattle.std.specs.Prelude.{Ok, Err, is_ok}
+use Rattle.frame.specs.Reasons.{reading, frame_read}
+use Rattle.frame.specs.Lamps.{IsLamp, lamp_form, lamp_refusal, with_lamp}
 use Rattle.frame.specs.declared.Frame.{Frame}
-use Rattle.frame.specs.declared.Reading.{Reading}
-use Rattle.frame.proofs.FormNumbers.{number-passes}
+use Rattle.frame.specs.declared.forms.FormError.{FormError}
+use Rattle.frame.proofs.FormNumbers.{ok-number, ok-passes}
 use Rattle.frame.proofs.Laws.{lamp-and-number}
 use Rattle.text.specs.Decimal.{field}
 use Rattle.reasons.specs.Words.{refused_text}
@@ -62,54 +63,37 @@ pub fields-put : (at : ℕ) (m : List ℕ) {m₁ m₂ : List ℕ} {p q : ℕ} (f
     → (Puts p (content f) m₁ m₂ q) × (q ≤ p + 33) → Puts at (route f.message ++ content f) m m₂ q
 fields-put at m f room a b = two at 44 m (omega arith) a.0 a.1 b.0
 
--- the lamp of a frame, by the part that holds it, or a dash
-module _ (item part : Bor (List ℕ)) (is : IsLamp item part) (good : is_good (reading item.now).form ≡ true) where
+-- the lamp of a frame, or a dash
+module _ (item : Bor (List ℕ)) (good : is_ok (reading item.now) ≡ true) where
   abbrev frame : Frame
-  frame = (reading item.now).frame
+  frame = frame_read item.now
 
   -- a frame has a lamp just where reading it is not refused
-  lamp-test : has_lamp (kind_number frame.message.kind) ≡ eqb (lamp_refusal item.now) 0
-  lamp-test = sym (number-passes (with_lamp frame) (reading item.now).form ∙ rw good)
+  lamp-test : has_lamp (kind_number frame.message.kind) ≡ is_ok (lamp_form (reading item.now))
+  lamp-test = sym (ok-passes with_lamp (reading item.now) ∙ rw good)
 
-  refused : length part.now ≡ 0 → lamp_refusal item.now ≡ 0 → ⊥
-  refused h z = let size = lamp-and-number.whole item part is z in omega arith
-
-  found : (length part.now ≡ 0 → ⊥) → lamp_refusal item.now ≡ 0
-  found h = by (eqb (lamp_refusal item.now) 0) refl
-    where
-      by : (b : Bool) → eqb (lamp_refusal item.now) 0 ≡ b → lamp_refusal item.now ≡ 0
-      by true e = eqb-true _ 0 e
-      by false e = absurd (h (ap length (lamp-and-number.refused item part is (eqb-false _ 0 e))))
-
-  pub part_length : (length part.now ≡ 0 → ⊥) → length part.now ≡ 18
-  part_length h = lamp-and-number.whole item part is (found h)
-
-  pub lamp-put : (at : ℕ) (m : List ℕ) {after : List ℕ} → (length part.now ≡ 0 → ⊥) → after ≡ write at part.now m
+  pub lamp-put : (part : Bor (List ℕ)) → IsLamp item part × (lamp_refusal item.now ≡ 0) → (at : ℕ) (m : List ℕ) {after : List ℕ} → after ≡ write at part.now m
       → Puts at (lamp_text frame.message) m after (at + length part.now)
   unfolding lamp_text
-  lamp-put at m h w =
-      rw (lamp-test, eq-eqb (lamp_refusal item.now) 0 (found h), ← lamp-and-number.found item part is (found h)) (record { position = refl; output = w })
+  lamp-put part (is, none) at m w =
+      let carried : is_ok (lamp_form (reading item.now)) ≡ true = ok-number (lamp_form (reading item.now)) ∙ eq-eqb (lamp_refusal item.now) 0 none in
+      rw (lamp-test, carried, ← lamp-and-number.found item part is none) (record { position = refl; output = w })
 
-  pub dash-put : (at : ℕ) (m : List ℕ) → length part.now ≡ 0 → at < length m → Puts at (lamp_text frame.message) m (set m at 45) (at + 1)
+  pub dash-put : {reason : FormError} → lamp_form (reading item.now) ≡ Err reason → (at : ℕ) (m : List ℕ) → at < length m
+      → Puts at (lamp_text frame.message) m (set m at 45) (at + 1)
   unfolding lamp_text
-  dash-put at m h room = rw (lamp-test, ne_eqb (lamp_refusal item.now) 0 (refused h)) (puts-byte at 45 m room)
+  dash-put e at m room = rw (lamp-test, e) (puts-byte at 45 m room)
 
-module _ (at : ℕ) (m s : List ℕ) (r : Reading) {b : Bool} (e : r ≡ reading s) (good : b ≡ is_good r.form) where
-  is-line : line s ≡ cond b (frame_text r.frame) (refused_text r.form)
-  unfolding line
-  is-line = rw (← e, ← good)
-
-  pub form-good : b ≡ true → is_good (reading s).form ≡ true
-  form-good h = rw (← e) (sym good ∙ h)
-
-  pub good-put : {m₁ m₂ : List ℕ} {p q : ℕ} → at + 100 ≤ length m → b ≡ true
-      → (Puts at (route r.frame.message ++ content r.frame) m m₁ p) × (p ≤ at + 77)
-      → (Puts p (lamp_text (reading s).frame.message) m₁ m₂ q) × (q ≤ p + 18) → Puts at (line s) m m₂ q
-  unfolding frame_text
-  good-put room h fields lamp =
+module _ (at : ℕ) (m s : List ℕ) where
+  pub frame-put : {f : Frame} {m₁ m₂ : List ℕ} {p q : ℕ} → Ok f ≡ reading s → at + 100 ≤ length m
+      → (Puts at (route f.message ++ content f) m m₁ p) × (p ≤ at + 77)
+      → (Puts p (lamp_text (frame_read s).message) m₁ m₂ q) × (q ≤ p + 18) → Puts at (line s) m m₂ q
+  unfolding line frame_text
+  frame-put {f} e room fields lamp =
       let same-lamp = rw (← e) at lamp.0 in
-      rw (is-line, h, ← append_assoc (route r.frame.message) (content r.frame) (lamp_text r.frame.message))
+      rw (← e, ← append_assoc (route f.message) (content f) (lamp_text f.message))
       (two at 77 m (omega arith) fields.0 fields.1 same-lamp)
 
-  pub refused-put : {now : List ℕ} {p : ℕ} → b ≡ false → Puts at (refused_text r.form) m now p → Puts at (line s) m now p
-  refused-put h x = rw (is-line, h) x
+  pub refused-put : {reason : FormError} {now : List ℕ} {p : ℕ} → Err reason ≡ reading s → Puts at (refused_text reason) m now p → Puts at (line s) m now p
+  unfolding line
+  refused-put e x = rw (← e) x

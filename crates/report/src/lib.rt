@@ -1,18 +1,17 @@
 // A frame as a line of text, for those who run the gateways: its fields, or the number with which it is refused and why.
 #![tactic(auto)]
 
-ghost use Rattle.std.specs.Prelude.{◌≡◌, true, false, ◌++◌, ◌+◌, ◌≤◌, length};
+ghost use Rattle.std.specs.Prelude.{◌≡◌, true, false, is_ok, ◌++◌, ◌+◌, ◌≤◌, length};
 ghost use Rattle.buffer.specs.Slice.{Puts};
 ghost use Rattle.frame.specs.Writing.{writing};
-ghost use Rattle.frame.specs.Reasons.{reading, is_good};
+ghost use Rattle.frame.specs.Reasons.{reading, frame_read};
 ghost use Rattle.report.specs.Inside.Again.{written_as};
 ghost use Rattle.report.specs.Line.{route, content, lamp_text, line};
 
 use buffer::copy;
 use check::same;
-use frame::forms::is_good;
+use frame::Frame;
 use frame::tables::sense_number;
-use frame::{Frame, WriteAnswer};
 use lamp::lamp;
 use model::{Message, kind_number, origin_of, quantity_of};
 use reader::read;
@@ -25,14 +24,13 @@ use writer::write;
 pub fn differs(item: &[u8]) -> bool
     ensures { result ≡ false }
 {
-    let reading = read(item);
-    let form = reading.form;
-    if !is_good(form) {
-        return false;
+    match read(item) {
+        Ok(frame) => {
+            let mut again = [0u8; 28];
+            !written_as(frame, item, &mut again)
+        }
+        Err(_) => false,
     }
-    let frame = reading.frame;
-    let mut again = [0u8; 28];
-    !written_as(frame, item, &mut again)
 }
 
 // Whether a frame is written as that byte string, in a buffer lent for it.
@@ -41,10 +39,8 @@ fn written_as(frame: Frame, item: &[u8], again: &mut [u8]) -> bool
         × (again.new ≡ (writing frame again.old).output) }
 {
     match write(again, frame) {
-        WriteAnswer::Written(count) => same(item, &again[..count]),
-        WriteAnswer::NoFrame => false,
-        WriteAnswer::WrongLamp => false,
-        WriteAnswer::NoRoom => false,
+        Ok(count) => same(item, &again[..count]),
+        Err(_) => false,
     }
 }
 
@@ -53,14 +49,13 @@ pub fn put_line(out: &mut [u8], at: usize, item: &[u8]) -> usize
     requires { at + 100 ≤ length out.old }
     ensures { (Puts at (line item.now) out.old out.new result) × (result ≤ at + 100) }
 {
-    let reading = read(item);
-    let form = reading.form;
-    if is_good(form) {
-        let frame = reading.frame;
-        let behind_fields = put_fields(out, at, frame);
-        return put_lamp(out, behind_fields, item);
+    match read(item) {
+        Ok(frame) => {
+            let behind_fields = put_fields(out, at, frame);
+            put_lamp(out, behind_fields, item)
+        }
+        Err(reason) => put_refused(out, at, reason),
     }
-    put_refused(out, at, form)
 }
 
 // All fields but the lamp.
@@ -68,8 +63,7 @@ fn put_fields(out: &mut [u8], at: usize, frame: Frame) -> usize
     requires { at + 77 ≤ length out.old }
     ensures { (Puts at (route frame.message ++ content frame) out.old out.new result) × (result ≤ at + 77) }
 {
-    let message = frame.message;
-    let behind_route = put_route(out, at, message);
+    let behind_route = put_route(out, at, frame.message);
     put_content(out, behind_route, frame)
 }
 
@@ -78,8 +72,7 @@ fn put_route(out: &mut [u8], at: usize, message: Message) -> usize
     requires { at + 44 ≤ length out.old }
     ensures { (Puts at (route message) out.old out.new result) × (result ≤ at + 44) }
 {
-    let kind = message.kind;
-    let behind_kind = put_field(out, at, kind_number(kind) as u32);
+    let behind_kind = put_field(out, at, kind_number(message.kind) as u32);
     let behind_from = put_field(out, behind_kind, message.from as u32);
     let behind_to = put_field(out, behind_from, message.to as u32);
     put_field(out, behind_to, message.hour)
@@ -90,25 +83,26 @@ fn put_content(out: &mut [u8], at: usize, frame: Frame) -> usize
     requires { at + 33 ≤ length out.old }
     ensures { (Puts at (content frame) out.old out.new result) × (result ≤ at + 33) }
 {
-    let message = frame.message;
-    let kind = message.kind;
-    let sense = frame.sense;
+    let kind = frame.message.kind;
     let behind_origin = put_field(out, at, origin_of(kind) as u32);
     let behind_quantity = put_field(out, behind_origin, quantity_of(kind) as u32);
-    put_field(out, behind_quantity, sense_number(sense) as u32)
+    put_field(out, behind_quantity, sense_number(frame.sense) as u32)
 }
 
 // The lamp of a frame, from the part of it that holds the lamp, or a dash where it has none.
 fn put_lamp(out: &mut [u8], at: usize, item: &[u8]) -> usize
-    requires { (at + 18 ≤ length out.old) × (is_good (reading item.now).form ≡ true) }
-    ensures { (Puts at (lamp_text (reading item.now).frame.message) out.old out.new result)
+    requires { (at + 18 ≤ length out.old) × (is_ok (reading item.now) ≡ true) }
+    ensures { (Puts at (lamp_text (frame_read item.now).message) out.old out.new result)
         × (result ≤ at + 18) }
 {
-    let part = lamp(item);
-    if part.len() == 0 {
-        out[at] = 45;
-        return at + 1;
+    match lamp(item) {
+        Ok(part) => {
+            copy(out, at, part);
+            at + part.len()
+        }
+        Err(_) => {
+            out[at] = b'-';
+            at + 1
+        }
     }
-    copy(out, at, part);
-    at + part.len()
 }

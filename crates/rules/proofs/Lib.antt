@@ -1,3 +1,1 @@
--- Laws of the rules of each kind.
 pub mod Between
-pub mod Agreement

@@ -12,7 +12,7 @@ use Rattle.buffer.specs.Slice.{write}
 use Rattle.routing.specs.Arcs.{from, to, children}
 use Rattle.model.specs.declared.Message.{Message}
 use Rattle.model.specs.declared.Kind.TheVariants.{Start, Lvt, Update}
-use Rattle.frame.specs.Reasons.{reading}
+use Rattle.frame.specs.Reasons.{frame_read}
 use Rattle.frame.specs.Writing.{written}
 use Rattle.frame.specs.declared.Sense.TheVariants.{Plain}
 use Rattle.memory.specs.Records.{Gateway}
@@ -122,9 +122,9 @@ update-taken-accepted room k hour g h =
     (leb 1 g.settings.own && eqb k ((g.settings.own - 1) / 2)) h
 
 -- Start, Lvt and Update as bytes
-module _ (bytes : List ℕ) (room : ℕ) (g : Gateway) (plain : (reading bytes).frame.sense ≡ Plain) (number : (take_bytes bytes room g).number ≡ 0) where
+module _ (bytes : List ℕ) (room : ℕ) (g : Gateway) (plain : (frame_read bytes).sense ≡ Plain) (number : (take_bytes bytes room g).number ≡ 0) where
   abbrev m : Message
-  m = (reading bytes).frame.message
+  m = (frame_read bytes).message
 
   by-kind : take_bytes bytes room g ≡ take_by_kind room m g m.kind
   unfolding take_frame

@@ -10,13 +10,15 @@ use Rattle.lists.specs.Lists.{any, without_first}
 use Rattle.model.specs.Messages.{kind_number}
 use Rattle.model.specs.declared.Kind.{Kind}
 use Rattle.model.specs.declared.Kind.TheVariants.{Failure, Request, Delivery, Restock, Start, Lvt, Update}
-use Rattle.frame.specs.Reasons.{reading, form_in, form_number}
+use Rattle.std.specs.Prelude.{Result, Ok}
+use Rattle.frame.specs.Reasons.{reading, frame_read, read_in}
+use Rattle.frame.specs.declared.forms.FormError.{FormError}
 use Rattle.frame.specs.Limits.{refusal}
 use Rattle.frame.specs.declared.Frame.{Frame}
 use Rattle.frame.specs.declared.Sense.{Sense}
 use Rattle.frame.specs.declared.Sense.TheVariants.{Plain, Cancel, Acknowledgment, CancelAcknowledgment}
 use Rattle.memory.specs.Records.{Gateway}
-use Rattle.frame.proofs.FormNumbers.{form-passed}
+use Rattle.frame.proofs.FormNumbers.{number-some, Taking, takes, refuses, taking}
 use Rattle.gateway.specs.Effects.{Effect, Outcome, bytes_of_frames, fits, settled, with_outstanding}
 use Rattle.gateway.specs.Taking.{is_sent, take_plain, take_cancel, take_acknowledgment}
 use Rattle.gateway.specs.Rounds.{take_start, take_lvt, take_update}
@@ -121,32 +123,32 @@ module _ (room : ℕ) (f : Frame) (g : Gateway) where
 
 -- a byte string that is accepted is a frame, passes 2 and 3, and is accepted as such
 pub record BytesAccepted (bytes : List ℕ) (room : ℕ) (g : Gateway) : Type 0 where
-  pub good : form_number (reading bytes).form ≡ 0
-  pub passes : refusal (reading bytes).frame g.settings.n g.settings.own g.settings.last ≡ 0
-  pub comes-to : take_bytes bytes room g ≡ take_frame room (reading bytes).frame g
-  pub taken : Accepted room (reading bytes).frame g (take_frame room (reading bytes).frame g)
+  pub good : reading bytes ≡ Ok (frame_read bytes)
+  pub passes : refusal (frame_read bytes) g.settings.n g.settings.own g.settings.last ≡ 0
+  pub comes-to : take_bytes bytes room g ≡ take_frame room (frame_read bytes) g
+  pub taken : Accepted room (frame_read bytes) g (take_frame room (frame_read bytes) g)
 
 pub bytes-accepted : (bytes : List ℕ) (room : ℕ) (g : Gateway) → (take_bytes bytes room g).number ≡ 0 → BytesAccepted bytes room g
 unfolding take_bytes
-bytes-accepted bytes room g h = by_form form_test refl
+bytes-accepted bytes room g h = by (taking by_carrier (reading bytes)) refl
   where
+    f : Frame
+    f = frame_read bytes
+
     number : ℕ
-    number = refusal (reading bytes).frame g.settings.n g.settings.own g.settings.last
+    number = refusal f g.settings.n g.settings.own g.settings.last
 
-    form_test : Bool
-    form_test = eqb (form_number (form_in by_carrier (reading bytes))) 0
-
-    by_number : form_test ≡ true → (t : Bool) → eqb number 0 ≡ t → BytesAccepted bytes room g
-    by_number p true q =
-        let same : take_bytes bytes room g ≡ take_frame room (reading bytes).frame g = rw (p, q) in
+    by_number : reading bytes ≡ Ok f → Ok f ≡ read_in by_carrier (reading bytes) → (t : Bool) → eqb number 0 ≡ t → BytesAccepted bytes room g
+    by_number good e true q =
+        let same : take_bytes bytes room g ≡ take_frame room f g = rw (← e, q) in
         record {
-          good = ap form_number (form-passed by_carrier (reading bytes) p).0;
+          good = good;
           passes = eqb-true number 0 q;
           comes-to = same;
-          taken = frame-accepted room (reading bytes).frame g (ap (λ (r : Outcome). r.number) (sym same) ∙ h);
+          taken = frame-accepted room f g (ap (λ (r : Outcome). r.number) (sym same) ∙ h);
         }
-    by_number p false q = absurd (eqb-false number 0 q (rw (p, q) at h))
+    by_number good e false q = absurd (eqb-false number 0 q (rw (← e, q) at h))
 
-    by_form : (t : Bool) → form_test ≡ t → BytesAccepted bytes room g
-    by_form true p = by_number p (eqb number 0) refl
-    by_form false p = absurd (eqb-false (form_number (form_in by_carrier (reading bytes))) 0 p (rw p at h))
+    by : {x : Result Frame FormError} → Taking by_carrier (reading bytes) x → x ≡ read_in by_carrier (reading bytes) → BytesAccepted bytes room g
+    by (takes good kind) e = by_number good e (eqb number 0) refl
+    by (refuses reason) e = absurd (number-some reason (rw (← e) at h))

@@ -9,7 +9,7 @@ use Rattle.lists.specs.Lists.{◌∈◌, All, Beginning}
 use Rattle.model.specs.EventOrder.{key}
 use Rattle.model.specs.declared.Message.{Message}
 use Rattle.frame.specs.Limits.{nothing_due}
-use Rattle.frame.specs.Reasons.{reading}
+use Rattle.frame.specs.Reasons.{frame_read}
 use Rattle.memory.specs.Codec.{decode}
 use Rattle.memory.specs.Soundness.{sound}
 use Rattle.gateway.specs.Committing.{commit}
@@ -82,7 +82,7 @@ module _ (n last : ℕ) (setups : ℕ → SetUpInput) (G : Graph) (same : G.last
         d
 
     -- or past any message, cancel or acknowledgment under way
-    pub under_way-part : (i : ℕ) → i < n → (c : Carried) → c ∈ w.under_way → kind_in c.frame < 4 → agreed w i ≤ (reading c.frame).frame.message.hour
+    pub under_way-part : (i : ℕ) → i < n → (c : Carried) → c ∈ w.under_way → kind_in c.frame < 4 → agreed w i ≤ (frame_read c.frame).message.hour
     unfolding hour first key
     under_way-part i h c d small =
         let r = claim-holds S laws b.reached in

@@ -13,7 +13,7 @@ use Rattle.model.specs.Messages.{kind_number}
 use Rattle.model.specs.declared.Message.{Message}
 use Rattle.model.specs.declared.Kind.{Kind}
 use Rattle.model.specs.declared.Kind.TheVariants.{Failure, Request, Delivery, Restock, Start, Lvt, Update}
-use Rattle.frame.specs.Reasons.{reading}
+use Rattle.frame.specs.Reasons.{frame_read}
 use Rattle.frame.specs.Writing.{written}
 use Rattle.frame.specs.declared.Frame.{Frame}
 use Rattle.run.specs.World.{Carried, Rounds, carry, is_frame, kind_in, round_frames, took_more}
@@ -37,8 +37,8 @@ none_written : (tag : ℕ) {n last : ℕ} {fs : List Frame} → All (EventFrame 
 unfolding rounds_in
 none_written tag nil = refl
 none_written tag (cons {a = f} e a) =
-    ap (λ l. round_of (tag - 1) (reading (written f)).frame ++ l) (none_written tag a)
-    ∙ append-nil (round_of (tag - 1) (reading (written f)).frame)
+    ap (λ l. round_of (tag - 1) (frame_read (written f)) ++ l) (none_written tag a)
+    ∙ append-nil (round_of (tag - 1) (frame_read (written f)))
     ∙ ap (round_of (tag - 1)) e.readable
     ∙ no-round (tag - 1) f.message f.message.kind (omega (arith, e.kind))
 
@@ -52,7 +52,7 @@ rounds-still tag {fs} a cs =
 
 -- and when one is taken
 pub rounds-left : (frame : List ℕ) (cs : List Carried) → kind_in frame < 4 → rounds_in (without_first (is_frame frame) cs) ≡ rounds_in cs
-rounds-left frame cs h = round-left frame cs (λ t. no-round t (reading frame).frame.message (reading frame).frame.message.kind h)
+rounds-left frame cs h = round-left frame cs (λ t. no-round t (frame_read frame).message (frame_read frame).message.kind h)
 
 -- none counts for a round
 not-counted : (is_open : Bool) (kind : Kind) → kind_number kind < 4 → counts is_open kind ≡ false

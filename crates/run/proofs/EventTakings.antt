@@ -12,7 +12,7 @@ use Rattle.lists.proofs.ListLaws.{all_map}
 use Rattle.model.specs.Messages.{kind_number}
 use Rattle.model.specs.declared.Message.{Message}
 use Rattle.frame.specs.Claims.{RangedFrame}
-use Rattle.frame.specs.Reasons.{reading}
+use Rattle.frame.specs.Reasons.{frame_read}
 use Rattle.frame.specs.Writing.{well_formed}
 use Rattle.frame.specs.declared.Frame.{Frame}
 use Rattle.frame.specs.declared.Sense.{Sense}
@@ -50,12 +50,12 @@ module _ (n last : ℕ) (setups : ℕ → SetUpInput) (G : Graph) (same : G.last
     i c g) (sees : Sees n last setups G same w i c g cs) (followed : Follows n last setups g.queue l) (frame : List ℕ) (found : any
     (is_frame frame) cs ≡ true) (tag : ℕ) where
   abbrev m : Message
-  m = (reading frame).frame.message
+  m = (frame_read frame).message
 
   -- what an accepted frame comes to
   abbrev pub TakeGoes : Outcome → Type 1
   TakeGoes o = CallResult n last setups G same i w c g tag (without_first (is_frame frame) cs) o.gateway o.output (taken_by_sense m
-      (reading frame).frame.sense l)
+      (frame_read frame).sense l)
 
   -- the messages that the queue holds are good
   held : (e : Entry) → e ∈ g.queue → Good g.settings (is_waiting e) e.message
@@ -95,7 +95,7 @@ module _ (n last : ℕ) (setups : ℕ → SetUpInput) (G : Graph) (same : G.last
       (cons (settled (acknowledgment-frame g.settings (valid-facts g p.valid).settings true m good few)) (cancel-back-frames (any
       (is_plain m) g.queue) refl))
 
-  pub plain-take : (reading frame).frame.sense ≡ Plain → IsEvent m → kind_number m.kind ≤ 2 → m.to ≡ i → g.agreed ≤ m.hour → Good
+  pub plain-take : (frame_read frame).sense ≡ Plain → IsEvent m → kind_number m.kind ≤ 2 → m.to ≡ i → g.agreed ≤ m.hour → Good
       g.settings false m → Kept g.settings (take_plain m g).gateway →
       TakeGoes (outcome_of (take_plain m g))
   plain-take s k few to-here due good kept =
@@ -116,7 +116,7 @@ module _ (n last : ℕ) (setups : ℕ → SetUpInput) (G : Graph) (same : G.last
         agreed = (plain-noted n last setups i c g st m).agreed;
       }
 
-  pub cancel-take : (reading frame).frame.sense ≡ Cancel → kind_number m.kind ≤ 2 → m.to ≡ i → Good g.settings true m → Kept
+  pub cancel-take : (frame_read frame).sense ≡ Cancel → kind_number m.kind ≤ 2 → m.to ≡ i → Good g.settings true m → Kept
       g.settings (take_cancel m g).gateway →
       TakeGoes (outcome_of (take_cancel m g))
   cancel-take s few to-here good kept =
@@ -137,7 +137,7 @@ module _ (n last : ℕ) (setups : ℕ → SetUpInput) (G : Graph) (same : G.last
         agreed = (cancel-noted n last setups i c g st m).agreed;
       }
 
-  pub acknowledgment-take : (b : Bool) → (reading frame).frame.sense ≡ acknowledgment_sense b → m.from ≡ i → any (is_sent b m) g.outstanding ≡ true →
+  pub acknowledgment-take : (b : Bool) → (frame_read frame).sense ≡ acknowledgment_sense b → m.from ≡ i → any (is_sent b m) g.outstanding ≡ true →
       Kept g.settings (with_outstanding (without_first (is_sent b m) g.outstanding) g) →
       TakeGoes (record { number = 0; gateway = with_outstanding (without_first (is_sent b m) g.outstanding) g; output = [] })
   unfolding joined noted_all
@@ -163,9 +163,9 @@ module _ (n last : ℕ) (setups : ℕ → SetUpInput) (G : Graph) (same : G.last
       unmoved false = refl
 
   -- an accepted frame that is none of a round, in any sense
-  module _ (form : well_formed (reading frame).frame ≡ true) (ranged : RangedFrame (reading frame).frame) (passes : Passes g.settings
-      (reading frame).frame) (few : kind_number m.kind < 4) where
-    in-sense : {sense : Sense} → (reading frame).frame.sense ≡ sense → Accepting.Accepted g.settings (record { message = m; sense = sense })
+  module _ (form : well_formed (frame_read frame) ≡ true) (ranged : RangedFrame (frame_read frame)) (passes : Passes g.settings
+      (frame_read frame)) (few : kind_number m.kind < 4) where
+    in-sense : {sense : Sense} → (frame_read frame).sense ≡ sense → Accepting.Accepted g.settings (record { message = m; sense = sense })
     in-sense e = subst (λ (s : Sense). Accepting.Accepted g.settings (record { message = m; sense = s })) e (record {
       form = form;
       ranged
@@ -173,11 +173,11 @@ module _ (n last : ℕ) (setups : ℕ → SetUpInput) (G : Graph) (same : G.last
       passes = passes;
     })
 
-    addressed : (b : Bool) → (reading frame).frame.sense ≡ acknowledgment_sense b → m.from ≡ i
+    addressed : (b : Bool) → (frame_read frame).sense ≡ acknowledgment_sense b → m.from ≡ i
     addressed true s = (in-sense s).passes.here ∙ own_is st
     addressed false s = (in-sense s).passes.here ∙ own_is st
 
-    pub taken-goes : (room : ℕ) {o : Outcome} → Accepted room (reading frame).frame g o → Kept g.settings o.gateway → TakeGoes o
+    pub taken-goes : (room : ℕ) {o : Outcome} → Accepted room (frame_read frame) g o → Kept g.settings o.gateway → TakeGoes o
     taken-goes room (plain-taken s k small due enough) kept =
         let t = accepted-good g.settings false m (omega arith) (in-sense s) in
         plain-take s k small (t.here ∙ own_is st) due t.good kept

@@ -10,7 +10,7 @@ use Rattle.lists.specs.Lists.{any, without_first, All}
 use Rattle.lists.specs.Families.{change}
 use Rattle.buffer.specs.Slice.{Bytes, write}
 use Rattle.model.specs.Messages.{kind_number}
-use Rattle.frame.specs.Reasons.{reading, form_number}
+use Rattle.frame.specs.Reasons.{frame_read}
 use Rattle.frame.specs.Writing.{well_formed}
 use Rattle.frame.specs.declared.Frame.{Frame}
 use Rattle.frame.specs.declared.Sense.{Sense}
@@ -23,7 +23,7 @@ use Rattle.gateway.specs.Calls.{CallResult, take_bytes, taken}
 use Rattle.gateway.specs.declared.Answer.{Answer}
 use Rattle.gateway.proofs.Maintaining.{Kept}
 use Rattle.gateway.proofs.Keeps.{bytes-keep}
-use Rattle.gateway.proofs.Accepting.{form-good, not-refused}
+use Rattle.gateway.proofs.Accepting.{not-refused}
 use Rattle.timewarp.specs.Worlds as Worlds
 use Rattle.run.specs.Forecast.{SetUpInput}
 use Rattle.run.specs.World.{World, Carried, frames_in, carry, is_frame, kind_in, taken_by_sense, took_more, round_frames, after_taking}
@@ -50,8 +50,8 @@ kind-few f form plain = by-sense f.sense refl
 
 -- the world after taking such a frame: the rounds stay as they were
 taken-world : (n i : ℕ) (frame memory : List ℕ) (frames : List (List ℕ)) (w : World) → kind_in frame < 4 → round_frames w.rounds.open? frames ≡ 0 →
-    sending_after w i memory w.rounds.opened frames (without_first (is_frame frame) w.under_way) (taken_by_sense (reading
-    frame).frame.message (reading frame).frame.sense (w.ledgers i))
+    sending_after w i memory w.rounds.opened frames (without_first (is_frame frame) w.under_way) (taken_by_sense (frame_read
+    frame).message (frame_read frame).sense (w.ledgers i))
     ≡ after_taking n i frame memory frames w
 unfolding after_taking
 taken-world n i frame memory frames w few none =
@@ -60,7 +60,7 @@ taken-world n i frame memory frames w few none =
       memories = change i memory w.memories;
       under_way = carry w.rounds.opened frames (without_first (is_frame frame) w.under_way);
       records = w.records;
-      ledgers = change i (taken_by_sense (reading frame).frame.message (reading frame).frame.sense (w.ledgers i)) w.ledgers;
+      ledgers = change i (taken_by_sense (frame_read frame).message (frame_read frame).sense (w.ledgers i)) w.ledgers;
       rounds = unchanged k;
     })
   where
@@ -84,13 +84,13 @@ module _ (n : ℕ) (some : 1 ≤ n) (last : ℕ) (setups : ℕ → SetUpInput) {
   kept : Kept g.settings o.gateway
   kept = (bytes-keep (proper n some last setups b i h) frame bytes (length output)).gateway
 
-  module _ (a : BytesAccepted frame (length output) g) (found : any (is_frame frame) w.under_way ≡ true) (plain : (reading
-      frame).frame.sense ≡ Plain → kind_in frame < 4) where
-    formed : well_formed (reading frame).frame ≡ true
-    formed = one-to-one.read_well_formed frame bytes (form-good (reading frame).form (eq-eqb (form_number (reading frame).form) 0 a.good))
+  module _ (a : BytesAccepted frame (length output) g) (found : any (is_frame frame) w.under_way ≡ true) (plain : (frame_read
+      frame).sense ≡ Plain → kind_in frame < 4) where
+    formed : well_formed (frame_read frame) ≡ true
+    formed = one-to-one.read_well_formed frame bytes (frame_read frame) a.good
 
     few : kind_in frame < 4
-    few = kind-few (reading frame).frame formed plain
+    few = kind-few (frame_read frame) formed plain
 
     goes : TakeGoes n last setups (figure_graph n some) refl i (omega arith) (b.beside.done i) t g w.under_way (w.ledgers i)
         (proper n some last setups b i h) (b.stands i h) (sees n some last setups b i h) (b.beside.ledgers i h) frame found tag o
@@ -98,11 +98,11 @@ module _ (n : ℕ) (some : 1 ≤ n) (last : ℕ) (setups : ℕ → SetUpInput) {
         taken-goes n last setups (figure_graph n some) refl i (omega arith) (b.beside.done i) t g w.under_way (w.ledgers i)
         (proper n some last setups b i h) (b.stands i h) (sees n some last setups b i h) (b.beside.ledgers i h) frame found tag
         formed
-        (one-to-one.read_ranged frame bytes (form-good (reading frame).form (eq-eqb (form_number (reading frame).form) 0 a.good)))
-        (not-refused g.settings (reading frame).frame a.passes)
+        (one-to-one.read_ranged frame bytes (frame_read frame) a.good)
+        (not-refused g.settings (frame_read frame) a.passes)
         few
         (length output)
-        (subst (Accepted (length output) (reading frame).frame g) (sym a.comes-to) a.taken)
+        (subst (Accepted (length output) (frame_read frame) g) (sym a.comes-to) a.taken)
         kept
 
     still : rounds_in rest ≡ rounds_in w.under_way
@@ -123,7 +123,7 @@ module _ (n : ℕ) (some : 1 ≤ n) (last : ℕ) (setups : ℕ → SetUpInput) {
         (result-keeps n some last setups b i h tag rest still numbered passing goes kept output)
 
   pub event-taken-kept : (taken (w.memories i) frame output).answer.number ≡ 0 → any (is_frame frame) w.under_way ≡ true →
-      ((reading frame).frame.sense ≡ Plain → kind_in frame < 4) →
+      ((frame_read frame).sense ≡ Plain → kind_in frame < 4) →
       let l = taken (w.memories i) frame output in
       Keeps n some last setups t (after_taking n i frame l.memory (frames_in l.answer.written l.output) w)
   unfolding taken

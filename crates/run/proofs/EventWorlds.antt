@@ -6,7 +6,7 @@ use mathlib.Core.List.{List, [], ◌∷◌, ◌++◌, map, append-nil}
 use Rattle.lists.specs.Lists.{any, without_first, All}
 use Rattle.model.specs.Doing.{sent}
 use Rattle.model.specs.declared.Message.{Message}
-use Rattle.frame.specs.Reasons.{reading}
+use Rattle.frame.specs.Reasons.{frame_read}
 use Rattle.frame.specs.Writing.{written}
 use Rattle.frame.specs.declared.Frame.{Frame}
 use Rattle.frame.specs.declared.Sense.TheVariants.{Plain, Cancel}
@@ -36,7 +36,7 @@ network_in cs = network_of (seen_in event_of cs) (seen_in acknowledged_of cs)
 
 -- what is written can be read
 abbrev pub AllReadable : List Frame → Type 0
-AllReadable fs = All (λ f. (reading (written f)).frame ≡ f) fs
+AllReadable fs = All (λ f. (frame_read (written f)) ≡ f) fs
 
 -- the frames that taking an event writes: its acknowledgment, then the cancels
 module _ (n last : ℕ) (setups : ℕ → SetUpInput) (i : ℕ) (c : List Message) (g : Gateway) (st : Stands n last setups i c g) where
@@ -123,14 +123,14 @@ module _ (n last : ℕ) (setups : ℕ → SetUpInput) (G : Graph) (same : G.last
       rest = without_first (is_frame frame) cs
 
       abbrev m : Message
-      m = (reading frame).frame.message
+      m = (frame_read frame).message
 
       -- taking a plain message
-      pub plain-goes : (reading frame).frame.sense ≡ Plain → IsEvent m → m.to ≡ i → g.agreed ≤ m.hour → AllReadable (take_plain m g).frames →
+      pub plain-goes : (frame_read frame).sense ≡ Plain → IsEvent m → m.to ≡ i → g.agreed ≤ m.hour → AllReadable (take_plain m g).frames →
           GoesOn w i (plain_back n last setups i c g st m) c (take_plain m g).gateway (carry tag (map written (take_plain m g).frames) rest)
       plain-goes s k to-here due r =
-          let is : event_of (reading frame).frame ≡ plain m ∷ [] = ap (event_by_sense m) s ∙ k in
-          let left : acknowledged_of (reading frame).frame ≡ [] = ap (acknowledged_by_sense m) s in
+          let is : event_of (frame_read frame) ≡ plain m ∷ [] = ap (event_by_sense m) s ∙ k in
+          let left : acknowledged_of (frame_read frame) ≡ [] = ap (acknowledged_by_sense m) s in
           moved (take_plain m g).gateway (carry tag (map written (take_plain m g).frames) rest)
           (taken-network false m (plain_back n last setups i c g st m) (take_plain m g).frames (plain-frames n last setups i c g st m) r tag rest
           ∙ ap (λ l. network_of (seen_in event_of rest ++ map cancel (plain_back n last setups i c g st m)) (l ++ (plain m ∷ []))) (seen-left
@@ -139,11 +139,11 @@ module _ (n last : ℕ) (setups : ℕ → SetUpInput) (G : Graph) (same : G.last
           frame cs found (plain m) is))
 
       -- taking a cancel
-      pub cancel-goes : (reading frame).frame.sense ≡ Cancel → m.to ≡ i → AllReadable (take_cancel m g).frames →
+      pub cancel-goes : (frame_read frame).sense ≡ Cancel → m.to ≡ i → AllReadable (take_cancel m g).frames →
           GoesOn w i (cancel_back n last setups i c g st m) c (take_cancel m g).gateway (carry tag (map written (take_cancel m g).frames) rest)
       cancel-goes s to-here r =
-          let is : event_of (reading frame).frame ≡ cancel m ∷ [] = ap (event_by_sense m) s in
-          let left : acknowledged_of (reading frame).frame ≡ [] = ap (acknowledged_by_sense m) s in
+          let is : event_of (frame_read frame) ≡ cancel m ∷ [] = ap (event_by_sense m) s in
+          let left : acknowledged_of (frame_read frame) ≡ [] = ap (acknowledged_by_sense m) s in
           moved (take_cancel m g).gateway (carry tag (map written (take_cancel m g).frames) rest)
           (taken-network true m (cancel_back n last setups i c g st m) (take_cancel m g).frames (cancel-frames n last setups i c g st m) r tag rest
           ∙ ap (λ l. network_of (seen_in event_of rest ++ map cancel (cancel_back n last setups i c g st m)) (l ++ (cancel m ∷ []))) (seen-left
@@ -152,7 +152,7 @@ module _ (n last : ℕ) (setups : ℕ → SetUpInput) (G : Graph) (same : G.last
           frame cs found (cancel m) is))
 
       -- taking an acknowledgment
-      pub acknowledgment-goes : (b : Bool) → (reading frame).frame.sense ≡ acknowledgment_sense b → m.from ≡ i → any (is_sent b m) g.outstanding ≡ true →
+      pub acknowledgment-goes : (b : Bool) → (frame_read frame).sense ≡ acknowledgment_sense b → m.from ≡ i → any (is_sent b m) g.outstanding ≡ true →
           GoesOn w i [] c (with_outstanding (without_first (is_sent b m) g.outstanding) g) rest
       acknowledgment-goes b s from-here out =
           moved (with_outstanding (without_first (is_sent b m) g.outstanding) g) rest

@@ -16,7 +16,7 @@ use Rattle.model.specs.declared.State.{State}
 use Rattle.model.specs.declared.Site.{Site}
 use Rattle.model.specs.declared.Kind.{Kind}
 use Rattle.model.specs.declared.Kind.TheVariants.{Failure, Request, Delivery, Restock, Start, Lvt, Update}
-use Rattle.frame.specs.Reasons.{reading}
+use Rattle.frame.specs.Reasons.{frame_read}
 use Rattle.frame.specs.Writing.{written}
 use Rattle.frame.specs.declared.Frame.{Frame}
 use Rattle.frame.specs.declared.Sense.{Sense}
@@ -38,15 +38,15 @@ module _ {A : Type 0} (see : Frame → List A) where
   -- of the frames under way
   unfoldable pub seen_in : List Carried → List A
   seen_in [] = []
-  seen_in (c ∷ cs) = see (reading c.frame).frame ++ seen_in cs
+  seen_in (c ∷ cs) = see (frame_read c.frame) ++ seen_in cs
 
   pub seen-append : (cs ds : List Carried) → seen_in (cs ++ ds) ≡ seen_in cs ++ seen_in ds
   unfolding seen_in
   seen-append [] ds = refl
   seen-append (c ∷ cs) ds =
-      ap (λ l. see (reading c.frame).frame ++ l) (seen-append cs ds) ∙ sym (append_assoc (see (reading c.frame).frame) (seen_in cs) (seen_in ds))
+      ap (λ l. see (frame_read c.frame) ++ l) (seen-append cs ds) ∙ sym (append_assoc (see (frame_read c.frame)) (seen_in cs) (seen_in ds))
 
-  seen-written : (tag : ℕ) {fs : List Frame} → All (λ f. (reading (written f)).frame ≡ f) fs → seen_in (map (λ b. record {
+  seen-written : (tag : ℕ) {fs : List Frame} → All (λ f. (frame_read (written f)) ≡ f) fs → seen_in (map (λ b. record {
     frame = b;
     tag =
         tag;
@@ -56,12 +56,12 @@ module _ {A : Type 0} (see : Frame → List A) where
   seen-written tag (cons e a) = ap₂ (λ f l. see f ++ l) e (seen-written tag a)
 
   -- frames that can be read are put under way
-  pub seen-carried : (tag : ℕ) (fs : List Frame) → All (λ f. (reading (written f)).frame ≡ f) fs → (cs : List Carried) → seen_in (carry tag
+  pub seen-carried : (tag : ℕ) (fs : List Frame) → All (λ f. (frame_read (written f)) ≡ f) fs → (cs : List Carried) → seen_in (carry tag
       (map written fs) cs) ≡ seen_in cs ++ seen_of fs
   seen-carried tag fs a cs = seen-append cs (map (λ b. record { frame = b; tag = tag }) (map written fs)) ∙ ap (λ l. seen_in cs ++ l) (seen-written tag a)
 
   -- the oldest equal frame is taken out
-  pub seen-taken : (frame : List ℕ) (cs : List Carried) → any (is_frame frame) cs ≡ true → (x : A) → see (reading frame).frame ≡ x ∷ [] →
+  pub seen-taken : (frame : List ℕ) (cs : List Carried) → any (is_frame frame) cs ≡ true → (x : A) → see (frame_read frame) ≡ x ∷ [] →
       Insert x (seen_in (without_first (is_frame frame) cs)) (seen_in cs)
   unfolding any without_first seen_in
   seen-taken frame [] h x e = absurd (false≢true h)
@@ -73,30 +73,30 @@ module _ {A : Type 0} (see : Frame → List A) where
 
       by-case : (b : Bool) → is_frame frame c ≡ b → (any (is_frame frame) cs ≡ true → Insert x (seen_in (without_first (is_frame frame) cs))
           (seen_in cs)) → (b || any (is_frame frame) cs) ≡ true
-          → Insert x (seen_in (cond b cs (c ∷ without_first (is_frame frame) cs))) (see (reading c.frame).frame ++ seen_in cs)
+          → Insert x (seen_in (cond b cs (c ∷ without_first (is_frame frame) cs))) (see (frame_read c.frame) ++ seen_in cs)
       by-case true d rest k =
-          subst (λ l. Insert x (seen_in cs) (l ++ seen_in cs)) (sym (ap (λ (b : List ℕ). see (reading b).frame) (sym (same_bytes_lem frame c.frame d)) ∙ e)) here
-      by-case false d rest k = further (see (reading c.frame).frame) (rest k)
+          subst (λ l. Insert x (seen_in cs) (l ++ seen_in cs)) (sym (ap (λ (b : List ℕ). see (frame_read b)) (sym (same_bytes_lem frame c.frame d)) ∙ e)) here
+      by-case false d rest k = further (see (frame_read c.frame)) (rest k)
 
   -- a frame of which nothing is seen leaves the rest
-  pub seen-left : (frame : List ℕ) (cs : List Carried) → see (reading frame).frame ≡ [] → seen_in (without_first (is_frame frame) cs) ≡ seen_in cs
+  pub seen-left : (frame : List ℕ) (cs : List Carried) → see (frame_read frame) ≡ [] → seen_in (without_first (is_frame frame) cs) ≡ seen_in cs
   unfolding without_first seen_in
   seen-left frame [] e = refl
   seen-left frame (c ∷ cs) e = by-case (is_frame frame c) refl (seen-left frame cs e)
     where
       by-case : (b : Bool) → is_frame frame c ≡ b → seen_in (without_first (is_frame frame) cs) ≡ seen_in cs
-          → seen_in (cond b cs (c ∷ without_first (is_frame frame) cs)) ≡ see (reading c.frame).frame ++ seen_in cs
-      by-case true d rest = ap (λ l. l ++ seen_in cs) (sym (ap (λ (b : List ℕ). see (reading b).frame) (sym (same_bytes_lem frame c.frame d)) ∙ e))
-      by-case false d rest = ap (λ l. see (reading c.frame).frame ++ l) rest
+          → seen_in (cond b cs (c ∷ without_first (is_frame frame) cs)) ≡ see (frame_read c.frame) ++ seen_in cs
+      by-case true d rest = ap (λ l. l ++ seen_in cs) (sym (ap (λ (b : List ℕ). see (frame_read b)) (sym (same_bytes_lem frame c.frame d)) ∙ e))
+      by-case false d rest = ap (λ l. see (frame_read c.frame) ++ l) rest
 
   -- what all that is seen have, what is seen of one of them has
-  pub seen-have : {p : A → Type 0} (cs : List Carried) → All p (seen_in cs) → (c : Carried) → c ∈ cs → All p (see (reading c.frame).frame)
+  pub seen-have : {p : A → Type 0} (cs : List Carried) → All p (seen_in cs) → (c : Carried) → c ∈ cs → All p (see (frame_read c.frame))
   unfolding seen_in
   seen-have [] a c m = absurd (Memᴰ.not-nil m)
   seen-have {p} (d ∷ cs) a c m =
       ⊎_elim
-      (λ (e : c ≡ d). subst (λ (x : Carried). All p (see (reading x.frame).frame)) (sym e) (all_left (see (reading d.frame).frame) (seen_in cs) a))
-      (λ k. seen-have cs (all_right (see (reading d.frame).frame) (seen_in cs) a) c k)
+      (λ (e : c ≡ d). subst (λ (x : Carried). All p (see (frame_read x.frame))) (sym e) (all_left (see (frame_read d.frame)) (seen_in cs) a))
+      (λ k. seen-have cs (all_right (see (frame_read d.frame)) (seen_in cs) a) c k)
       (Memᴰ.cases_cons m)
 
 -- a plain message as an event; the frames of a round are none
@@ -180,12 +180,12 @@ acknowledgment-seen false m fs = (refl, refl)
 
 -- a bound of the events and acknowledgments under way bounds the hour of every such frame
 pub bound-seen : (p : Message → Type 0) (cs : List Carried) → All (λ e. p (message e)) (seen_in event_of cs) → All (λ e. p (message e)) (seen_in acknowledged_of cs)
-    → (c : Carried) → c ∈ cs → kind_in c.frame < 4 → p (reading c.frame).frame.message
+    → (c : Carried) → c ∈ cs → kind_in c.frame < 4 → p (frame_read c.frame).message
 unfolding message
 bound-seen p cs a b c m small = by-sense f.sense f.message.kind refl refl (seen-have event_of cs a c m) (seen-have acknowledged_of cs b c m)
   where
     f : Frame
-    f = (reading c.frame).frame
+    f = (frame_read c.frame)
 
     only : (x : Event Message) {q : Event Message → Type 0} → All q (x ∷ []) → q x
     only x (cons h a) = h

@@ -17,7 +17,7 @@ use Rattle.model.specs.Messages.{kind_number}
 use Rattle.model.specs.declared.Message.{Message}
 use Rattle.model.specs.declared.Kind.{Kind}
 use Rattle.model.specs.declared.Kind.TheVariants.{Failure, Request, Delivery, Restock, Start, Lvt, Update}
-use Rattle.frame.specs.Reasons.{reading}
+use Rattle.frame.specs.Reasons.{frame_read}
 use Rattle.frame.specs.Limits.{addressee, numbers_below, hour_allowed, refusal, refusal_where}
 use Rattle.frame.specs.declared.Frame.{Frame}
 use Rattle.frame.specs.declared.Sense.{Sense}
@@ -103,14 +103,14 @@ outstanding-found c m xs rest i = by-case (any (is_sent c m) xs) refl
 
 -- what all frames of rounds under way have, those of one of them have
 rounds-have : {p : RoundFrame → Type 0} (cs : List Carried) → All p (rounds_in cs) → (c : Carried) → c ∈ cs → All p (round_of (c.tag - 1)
-    (reading c.frame).frame)
+    (frame_read c.frame))
 unfolding rounds_in
 rounds-have [] a c m = absurd (Memᴰ.not-nil m)
 rounds-have {p} (d ∷ cs) a c m =
     ⊎_elim
-    (λ (e : c ≡ d). subst (λ (x : Carried). All p (round_of (x.tag - 1) (reading x.frame).frame)) (sym e) (all_left (round_of (d.tag -
-    1) (reading d.frame).frame) (rounds_in cs) a))
-    (λ k. rounds-have cs (all_right (round_of (d.tag - 1) (reading d.frame).frame) (rounds_in cs) a) c k)
+    (λ (e : c ≡ d). subst (λ (x : Carried). All p (round_of (x.tag - 1) (frame_read x.frame))) (sym e) (all_left (round_of (d.tag -
+    1) (frame_read d.frame)) (rounds_in cs) a))
+    (λ k. rounds-have cs (all_right (round_of (d.tag - 1) (frame_read d.frame)) (rounds_in cs) a) c k)
     (Memᴰ.cases_cons m)
 
 pub only : {A : Type 0} {p : A → Type 0} (x : A) → All p (x ∷ []) → p x
@@ -119,7 +119,7 @@ only x (cons h a) = h
 module _ (n : ℕ) (some : 1 ≤ n) (last : ℕ) (setups : ℕ → SetUpInput) {w : World} {t : Worlds.World (forecast_setting n some last setups)} (b
     : Both n some last setups w t) (c : Carried) (under : c ∈ w.under_way) where
   abbrev f : Frame
-  f = (reading c.frame).frame
+  f = (frame_read c.frame)
 
   abbrev m : Message
   m = f.message

@@ -16,7 +16,7 @@ use Rattle.lists.proofs.ListLaws.{count-insert, count-all, all-count, all-each, 
 use Rattle.lists.proofs.Ascents.{insert-ascending}
 use Rattle.model.specs.Messages.{origin_of}
 use Rattle.model.specs.declared.Message.{Message}
-use Rattle.frame.specs.Reasons.{reading}
+use Rattle.frame.specs.Reasons.{frame_read}
 use Rattle.frame.specs.Limits.{nothing_due}
 use Rattle.memory.specs.Validity.{is_pending, is_processed, is_waiting, equal, later}
 use Rattle.memory.specs.declared.Entry.{Entry}
@@ -140,24 +140,24 @@ module _ (n last : ℕ) (setups : ℕ → SetUpInput) where
       }
 
   pub all-entered : (fs : List (List ℕ)) (es : List Entry) (l : Ledger.Ledger) → Entered es l → Entered (queued es fs) (opening_ledger (map
-      (λ f. (reading f).frame.message) fs) l)
+      (λ f. (frame_read f).message) fs) l)
   unfolding queued opening_ledger
   all-entered [] es l e = e
-  all-entered (f ∷ fs) es l e = let m = (reading f).frame.message in all-entered fs (before_first (is_later m) es ++ (pending_entry m ∷
+  all-entered (f ∷ fs) es l e = let m = (frame_read f).message in all-entered fs (before_first (is_later m) es ++ (pending_entry m ∷
       from_first (is_later m) es)) (after_plain m l) (one-entered m es l e)
 
-  pub queued-counts : (fs : List (List ℕ)) (es : List Entry) (x : Message) → times x (pending_of (queued es fs)) ≡ times x (map (λ f. (reading
-      f).frame.message) fs) + times x (pending_of es)
+  pub queued-counts : (fs : List (List ℕ)) (es : List Entry) (x : Message) → times x (pending_of (queued es fs)) ≡ times x (map (λ f. (frame_read
+      f).message) fs) + times x (pending_of es)
   unfolding queued
   queued-counts [] es x = omega (arith, count-nil (message-eq model) x)
   queued-counts (f ∷ fs) es x =
-      let m = (reading f).frame.message in
+      let m = (frame_read f).message in
       omega (
         arith,
         queued-counts fs (before_first (is_later m) es ++ (pending_entry m ∷ from_first (is_later m) es)) x,
         enters-counts m es x,
         count-cons (message-eq model) x m (pending_of es),
-        count-cons (message-eq model) x m (map (λ g. (reading g).frame.message) fs),
+        count-cons (message-eq model) x m (map (λ g. (frame_read g).message) fs),
       )
 
   -- the opening ledger

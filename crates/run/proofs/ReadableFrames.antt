@@ -19,7 +19,7 @@ use Rattle.frame.proofs.Presence.{lamp-kinds}
 use Rattle.frame.specs.Writing.{all_between, lamp_fits, gateways_agree, hour_fits, sense_allowed, well_formed, written}
 use Rattle.frame.specs.Claims.{RangedFrame}
 use Rattle.frame.specs.declared.Frame.{Frame}
-use Rattle.frame.specs.declared.Reading.{Reading}
+use Rattle.frame.specs.Reasons.{frame_in}
 use Rattle.frame.proofs.Output.{whole-size}
 use Rattle.frame.proofs.Laws.{one-to-one}
 use Rattle.frame.specs.declared.Sense.{Sense}
@@ -114,7 +114,7 @@ module _ (s : Settings) (v : ValidSettings s) where
   event-frame f e t r k =
       let ranged = frame-ranged f e (stored-fits f.message t r) in
       record {
-        readable = ap (λ (x : Reading). x.frame) (one-to-one.written_read f ranged e);
+        readable = ap frame_in (one-to-one.written_read f ranged e);
         whole = sym (whole-size f r.lamp);
         kind = k;
         hour = t.hour;

@@ -15,6 +15,7 @@ use Rattle.model.specs.declared.Kind.TheVariants.{Start, Lvt, Update}
 use Rattle.frame.specs.Layout.{whole_length, standing}
 use Rattle.frame.specs.Kinds.{has_hour, map_of, map_of_kind}
 use Rattle.frame.specs.Writing.{written, contents, well_formed, lamp_fits, all_between}
+use Rattle.frame.specs.Reasons.{frame_in}
 use Rattle.frame.specs.Claims.{RangedFrame, OneToOne}
 use Rattle.frame.specs.declared.Frame.{Frame}
 use Rattle.gateway.specs.Rounds.{frame_in_round, frames_in_round}
@@ -49,7 +50,7 @@ module _ (one : OneToOne) (kind : Kind) (o : origin_of kind ≡ 0) (q : quantity
   pub frames-readable : {js : List ℕ} → All (λ j. j < 256) js → All Readable (frames_in_round kind v i js)
   frames-readable a =
       all-image (frame_in_round kind v i)
-      (all_map (λ j m. ap (λ r. r.frame) (one.written_read (frame_in_round kind v i j) (round-ranged kind o q v i j h l m) (formed j))) a)
+      (all_map (λ j m. ap frame_in (one.written_read (frame_in_round kind v i j) (round-ranged kind o q v i j h l m) (formed j))) a)
 
 module _ (v i j : ℕ) where
   pub start-formed : well_formed (frame_in_round Start 0 i j) ≡ true

@@ -15,7 +15,7 @@ use Rattle.model.specs.Messages.{kind_number}
 use Rattle.model.specs.declared.Message.{Message}
 use Rattle.model.specs.declared.Kind.{Kind}
 use Rattle.model.specs.declared.Kind.TheVariants.{Failure, Request, Delivery, Restock, Start, Lvt, Update}
-use Rattle.frame.specs.Reasons.{reading}
+use Rattle.frame.specs.Reasons.{frame_read}
 use Rattle.frame.specs.declared.Sense.TheVariants.{Plain}
 use Rattle.memory.specs.Records.{Gateway}
 use Rattle.memory.specs.Codec.{decode}
@@ -183,9 +183,9 @@ module _ (n : ℕ) (some : 1 ≤ n) (last : ℕ) (setups : ℕ → SetUpInput) {
   -- a frame of a round that is under way
   module _ (frame output : List ℕ) (bytes : Bytes frame) (z : (taken (w.memories i) frame output).answer.number ≡ 0) (found : any (is_frame
       frame) w.under_way ≡ true)
-      (plain : (reading frame).frame.sense ≡ Plain) (large : 4 ≤ kind_in frame) where
+      (plain : (frame_read frame).sense ≡ Plain) (large : 4 ≤ kind_in frame) where
     abbrev m : Message
-    m = (reading frame).frame.message
+    m = (frame_read frame).message
 
     abbrev later : World
     later = let l = taken (w.memories i) frame output in after_taking n i frame l.memory (frames_in l.answer.written l.output) w
@@ -208,7 +208,7 @@ module _ (n : ℕ) (some : 1 ≤ n) (last : ℕ) (setups : ℕ → SetUpInput) {
         valid note-due frame output z found plain e b.numbered
 
     -- it leaves the ledger
-    ledger-left : taken_by_sense m (reading frame).frame.sense (w.ledgers i) ≡ w.ledgers i
+    ledger-left : taken_by_sense m (frame_read frame).sense (w.ledgers i) ≡ w.ledgers i
     ledger-left = rw (plain, lt-leb (kind_number m.kind) 2 (omega arith)) refl
 
     pub round-takes : Keeps n some last setups t later

@@ -14,7 +14,7 @@ use Rattle.model.specs.Messages.{kind_number}
 use Rattle.model.specs.declared.Message.{Message}
 use Rattle.model.specs.declared.Kind.TheVariants.{Start, Lvt, Update}
 use Rattle.frame.specs.Limits.{addressee, nothing_due}
-use Rattle.frame.specs.Reasons.{reading}
+use Rattle.frame.specs.Reasons.{frame_read}
 use Rattle.frame.specs.Writing.{written}
 use Rattle.frame.specs.declared.Frame.{Frame}
 use Rattle.frame.specs.declared.Sense.{Sense}
@@ -133,9 +133,9 @@ module _ (n : ℕ) (some : 1 ≤ n) (M : Model) (equal : n - 1 ≡ M.last) (w : 
 
     -- A frame of a round that is under way.
     module _ (frame output : List ℕ) (h : (taken (v.memories i) frame output).answer.number ≡ 0) (found : any (is_frame frame) v.under_way ≡ true)
-        (plain : (reading frame).frame.sense ≡ Plain) where
+        (plain : (frame_read frame).sense ≡ Plain) where
       abbrev m : Message
-      m = (reading frame).frame.message
+      m = (frame_read frame).message
 
       abbrev rest : List Carried
       rest = without_first (is_frame frame) v.under_way
@@ -154,7 +154,7 @@ module _ (n : ℕ) (some : 1 ≤ n) (M : Model) (equal : n - 1 ≡ M.last) (w : 
       addressed : m.to ≡ i
       addressed =
           sym (ap (λ (s : Sense). addressee s m) plain)
-          ∙ (not-refused (gs i).settings (reading frame).frame (bytes-accepted frame (length output) (gs i) number).passes).here
+          ∙ (not-refused (gs i).settings (frame_read frame) (bytes-accepted frame (length output) (gs i) number).passes).here
           ∙ a.own
 
       -- its hour is one that a round carries
@@ -162,7 +162,7 @@ module _ (n : ℕ) (some : 1 ≤ n) (M : Model) (equal : n - 1 ≡ M.last) (w : 
       hour-due large =
           allowed-due
           (subst (λ (b : Bool). (leb m.hour (gs i).settings.last || (b && eqb m.hour nothing_due)) ≡ true) (le-leb 5 (kind_number m.kind) large)
-          (not-refused (gs i).settings (reading frame).frame (bytes-accepted frame (length output) (gs i) number).passes).hour)
+          (not-refused (gs i).settings (frame_read frame) (bytes-accepted frame (length output) (gs i) number).passes).hour)
 
       -- and is no event
       rest-network : plain_by_kind m m.kind ≡ [] → network_in rest ≡ network_in v.under_way

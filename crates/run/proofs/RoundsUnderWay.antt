@@ -9,7 +9,7 @@ use Rattle.lists.proofs.ListLaws.{all_append, all-image}
 use Rattle.model.specs.declared.Message.{Message}
 use Rattle.model.specs.declared.Kind.{Kind}
 use Rattle.model.specs.declared.Kind.TheVariants.{Failure, Request, Delivery, Restock, Start, Lvt, Update}
-use Rattle.frame.specs.Reasons.{reading}
+use Rattle.frame.specs.Reasons.{frame_read}
 use Rattle.frame.specs.Writing.{written}
 use Rattle.frame.specs.declared.Frame.{Frame}
 use Rattle.buffer.proofs.Equality.{same_bytes_lem}
@@ -38,18 +38,18 @@ rounds_of t (f ∷ fs) = round_of t f ++ rounds_of t fs
 -- those under way; round t of the theory is round t + 1 of the run
 unfoldable pub rounds_in : List Carried → List RoundFrame
 rounds_in [] = []
-rounds_in (c ∷ cs) = round_of (c.tag - 1) (reading c.frame).frame ++ rounds_in cs
+rounds_in (c ∷ cs) = round_of (c.tag - 1) (frame_read c.frame) ++ rounds_in cs
 
 pub rounds-append : (cs ds : List Carried) → rounds_in (cs ++ ds) ≡ rounds_in cs ++ rounds_in ds
 unfolding rounds_in
 rounds-append [] ds = refl
 rounds-append (c ∷ cs) ds =
-    ap (λ l. round_of (c.tag - 1) (reading c.frame).frame ++ l) (rounds-append cs ds)
-    ∙ sym (append_assoc (round_of (c.tag - 1) (reading c.frame).frame) (rounds_in cs) (rounds_in ds))
+    ap (λ l. round_of (c.tag - 1) (frame_read c.frame) ++ l) (rounds-append cs ds)
+    ∙ sym (append_assoc (round_of (c.tag - 1) (frame_read c.frame)) (rounds_in cs) (rounds_in ds))
 
 -- what is written and carried reads as it was
 abbrev pub Readable : Frame → Type 0
-Readable f = (reading (written f)).frame ≡ f
+Readable f = (frame_read (written f)) ≡ f
 
 abbrev pub tagged : ℕ → List ℕ → Carried
 tagged tag f = record { frame = f; tag = tag }
@@ -84,7 +84,7 @@ updates-are t hour i (j ∷ l) = ap (λ k. update i j t hour ∷ k) (updates-are
 
 -- the oldest equal frame under way, taken out
 pub round-taken : (frame : List ℕ) (cs : List Carried) → any (is_frame frame) cs ≡ true → (f : RoundFrame)
-    → round_of (tag_of frame cs - 1) (reading frame).frame ≡ f ∷ [] → Insert f (rounds_in (without_first (is_frame frame) cs)) (rounds_in cs)
+    → round_of (tag_of frame cs - 1) (frame_read frame) ≡ f ∷ [] → Insert f (rounds_in (without_first (is_frame frame) cs)) (rounds_in cs)
 unfolding any without_first tag_of rounds_in
 round-taken frame [] h f e = absurd (false≢true h)
 round-taken frame (c ∷ cs) h f e = go (is_frame frame c) refl (λ k d. round-taken frame cs k f d) h e
@@ -94,29 +94,29 @@ round-taken frame (c ∷ cs) h f e = go (is_frame frame c) refl (λ k d. round-t
     others (g ∷ l) x = there (others l x)
 
     go : (b : Bool) → is_frame frame c ≡ b
-        → (any (is_frame frame) cs ≡ true → round_of (tag_of frame cs - 1) (reading frame).frame ≡ f ∷ [] → Insert f (rounds_in (without_first
+        → (any (is_frame frame) cs ≡ true → round_of (tag_of frame cs - 1) (frame_read frame) ≡ f ∷ [] → Insert f (rounds_in (without_first
         (is_frame frame) cs)) (rounds_in cs))
         → (b || any (is_frame frame) cs) ≡ true
-        → round_of (cond b c.tag (tag_of frame cs) - 1) (reading frame).frame ≡ f ∷ []
-        → Insert f (rounds_in (cond b cs (c ∷ without_first (is_frame frame) cs))) (round_of (c.tag - 1) (reading c.frame).frame ++ rounds_in cs)
+        → round_of (cond b c.tag (tag_of frame cs) - 1) (frame_read frame) ≡ f ∷ []
+        → Insert f (rounds_in (cond b cs (c ∷ without_first (is_frame frame) cs))) (round_of (c.tag - 1) (frame_read c.frame) ++ rounds_in cs)
     go true d rest k e =
         let bytes : frame ≡ c.frame = same_bytes_lem frame c.frame d in
         rw (← bytes, e) here
-    go false d rest k e = others (round_of (c.tag - 1) (reading c.frame).frame) (rest k e)
+    go false d rest k e = others (round_of (c.tag - 1) (frame_read c.frame)) (rest k e)
 
 -- a frame that is none of a round leaves them
-pub round-left : (frame : List ℕ) (cs : List Carried) → ((t : ℕ) → round_of t (reading frame).frame ≡ [])
+pub round-left : (frame : List ℕ) (cs : List Carried) → ((t : ℕ) → round_of t (frame_read frame) ≡ [])
     → rounds_in (without_first (is_frame frame) cs) ≡ rounds_in cs
 unfolding without_first rounds_in
 round-left frame [] n = refl
 round-left frame (c ∷ cs) n = go (is_frame frame c) refl (round-left frame cs n)
   where
     go : (b : Bool) → is_frame frame c ≡ b → rounds_in (without_first (is_frame frame) cs) ≡ rounds_in cs
-        → rounds_in (cond b cs (c ∷ without_first (is_frame frame) cs)) ≡ round_of (c.tag - 1) (reading c.frame).frame ++ rounds_in cs
+        → rounds_in (cond b cs (c ∷ without_first (is_frame frame) cs)) ≡ round_of (c.tag - 1) (frame_read c.frame) ++ rounds_in cs
     go true d rest =
         let bytes : frame ≡ c.frame = same_bytes_lem frame c.frame d in
         rw (← bytes, n (c.tag - 1)) refl
-    go false d rest = ap (λ l. round_of (c.tag - 1) (reading c.frame).frame ++ l) rest
+    go false d rest = ap (λ l. round_of (c.tag - 1) (frame_read c.frame) ++ l) rest
 
 -- a frame of a round has a round's number
 abbrev pub Numbered : Carried → Type 0

@@ -9,7 +9,7 @@ use borrow.Author.Tests.{leb-true, leb-false}
 use Rattle.lists.specs.Lists.{any}
 use Rattle.buffer.specs.Slice.{Bytes}
 use Rattle.frame.specs.Kinds.{sense_number}
-use Rattle.frame.specs.Reasons.{reading}
+use Rattle.frame.specs.Reasons.{frame_read}
 use Rattle.frame.specs.declared.Sense.{Sense}
 use Rattle.frame.specs.declared.Sense.TheVariants.{Plain, Cancel, Acknowledgment, CancelAcknowledgment}
 use Rattle.gateway.specs.Calls.{taken}
@@ -27,14 +27,14 @@ module _ (n : ℕ) (some : 1 ≤ n) (last : ℕ) (setups : ℕ → SetUpInput) w
       → (taken (w.memories i) frame output).answer.number ≡ 0 → any (is_frame frame) w.under_way ≡ true
       → let l = taken (w.memories i) frame output in
       Keeps n some last setups t (after_taking n i frame l.memory (frames_in l.answer.written l.output) w)
-  takes-kept {w} {t} b i h frame output bytes z found = by-kind (leb 4 (kind_in frame)) refl (reading frame).frame.sense refl
+  takes-kept {w} {t} b i h frame output bytes z found = by-kind (leb 4 (kind_in frame)) refl (frame_read frame).sense refl
     where
-      event : ((reading frame).frame.sense ≡ Plain → kind_in frame < 4) →
+      event : ((frame_read frame).sense ≡ Plain → kind_in frame < 4) →
           let l = taken (w.memories i) frame output in
           Keeps n some last setups t (after_taking n i frame l.memory (frames_in l.answer.written l.output) w)
       event plain = event-taken-kept n some last setups b i h frame bytes output z found plain
 
-      by-kind : (x : Bool) → leb 4 (kind_in frame) ≡ x → (s : Sense) → (reading frame).frame.sense ≡ s →
+      by-kind : (x : Bool) → leb 4 (kind_in frame) ≡ x → (s : Sense) → (frame_read frame).sense ≡ s →
           let l = taken (w.memories i) frame output in
           Keeps n some last setups t (after_taking n i frame l.memory (frames_in l.answer.written l.output) w)
       by-kind true large Plain s = round-takes n some last setups b i h frame output bytes z found s (leb-true 4 (kind_in frame) large)

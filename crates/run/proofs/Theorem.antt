@@ -1,5 +1,6 @@
 -- The theorem: demand 3 holds of every forecast, every list of calls and every carrier that keeps to the rules.
 use mathlib.Core.Path.{◌≡◌, refl, sym, ◌∙◌, ap, subst}
+use Rattle.std.specs.Prelude.{is_ok}
 use Prim.Native.Nat.{ℕ, ◌≤◌, ◌<◌}
 use native.Mathlib.Omega.{arith}
 use mathlib.Core.List.{List, ◌++◌}
@@ -62,7 +63,7 @@ module _ (n last : ℕ) (setups : ℕ → SetUpInput) (lent : ℕ → List ℕ) 
         sound_memories = k.both.bytes;
         never_fell = never-fell calls h;
         bound_waiting = waiting-part n last setups (figure_graph n some) refl laws w k.world b;
-        good_forms = λ c m. (all-each k.both.passing c m).form;
+        good_forms = λ c m. ap is_ok (all-each k.both.passing c m).form;
         bound_under_way = under_way-part n last setups (figure_graph n some) refl laws w k.world b;
         open_round = phase-open n some (model n some last setups) refl k.both.rounds;
         rounds = rounds-hold n some (model n some last setups) refl (good-world n some last setups k.both) k.both.rounds.counted;

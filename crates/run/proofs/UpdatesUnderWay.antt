@@ -12,7 +12,7 @@ use Rattle.model.specs.Messages.{kind_number}
 use Rattle.model.specs.declared.Message.{Message}
 use Rattle.model.specs.declared.Kind.{Kind}
 use Rattle.model.specs.declared.Kind.TheVariants.{Failure, Request, Delivery, Restock, Start, Lvt, Update}
-use Rattle.frame.specs.Reasons.{reading}
+use Rattle.frame.specs.Reasons.{frame_read}
 use Rattle.round_steps.specs.Arcs.{Child}
 use Rattle.round_steps.specs.RoundSteps as RoundSteps
 use Rattle.round_steps.specs.RoundSteps.{update, InTurn, update-in-turn}
@@ -35,12 +35,12 @@ abbrev OfAnother : ℕ → Carried → Type 0
 OfAnother k c = Numbered c × (kind_in c.frame ≡ 6 → c.tag ≡ k → ⊥)
 
 -- counts for none of its Updates
-another-counts : (k j : ℕ) → 1 ≤ k → (c : Carried) → OfAnother k c → tally (update_to (k - 1) j) (round_of (c.tag - 1) (reading c.frame).frame) ≡ 0
+another-counts : (k j : ℕ) → 1 ≤ k → (c : Carried) → OfAnother k c → tally (update_to (k - 1) j) (round_of (c.tag - 1) (frame_read c.frame)) ≡ 0
 unfolding tally update_to
 another-counts k j one c a = by-kind m.kind refl
   where
     m : Message
-    m = (reading c.frame).frame.message
+    m = (frame_read c.frame).message
 
     by-kind : (x : Kind) → m.kind ≡ x → tally (update_to (k - 1) j) (by_kind (c.tag - 1) m x) ≡ 0
     by-kind (Failure origin) e = refl
@@ -60,7 +60,7 @@ others-count k j one nil = refl
 others-count k j one (cons {a = c} {l = cs} h a) =
     omega (
       arith,
-      tally-append (update_to (k - 1) j) (round_of (c.tag - 1) (reading c.frame).frame) (rounds_in cs),
+      tally-append (update_to (k - 1) j) (round_of (c.tag - 1) (frame_read c.frame)) (rounds_in cs),
       another-counts k j one c h,
       others-count k j one a,
     )
@@ -97,7 +97,7 @@ module _ (n : ℕ) (some : 1 ≤ n) (last : ℕ) (setups : ℕ → SetUpInput) {
   completed-has-none all (c, under, six, e) = by-kind m.kind refl
     where
       m : Message
-      m = (reading c.frame).frame.message
+      m = (frame_read c.frame).message
 
       by-child : ChildOf (n - 1) m.from m.to → Child (n - 1) m.from m.to → t.rounds.accepted (c.tag - 1) m.to ≡ 0 → ⊥
       by-child (no-child x) y z = omega arith

@@ -6,14 +6,13 @@
 -- each completed round took exactly two messages an arc and N − 1 more, under 4N. Each call gets the memory that its gateway's last call
 -- left, and nobody else writes it meanwhile. This holds whatever order and delay the carrier chooses, if it brings only frames that a
 -- gateway wrote for it, each unaltered to its addressee, accepted once at most."
-use Rattle.std.specs.Prelude.{◌≡◌, ℕ, ◌+◌, ◌*◌, ◌-◌, ◌≤◌, ◌<◌, true, not}
+use Rattle.std.specs.Prelude.{◌≡◌, ℕ, ◌+◌, ◌*◌, ◌-◌, ◌≤◌, ◌<◌, true, not, IsOk}
 use mathlib.Core.List.{List, ◌++◌, Memᴰ}
 use Rattle.lists.specs.Lists.{Beginning}
 use Rattle.routing.specs.Arcs.{arc_count}
 use Rattle.model.specs.declared.Message.{Message}
 use Rattle.frame.specs.Limits.{nothing_due}
-use Rattle.frame.specs.Reasons.{reading}
-use Rattle.frame.specs.declared.Form.TheVariants.{Good}
+use Rattle.frame.specs.Reasons.{reading, frame_read}
 use Rattle.memory.specs.Codec.{decode}
 use Rattle.gateway.specs.Rounds.{is_idle}
 use Rattle.gateway.specs.Calls.{committed, agreed_time}
@@ -50,10 +49,10 @@ pub record Claim (n last : ℕ) (setups : ℕ → SetUpInput) (lent : ℕ → Li
   -- no agreed time is past anything that waits
   pub bound_waiting : (i j : ℕ) → i < n → j < n → (m : Message) → Memᴰ m (waiting (w.ledgers j)) → agreed w i ≤ m.hour
   -- every frame under way is of one of the forms
-  pub good_forms : (c : Carried) → Memᴰ c w.under_way → (reading c.frame).form ≡ Good
+  pub good_forms : (c : Carried) → Memᴰ c w.under_way → IsOk (reading c.frame)
   -- and no agreed time is past any message, cancel or acknowledgment under way
   pub bound_under_way : (i : ℕ) → i < n → (c : Carried) → Memᴰ c w.under_way → kind_in c.frame < 4
-      → agreed w i ≤ (reading c.frame).frame.message.hour
+      → agreed w i ≤ (frame_read c.frame).message.hour
   -- gateway 0's phase says whether a round is open
   pub open_round : is_idle (decode (w.memories 0)).round.phase ≡ not w.rounds.open?
   -- each completed round took two messages an arc and N − 1 more, below 4N

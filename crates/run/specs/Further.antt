@@ -2,7 +2,7 @@
 use Rattle.std.specs.Prelude.{◌≡◌, ℕ, ◌<◌}
 use mathlib.Core.List.{List, Memᴰ}
 use Rattle.frame.specs.Limits.{nothing_due, addressee}
-use Rattle.frame.specs.Reasons.{reading}
+use Rattle.frame.specs.Reasons.{frame_read}
 use Rattle.gateway.specs.Calls.{taken, started, committed, worked_off, set_up}
 use Rattle.run.specs.Forecast.{SetUpInput, Forecast}
 use Rattle.run.specs.World.{World, Call, works, takes, starts, commits, sets_up, Carried, opening_world, after_call, after_calls, AllAllowed}
@@ -10,7 +10,7 @@ use Rattle.run.specs.Demand3.{agreed, NothingToCommit}
 
 -- the gateway that a frame is addressed to
 abbrev pub receiver : List ℕ → ℕ
-receiver bytes = let f = (reading bytes).frame in addressee f.sense f.message
+receiver bytes = let f = (frame_read bytes) in addressee f.sense f.message
 
 -- No frame under way is turned down at its addressee but for want of room, with 5: it is of the forms, its numbers and its hour
 -- are in their ranges, it is not below the agreed time, in its turn, and of something outstanding.

@@ -3,7 +3,7 @@
 use Rattle.std.specs.Prelude.{◌≡◌, ℕ, List, [], ◌∷◌, take}
 use Rattle.model.specs.declared.Kind.TheVariants.{Failure}
 use Rattle.model.specs.declared.Message.{Message}
-use Rattle.frame.specs.Reasons.{reading}
+use Rattle.frame.specs.Reasons.{frame_read}
 use Rattle.records.specs.Events.{events_of}
 use Rattle.records.specs.Balancing.{BalanceAnswer, Balances, balanced}
 use Rattle.records.specs.declared.StockField.TheVariants.{Present}
@@ -41,5 +41,5 @@ pub record HistoryExamples : Type 0 where
   -- as the claim says it: 0 + 3 = 2 + 1
   pub balances : Balances 0 (events_of Present (same_hour_record 0))
   -- of two gateways: what the single queue does at each, a Failure and its Request, which finds the one driver of gateway 1
-  pub histories : (single_history 2 10 two_set_ups 0 ≡ message_at 5 (Failure 0) ∷ []) × (single_history 2 10 two_set_ups 1 ≡ (reading request).frame.message ∷ [])
+  pub histories : (single_history 2 10 two_set_ups 0 ≡ message_at 5 (Failure 0) ∷ []) × (single_history 2 10 two_set_ups 1 ≡ (frame_read request).message ∷ [])
   pub of_two : (balanced 0 (record_of_two 0) ≡ figures 0 0 0) × (balanced 1 (record_of_two 1) ≡ figures 0 1 0)

@@ -4,7 +4,7 @@ use Rattle.lists.specs.Families.{change, together}
 use Rattle.model.specs.Doing.{opening_state, after, sent}
 use Rattle.model.specs.declared.Message.{Message}
 use Rattle.model.specs.declared.State.{State}
-use Rattle.frame.specs.Reasons.{reading}
+use Rattle.frame.specs.Reasons.{frame_read}
 use Rattle.memory.specs.Validity.{later}
 use Rattle.memory.specs.Records.{site_of}
 use Rattle.gateway.specs.Committing.{record_for}
@@ -13,7 +13,7 @@ use Rattle.run.specs.Forecast.{SetUpInput, Forecast}
 
 -- the messages of an opening list
 unfoldable pub opening_messages : List ℕ → List Message
-opening_messages list = map (λ f. (reading f).frame.message) (cut_frames (length list) list)
+opening_messages list = map (λ f. (frame_read f).message) (cut_frames (length list) list)
 
 -- Its state: each gateway's stock and counters, one list of messages, and a record for each gateway.
 pub record Queue : Type 0 where

@@ -6,7 +6,7 @@ use Rattle.buffer.specs.Slice.{Bytes, same_bytes}
 use Rattle.routing.specs.Arcs.{to}
 use Rattle.model.specs.Messages.{kind_number}
 use Rattle.model.specs.declared.Message.{Message}
-use Rattle.frame.specs.Reasons.{reading}
+use Rattle.frame.specs.Reasons.{frame_read}
 use Rattle.frame.specs.declared.Sense.{Sense}
 use Rattle.frame.specs.declared.Sense.TheVariants.{Plain, Cancel, Acknowledgment, CancelAcknowledgment}
 use Rattle.gateway.specs.SettingUp.{cut_frames}
@@ -50,7 +50,7 @@ pub record World : Type 0 where
 
 -- the kind of a frame's message
 abbrev pub kind_in : List ℕ → ℕ
-kind_in frame = kind_number (reading frame).frame.message.kind
+kind_in frame = kind_number (frame_read frame).message.kind
 
 -- the frames that a call wrote
 abbrev pub frames_in : ℕ → List ℕ → List (List ℕ)
@@ -110,7 +110,7 @@ tag_of frame (c ∷ cs) = let rest = tag_of frame cs in cond (is_frame frame c) 
 -- the world after a frame is accepted at gateway i: of equal ones under way the oldest counts as brought
 unfoldable pub after_taking : ℕ → ℕ → List ℕ → List ℕ → List (List ℕ) → World → World
 after_taking n i frame memory written w =
-    let f = (reading frame).frame in
+    let f = (frame_read frame) in
     let r = w.rounds in
     let is_update = eqb (kind_in frame) 6 in
     let tag = cond is_update (tag_of frame w.under_way) r.opened in

@@ -1,21 +1,19 @@
 // The call take: a byte string that is no frame, or no frame for this gateway, is refused; the others go by sense and kind.
 #![tactic(auto)]
 
-ghost use Rattle.std.specs.Prelude.{◌≡◌, true, ◌<◌};
-ghost use Rattle.model.specs.Messages.{kind_number};
+ghost use Rattle.std.specs.Prelude.{◌≡◌, true};
 ghost use Rattle.memory.specs.Inside.Fits.{MessageFits};
 ghost use Rattle.frame.specs.Writing.{well_formed};
-ghost use Rattle.frame.specs.Reasons.{form_in, form_number};
 ghost use Rattle.gateway.specs.Calls.{left, by_carrier, take_by_kind, take_for, take_frame, take_bytes, taken};
 ghost use Rattle.gateway.specs.Inside.Premises.{Known, Leaves};
 
-use frame::forms::{form_number, number_where};
-use frame::{Form, Frame, Reading, Sense};
+use frame::forms::FormError;
+use frame::{Frame, Sense};
 use gateway::{Answer, refused};
 use limits::check;
 use memory::Header;
-use model::{Message, kind_number};
-use reader::read;
+use model::{Kind, Message};
+use reader::read_where;
 use soundness::checked;
 use take_acknowledgment::take_acknowledgment;
 use take_cancel::take_cancel;
@@ -39,23 +37,17 @@ fn take_bytes(memory: &mut [u8], frame: &[u8], output: &mut [u8], header: Header
     requires { Known memory.old header }
     ensures { Leaves result memory output (take_bytes frame.now) }
 {
-    let reading = read(frame);
-    let number = form_refusal(reading);
-    if number != 0 {
-        return refused(number);
+    match read_where(frame, by_carrier) {
+        Ok(frame) => take_checked(memory, output, header, frame),
+        Err(reason) => refused(reason.number()),
     }
-    take_checked(memory, output, header, reading.frame)
 }
 
-// The number of the first reason why this call does not take what was read, or 0. A Restock is for opening lists alone.
-fn form_refusal(reading: Reading) -> u8
-    ensures { result ≡ form_number (form_in by_carrier reading) }
+// Whether the carrier brings such frames. A Restock is for opening lists alone.
+fn by_carrier(frame: Frame) -> bool
+    ensures { result ≡ by_carrier frame }
 {
-    let form = reading.form;
-    let frame = reading.frame;
-    let message = frame.message;
-    let kind = message.kind;
-    number_where(kind_number(kind) != 3, form)
+    !matches!(frame.message.kind, Kind::Restock { .. })
 }
 
 // Numbers and hour are looked at before the rest: 2, then 3.
@@ -64,11 +56,10 @@ fn take_checked(memory: &mut [u8], output: &mut [u8], header: Header, frame: Fra
     ensures { Leaves result memory output (take_for header.settings frame) }
 {
     let settings = header.settings;
-    let number = check(frame, settings.n as u16, settings.own, settings.last);
-    if number != 0 {
-        return refused(number);
+    match check(frame, settings.n as u16, settings.own, settings.last) {
+        Ok(()) => take_frame(memory, output, header, frame),
+        Err(refusal) => refused(refusal.number()),
     }
-    take_frame(memory, output, header, frame)
 }
 
 fn take_frame(memory: &mut [u8], output: &mut [u8], header: Header, frame: Frame) -> Answer
@@ -76,8 +67,7 @@ fn take_frame(memory: &mut [u8], output: &mut [u8], header: Header, frame: Frame
     ensures { Leaves result memory output (λ room g. take_frame room frame g) }
 {
     let message = frame.message;
-    let sense = frame.sense;
-    match sense {
+    match frame.sense {
         Sense::Plain => take_by_kind(memory, output, header, message),
         Sense::Cancel => take_cancel(memory, output, header, message),
         Sense::Acknowledgment => take_acknowledgment(memory, header, false, message),
@@ -85,29 +75,18 @@ fn take_frame(memory: &mut [u8], output: &mut [u8], header: Header, frame: Frame
     }
 }
 
-// An event, or a message of the round.
+// An event, or a message of the round. A Restock is not taken.
 fn take_by_kind(memory: &mut [u8], output: &mut [u8], header: Header, message: Message) -> Answer
     requires { Known memory.old header × MessageFits message }
     ensures { Leaves result memory output (λ room g. take_by_kind room message g message.kind) }
 {
-    let kind = message.kind;
-    if kind_number(kind) <= 2 {
-        return take_plain(memory, output, header, message);
-    }
-    take_in_round(memory, output, header, message)
-}
-
-// A message of the round. A Restock is not taken.
-fn take_in_round(memory: &mut [u8], output: &mut [u8], header: Header, message: Message) -> Answer
-    requires { Known memory.old header × (2 < kind_number message.kind) }
-    ensures { Leaves result memory output (λ room g. take_by_kind room message g message.kind) }
-{
-    let kind = message.kind;
-    let number = kind_number(kind);
-    match number {
-        4 => take_start(memory, output, header, message.from),
-        5 => take_timely_lvt(memory, output, header, message),
-        6 => take_update(memory, output, header, message.from, message.hour),
-        _ => refused(form_number(Form::NotTaken)),
+    match message.kind {
+        Kind::Failure { .. } | Kind::Request { .. } | Kind::Delivery { .. } => {
+            take_plain(memory, output, header, message)
+        }
+        Kind::Restock { .. } => refused(FormError::NotTaken.number()),
+        Kind::Start => take_start(memory, output, header, message.from),
+        Kind::Lvt => take_timely_lvt(memory, output, header, message),
+        Kind::Update => take_update(memory, output, header, message.from, message.hour),
     }
 }

@@ -59,7 +59,7 @@ module _ (field : StockField) (bytes : List ℕ) (b : Bytes bytes) (t : Taken fi
       let p = event-taken field s piece-taken in
       let state = state_in field s in
       let bytes = bytes-part s (whole_length (get_or s 0 0)) (state_size_of field) piece_bytes in
-      let r = one-to-one.read_ranged (frame_in s) (bytes_take (whole_length (get_or s 0 0)) s piece_bytes) p.form in
+      let r = one-to-one.read_ranged (frame_in s) (bytes_take (whole_length (get_or s 0 0)) s piece_bytes) _ p.form in
       record {
         hour = r.hour;
         kind = omega (arith, p.kind);

@@ -10,29 +10,24 @@ ghost use Rattle.frame.specs.Writing.{outcome_of, writing, written};
 ghost use Rattle.frame.specs.Inside.Steps.{head_bytes, field_bytes, body_bytes};
 
 use buffer::{copy, write16, write32};
+use frame::Frame;
 use frame::tables::{
     HOUR, LAMP, ORIGIN, QUANTITY, SENSE, WIDTHS, map_of, sense_number, stands, whole_length,
 };
-use frame::{Frame, WriteAnswer};
 use model::{Message, kind_number, origin_of, quantity_of};
+use refusal::Refusal;
 use rules::value_refusal;
 
-// Writes a frame at the start of an output. Where it is refused nothing is written.
-pub fn write(out: &mut [u8], frame: Frame) -> WriteAnswer
+// Writes a frame at the start of an output, and gives the number of bytes. Where it is refused nothing is written.
+pub fn write(out: &mut [u8], frame: Frame) -> Result<usize, Refusal>
     ensures { outcome_of result out.new ≡ writing frame out.old }
 {
-    let refusal = value_refusal(frame);
-    if refusal == 12 {
-        return WriteAnswer::WrongLamp;
-    }
-    if refusal != 0 {
-        return WriteAnswer::NoFrame;
-    }
+    value_refusal(frame)?;
     let size = whole_length(map_of(frame));
     if size > out.len() {
-        return WriteAnswer::NoRoom;
+        return Err(Refusal::NoRoom);
     }
-    WriteAnswer::Written(put(out, 0, frame))
+    Ok(put(out, 0, frame))
 }
 
 // Puts a frame into the output from position at on, and gives the position behind it.
@@ -40,12 +35,10 @@ pub fn put(out: &mut [u8], at: usize, frame: Frame) -> usize
     requires { at + length (written frame) ≤ length out.old }
     ensures { Puts at (written frame) out.old out.new result }
 {
-    let message = frame.message;
-    let sense = frame.sense;
     let map = map_of(frame);
-    let behind_head = put_head(out, at, map, message);
-    let behind_body = put_body(out, behind_head, map, message);
-    put_byte(out, behind_body, SENSE, map, sense_number(sense))
+    let behind_head = put_head(out, at, map, frame.message);
+    let behind_body = put_body(out, behind_head, map, frame.message);
+    put_byte(out, behind_body, SENSE, map, sense_number(frame.sense))
 }
 
 // Map, kind, from and to.
@@ -53,11 +46,9 @@ fn put_head(out: &mut [u8], at: usize, map: u8, message: Message) -> usize
     requires { at + 4 ≤ length out.old }
     ensures { Puts at (head_bytes map message) out.old out.new result }
 {
-    let kind = message.kind;
-    let number = kind_number(kind);
     out[at] = map;
     let kind_at = at + 1;
-    out[kind_at] = number;
+    out[kind_at] = kind_number(message.kind);
     let from_at = kind_at + WIDTHS.kind;
     out[from_at] = message.from;
     let to_at = from_at + WIDTHS.from;
@@ -70,12 +61,10 @@ fn put_body(out: &mut [u8], at: usize, map: u8, message: Message) -> usize
     requires { at + length (body_bytes map message) ≤ length out.old }
     ensures { Puts at (body_bytes map message) out.old out.new result }
 {
-    let kind = message.kind;
-    let lamp = message.lamp;
     let behind_hour = put_hour(out, at, map, message.hour);
-    let behind_origin = put_byte(out, behind_hour, ORIGIN, map, origin_of(kind));
-    let behind_lamp = put_lamp(out, behind_origin, map, lamp);
-    put_quantity(out, behind_lamp, map, quantity_of(kind))
+    let behind_origin = put_byte(out, behind_hour, ORIGIN, map, origin_of(message.kind));
+    let behind_lamp = put_lamp(out, behind_origin, map, message.lamp);
+    put_quantity(out, behind_lamp, map, quantity_of(message.kind))
 }
 
 // The hour, where it stands in the map.

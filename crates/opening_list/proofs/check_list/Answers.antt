@@ -1,8 +1,10 @@
 -- `opening_list::check_list` meets its contract.
+use mathlib.Core.Path.{◌≡◌, refl, sym, ◌∙◌}
 use Rattle.lists.proofs.PieceLaws.{end-between}
 use Rattle.frame.specs.Layout.{whole_length}
 use Rattle.frame.proofs.Sizes.{whole-some}
 use Rattle.opening_list.proofs.Checking.{pass-start, pass-end, pass-refused, pass-turn}
+use Rattle.refusal.proofs.Numbers.{refusal-some}
 use borrow.Author.Rules.{rules}
 use Rattle.opening_list.proofs.check_list.Goals as goal
 
@@ -18,14 +20,16 @@ slice_bounds-opening_refusal-start c = let b = end-between whole_length whole-so
 pub slice_bounds-opening_refusal-end : goal.slice_bounds-opening_refusal-end
 slice_bounds-opening_refusal-end c = let b = end-between whole_length whole-some _ _ c.loop-at-test.true c.frame_end-end.ensures in search rules
 
-pub returns-then-number-ne0 : goal.returns-then-number-ne0
-returns-then-number-ne0 c = search pass-refused
+pub returns-in-Err : goal.returns-in-Err
+returns-in-Err c =
+    let some : c.number.result ≡ 0 → ⊥ = λ z. refusal-some c.in-Err.refusal (sym c.number.ensures ∙ z) in
+    pass-refused _ _ _ _ c.loop-at.invariant c.loop-at-test.true c.frame_end-end.ensures (c.number.ensures ∙ c.in-Err.ensures) some
 
 pub loop-at-smaller : goal.loop-at-smaller
 loop-at-smaller c = let b = end-between whole_length whole-some _ _ c.loop-at-test.true c.frame_end-end.ensures in search rules
 
 pub loop-at-preserved : goal.loop-at-preserved
-loop-at-preserved c = search pass-turn
+loop-at-preserved c = pass-turn _ _ _ _ c.loop-at.invariant c.loop-at-test.true c.frame_end-end.ensures c.in-Ok.ensures refl
 
 pub returns : goal.returns
 returns c = search pass-end

@@ -1,9 +1,12 @@
 -- `opening_list::enter_list` meets its contract.
 use native.Mathlib.Omega.{arith}
+use mathlib.Core.Path.{◌∙◌, ap}
 use Rattle.buffer.proofs.Lent.{bytes-known}
 use Rattle.lists.proofs.PieceLaws.{end-between}
 use Rattle.frame.specs.Layout.{whole_length}
 use Rattle.frame.proofs.Sizes.{whole-some}
+use Rattle.frame.specs.Reasons.{frame_in}
+use Rattle.frame.proofs.FormNumbers.{unwrapped}
 use Rattle.opening_list.proofs.Entering.{enter-start, enter-end, enter-room, enter-turn}
 use borrow.Author.Rules.{rules}
 use Rattle.opening_list.proofs.enter_list.Goals as goal
@@ -37,7 +40,7 @@ loop-at-smaller c =
 pub loop-at-preserved : goal.loop-at-preserved
 loop-at-preserved c = (
   enter-turn _ _ _ _ _ c.loop-at.invariant.0 c.loop-at-test.true c.requires c.frame_end-end.ensures
-      (bytes-known c.args.list.now c.type_inv.list) c.read-reading.ensures.0
+      (bytes-known c.args.list.now c.type_inv.list) {f = c.unwrap_or-frame.result} (c.unwrap_or-frame.ensures ∙ unwrapped c.read.result ∙ ap frame_in c.read.ensures)
       c.enter.ensures,
   search rules,
 )

@@ -1,10 +1,9 @@
 -- `report::differs` meets its contract.
-use Rattle.std.proofs.lemmas.Bool.{not_from_true}
+use mathlib.Core.Path.{sym}
 use Rattle.buffer.proofs.Lent.{bytes-known}
 use Rattle.report.proofs.Again.{read_again}
 use Rattle.report.proofs.differs.Goals as goal
 
-pub returns : goal.returns
-returns c =
-    read_again c.args.item.now (bytes-known c.args.item.now c.type_inv.item)
-    c.read-reading.ensures.0 c.is_good.ensures (not_from_true _ c.if-not-is_good.false) c.written_as.ensures.0
+pub returns-in-Ok : goal.returns-in-Ok
+returns-in-Ok c =
+    read_again c.args.item.now (bytes-known c.args.item.now c.type_inv.item) _ (sym c.in-Ok.ensures) c.written_as.ensures.0

@@ -1,9 +1,10 @@
 -- `take::take_checked` meets its contract.
-use Rattle.gateway.proofs.Dispatching.{number-refused, number_passed}
+use mathlib.Core.Path.{◌∙◌}
+use Rattle.refusal.proofs.Numbers.{refusal-some}
+use Rattle.gateway.proofs.Dispatching.{number-refused}
 use Rattle.take.proofs.take_checked.Goals as goal
 
-pub returns-then-number-ne0 : goal.returns-then-number-ne0
-returns-then-number-ne0 c = search number-refused
-
-pub returns : goal.returns
-returns c = search number_passed
+pub returns-in-Err : goal.returns-in-Err
+returns-in-Err c =
+    let (number, written) = c.refused.ensures in
+    number-refused _ _ _ _ c.in-Err.ensures (refusal-some c.in-Err.refusal) (number ∙ c.number.ensures, written)

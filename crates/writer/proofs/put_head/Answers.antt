@@ -17,5 +17,5 @@ bounds-out-to_at c = simp length-set (omega arith)
 pub returns : goal.returns
 returns c =
     let args = c.args in
-    head-put args.map args.message args.at args.out.now (search rules) c.kind_number-number.ensures (search rules)
+    head-put args.map args.message args.at args.out.now (search rules) c.kind_number.ensures (search rules)
     (search rules) (search rules) (omega arith) (omega arith) (omega arith)

@@ -1,6 +1,0 @@
--- `records::form_refusal` meets its contract.
-use mathlib.Core.Path.{◌∙◌}
-use Rattle.records.proofs.form_refusal.Goals as goal
-
-pub returns : goal.returns
-returns c = c.number_where.ensures ∙ rw c.is_event.ensures

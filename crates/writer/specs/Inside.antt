@@ -1,0 +1,2 @@
+-- What contracts inside the repository cite beside the definitions. No reader has to believe it.
+pub mod Outgoing
