@@ -9,7 +9,7 @@ use lib.ListN.{length, get_or, drop}
 use borrow.Author.Tests.{ltb-true, le-leb, lt-leb, leb-true}
 use Rattle.std.specs.Prelude.{Result, Ok, Err, IfOk, IsErrAnd, ⊤}
 use Rattle.refusal.specs.declared.Refusal.{Refusal}
-use Rattle.refusal.specs.declared.Refusal.TheVariants.{OutOfRange, NoRoom}
+use Rattle.refusal.specs.declared.Refusal.TheVariants.{OutOfRange}
 use Rattle.refusal.specs.Numbers.{number_in}
 use Rattle.routing.specs.Arcs.{from, to}
 use Rattle.routing.specs.AtMostTwo.{listed, at_most_two}

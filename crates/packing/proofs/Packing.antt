@@ -21,4 +21,3 @@ read-back-two number written h = record { number = omega arith; written = omega 
 pub read_back : (number written count : ℕ) → number < 256 → written < 16777216 → ReadBack number written count
 unfolding packed
 read_back number written count h k = record { number = omega arith; written = omega arith; count = omega arith }
-

@@ -57,8 +57,9 @@ fn shelf_with(alloc: Global, stock: u32) -> Shelf
 // Enters each message of the list.
 fn enter_list(queue: &mut Vec<Message>, list: &[u8]) -> Result<(), AllocError> {
     for bytes in Frames(list) {
-        let frame = read(bytes).frame;
-        enter(queue, frame.message)?;
+        if let Ok(frame) = read(bytes) {
+            enter(queue, frame.message)?;
+        }
     }
     Ok(())
 }
