@@ -1,13 +1,12 @@
 -- Laws of a round's frames to at most two gateways, and of a header written together with them.
 use mathlib.Core.Path.{◌≡◌, refl, sym, ◌∙◌, ap}
-use mathlib.Core.Bool.{Bool, true, false}
-use mathlib.Core.List.{List, [], ◌++◌, append-nil}
+use mathlib.Core.List.{List, ◌++◌, append-nil}
 use Prim.Native.Nat.{ℕ, ◌+◌, ◌*◌, ◌^◌, ◌≤◌, ◌<◌}
 use native.Mathlib.Nat.{zero-add, mul-le-mul_right}
 use native.Mathlib.Omega.{arith}
-use lib.Dec.{eqb, lit≤}
+use lib.Dec.{lit≤}
 use lib.ListN.{length, length-append}
-use borrow.Author.Tests.{ne_eqb, eqb-true, eqb-false, le-leb, lt-leb}
+use borrow.Author.Tests.{le-leb, lt-leb}
 use Rattle.lists.specs.Lists.{joined}
 use Rattle.buffer.specs.Slice.{Bytes, write, Puts}
 use Rattle.buffer.proofs.Writes.{write-nil}
@@ -32,8 +31,9 @@ use Rattle.gateway.specs.Effects.{bytes_of_frames, fits, settled}
 use Rattle.gateway.specs.Rounds.{frame_in_round, frames_in_round}
 use Rattle.gateway.specs.Calls.{leaving}
 use Rattle.gateway.specs.Inside.Premises.{Changed, with_header}
-use Rattle.announce.specs.Inside.Receivers.{listed}
-use Rattle.announce.specs.declared.receivers.Few.{Few}
+use Rattle.routing.specs.AtMostTwo.{listed}
+use Rattle.routing.specs.declared.at_most_two.AtMostTwo.{AtMostTwo}
+use Rattle.routing.specs.declared.at_most_two.AtMostTwo.TheVariants.{None, One, Two}
 use Rattle.gateway.specs.declared.Answer.{Answer}
 use Rattle.frame.proofs.Sizes.{start-length, lvt-length, kind-small}
 
@@ -55,66 +55,49 @@ module _ (kind : Kind) (hour own : ℕ) where
   unfolding map_of
   frame-size to = whole-size (frame_in_round kind hour own to) refl
 
-  module _ (to : Few) where
-    bytes : List ℕ
-    bytes = bytes_of_frames (frames_in_round kind hour own (listed to))
+  -- the bytes of the frames to these gateways
+  bytes : AtMostTwo ℕ → List ℕ
+  bytes to = bytes_of_frames (frames_in_round kind hour own (listed to))
 
-    first : List ℕ
-    first = written (frame_in_round kind hour own to.first)
+  one-bytes : (a : ℕ) → bytes (One a) ≡ written (frame_in_round kind hour own a)
+  unfolding bytes joined
+  one-bytes a = append-nil (written (frame_in_round kind hour own a))
 
-    second : List ℕ
-    second = written (frame_in_round kind hour own to.second)
+  two_bytes : (a b : ℕ) → bytes (Two a b) ≡ written (frame_in_round kind hour own a) ++ written (frame_in_round kind hour own b)
+  unfolding bytes joined
+  two_bytes a b = rw (append-nil (written (frame_in_round kind hour own b)))
 
-    none-bytes : to.count ≡ 0 → bytes ≡ []
-    unfolding bytes listed joined
-    none-bytes e = rw e
+  -- how many bytes they take
+  pub frames-size : (to : AtMostTwo ℕ) → length (bytes_of_frames (frames_in_round kind hour own (listed to)))
+      ≡ length (listed to) * whole_length (map_of_kind (kind_number kind))
+  unfolding bytes joined
+  frames-size None = omega arith
+  frames-size (One a) = ap length (one-bytes a) ∙ (frame-size a ∙ omega arith)
+  frames-size (Two a b) = ap length (two_bytes a b) ∙ rw (length-append, frame-size a, frame-size b) (omega arith)
 
-    one-bytes : to.count ≡ 1 → bytes ≡ first
-    unfolding bytes first listed joined
-    one-bytes e = rw e (append-nil (written (frame_in_round kind hour own to.first)))
+  module _ (m : List ℕ) where
+    pub put-none : m ≡ write 0 (bytes_of_frames (frames_in_round kind hour own (listed None))) m
+    unfolding joined
+    put-none = sym (write-nil 0 m)
 
-    two_bytes : (to.count ≡ 0 → ⊥) → (to.count ≡ 1 → ⊥) → bytes ≡ first ++ second
-    unfolding bytes first second listed joined
-    two_bytes n o = rw (ne_eqb to.count 0 n, ne_eqb to.count 1 o, append-nil)
-
-    -- how many bytes they take
-    pub frames-size : to.count ≤ 2 → length (bytes_of_frames (frames_in_round kind hour own (listed to))) ≡ to.count * whole_length (map_of_kind (kind_number kind))
-    unfolding bytes first second
-    frames-size h = by_count (eqb to.count 0) (eqb to.count 1) refl refl
-      where
-        by_count : (a b : Bool) → eqb to.count 0 ≡ a → eqb to.count 1 ≡ b → length bytes ≡ to.count * whole_length (map_of_kind (kind_number kind))
-        by_count true b e d = let z = eqb-true to.count 0 e in rw (none-bytes z, z) (omega arith)
-        by_count false true e d = let z = eqb-true to.count 1 d in rw (one-bytes z, z, frame-size to.first) (omega arith)
-        by_count false false e d =
-            let n = eqb-false to.count 0 e in
-            let o = eqb-false to.count 1 d in
-            let z : to.count ≡ 2 = omega arith in
-            rw (two_bytes n o, length-append, z, frame-size to.first, frame-size to.second) (omega arith)
-
-    module _ (m : List ℕ) (room : length (bytes_of_frames (frames_in_round kind hour own (listed to))) ≤ length m) where
-      pub put-none : to.count ≡ 0 → m ≡ write 0 (bytes_of_frames (frames_in_round kind hour own (listed to))) m
+    module _ {a : ℕ} {f : Frame} (is : f ≡ frame_in_round kind hour own a) where
+      pub one-room : length (bytes_of_frames (frames_in_round kind hour own (listed (One a)))) ≤ length m → 0 + length (written f) ≤ length m
       unfolding bytes
-      put-none e = rw (none-bytes e) (sym (write-nil 0 m))
+      one-room room = rw (is, zero-add) (rw (one-bytes a) at room)
 
-      module _ {f : Frame} (is : f ≡ frame_in_round kind hour own to.first) where
-        module _ (e : to.count ≡ 1) where
-          pub one-room : 0 + length (written f) ≤ length m
-          unfolding bytes first
-          one-room = rw (is, zero-add) (rw (one-bytes e) at room)
+      pub put_one : {m₁ : List ℕ} {end : ℕ} → Puts 0 (written f) m m₁ end → m₁ ≡ write 0 (bytes_of_frames (frames_in_round kind hour own (listed (One a)))) m
+      unfolding bytes
+      put_one p = p.output ∙ rw (one-bytes a, is)
 
-          pub put_one : {m₁ : List ℕ} {end : ℕ} → Puts 0 (written f) m m₁ end → m₁ ≡ write 0 (bytes_of_frames (frames_in_round kind hour own (listed to))) m
-          unfolding bytes first
-          put_one p = p.output ∙ rw (one-bytes e, is)
+      module _ {b : ℕ} {g : Frame} (is₂ : g ≡ frame_in_round kind hour own b) where
+        pub two-room : length (bytes_of_frames (frames_in_round kind hour own (listed (Two a b)))) ≤ length m → 0 + length (written f ++ written g) ≤ length m
+        unfolding bytes
+        two-room room = rw (is, is₂, zero-add) (rw (two_bytes a b) at room)
 
-        module _ (n : to.count ≡ 0 → ⊥) (o : to.count ≡ 1 → ⊥) {g : Frame} (is₂ : g ≡ frame_in_round kind hour own to.second) where
-          pub two-room : 0 + length (written f ++ written g) ≤ length m
-          unfolding bytes first second
-          two-room = rw (is, is₂, zero-add) (rw (two_bytes n o) at room)
-
-          pub put_both : {m₁ : List ℕ} {end : ℕ} → Puts 0 (written f ++ written g) m m₁ end → m₁ ≡ write 0 (bytes_of_frames (frames_in_round kind
-              hour own (listed to))) m
-          unfolding bytes first second
-          put_both p = p.output ∙ rw (two_bytes n o, is, is₂)
+        pub put_both : {m₁ : List ℕ} {end : ℕ} → Puts 0 (written f ++ written g) m m₁ end
+            → m₁ ≡ write 0 (bytes_of_frames (frames_in_round kind hour own (listed (Two a b)))) m
+        unfolding bytes
+        put_both p = p.output ∙ rw (two_bytes a b, is, is₂)
 
 -- the header and the frames
 module _ (m : List ℕ) (h : Header) (c : Changed m h) (bytes : Bytes m) where
@@ -174,14 +157,14 @@ module _ (m : List ℕ) (h : Header) (c : Changed m h) (bytes : Bytes m) where
       entry_bytes (decode m).queue) (write 6 (header_back x) (write 0 (header_front x) m)))) header-kept
       ∙ (w.header-last ∙ rw (queue, sent)))
 
-  module _ (kind : Kind) (hour : ℕ) (to : Few) (few : to.count ≤ 2) (output : List ℕ) {one : ℕ} (d : one ≡ whole_length (map_of_kind (kind_number kind))) where
-    size : to.count * one ≡ length (bytes_of_frames (frames_in_round kind hour h.settings.own (listed to)))
-    size = rw d (sym (frames-size kind hour h.settings.own to few))
+  module _ (kind : Kind) (hour : ℕ) (to : AtMostTwo ℕ) (output : List ℕ) {count one : ℕ} (many : count ≡ length (listed to)) (d : one ≡ whole_length (map_of_kind (kind_number kind))) where
+    size : count * one ≡ length (bytes_of_frames (frames_in_round kind hour h.settings.own (listed to)))
+    size = rw (d, many) (sym (frames-size kind hour h.settings.own to))
 
-    pub announce-room : to.count * one ≤ length output → length (bytes_of_frames (frames_in_round kind hour h.settings.own (listed to))) ≤ length output
+    pub announce-room : count * one ≤ length output → length (bytes_of_frames (frames_in_round kind hour h.settings.own (listed to))) ≤ length output
     announce-room l = rw size at l
 
-    pub announce-none : length output < to.count * one → {r : Answer} → (r.number ≡ 5) × (r.written ≡ 0)
+    pub announce-none : length output < count * one → {r : Answer} → (r.number ≡ 5) × (r.written ≡ 0)
         → record { answer = r; memory = m; output = output } ≡ leaving (settled (length output) (decode m) (record {
           gateway = with_header h
               (decode m);
@@ -199,9 +182,9 @@ module _ (m : List ℕ) (h : Header) (c : Changed m h) (bytes : Bytes m) where
         )
         (λ i. record { answer = record { number = x i; written = y i }; memory = m; output = output })
 
-    pub announce-done : to.count * one ≤ length output → {after out : List ℕ} → after ≡ write 6 (header_back h) (write 0 (header_front h) m)
+    pub announce-done : count * one ≤ length output → {after out : List ℕ} → after ≡ write 6 (header_back h) (write 0 (header_front h) m)
         → out ≡ write 0 (bytes_of_frames (frames_in_round kind hour h.settings.own (listed to))) output
-        → record { answer = record { number = 0; written = to.count * one }; memory = after; output = out }
+        → record { answer = record { number = 0; written = count * one }; memory = after; output = out }
         ≡ leaving (settled (length output) (decode m) (record {
           gateway = with_header h (decode m);
           frames = frames_in_round kind hour

@@ -8,18 +8,18 @@ ghost use Rattle.buffer.specs.Slice.{write};
 ghost use Rattle.model.specs.Messages.{kind_number};
 ghost use Rattle.frame.specs.Layout.{whole_length};
 ghost use Rattle.frame.specs.Kinds.{map_of_kind};
+ghost use Rattle.routing.specs.AtMostTwo.{listed};
 ghost use Rattle.gateway.specs.Effects.{bytes_of_frames, settling};
 ghost use Rattle.gateway.specs.Rounds.{frame_in_round, frames_in_round};
 ghost use Rattle.gateway.specs.Inside.Premises.{Changed, announced, Leaves};
-ghost use Rattle.announce.specs.Inside.Receivers.{listed};
 
-use crate::receivers::Few;
 use frame::tables::{LVT_LENGTH, START_LENGTH};
 use frame::{Frame, Sense};
 use gateway::{Answer, refused};
 use header::write_header;
 use memory::Header;
 use model::{Kind, Message, kind_number};
+use routing::at_most_two::AtMostTwo;
 use writer::outgoing::{put_frame, put_two};
 
 // Writes the header, and a frame of that kind and hour to each of these gateways; 5 where the output is too short.
@@ -29,14 +29,14 @@ pub fn announce(
     header: Header,
     kind: Kind,
     hour: u32,
-    to: Few,
+    to: AtMostTwo<u8>,
 ) -> Answer
-    requires { Changed memory.old header × (to.count ≤ 2) × (3 < kind_number kind) }
+    requires { Changed memory.old header × (3 < kind_number kind) }
     ensures { Leaves result memory output (settling (announced header kind hour (listed to))) }
 {
     let settings = header.settings;
     let own = settings.own;
-    let written = to.count as usize * length_in_round(kind);
+    let written = to.len() * length_in_round(kind);
     if output.len() < written {
         return refused(5);
     }
@@ -57,19 +57,24 @@ fn length_in_round(kind: Kind) -> usize
 }
 
 // Puts a frame to each of these gateways, one behind the other.
-fn put_each(output: &mut [u8], kind: Kind, hour: u32, own: u8, to: Few)
+fn put_each(output: &mut [u8], kind: Kind, hour: u32, own: u8, to: AtMostTwo<u8>)
     requires { length (bytes_of_frames (frames_in_round kind hour own (listed to))) ≤ length output.old }
     ensures { output.new ≡ write 0 (bytes_of_frames (frames_in_round kind hour own (listed to))) output.old }
 {
-    if to.count == 0 {
-        return;
+    match to {
+        AtMostTwo::None => {}
+        AtMostTwo::One(first) => {
+            put_frame(output, 0, round_frame(kind, hour, own, first));
+        }
+        AtMostTwo::Two(first, second) => {
+            put_two(
+                output,
+                0,
+                round_frame(kind, hour, own, first),
+                round_frame(kind, hour, own, second),
+            );
+        }
     }
-    let first = round_frame(kind, hour, own, to.first);
-    if to.count == 1 {
-        put_frame(output, 0, first);
-        return;
-    }
-    put_two(output, 0, first, round_frame(kind, hour, own, to.second));
 }
 
 fn round_frame(kind: Kind, hour: u32, from: u8, to: u8) -> Frame

@@ -1,113 +1,71 @@
 // The round at a gateway: whom it hears and tells.
-ghost use Rattle.std.specs.Prelude.{◌≡◌, [], ◌≤◌, ◌<◌, get_or};
+ghost use Rattle.std.specs.Prelude.{◌≡◌, ◌≤◌, ◌<◌};
+ghost use Rattle.std.specs.List.{All};
 ghost use Rattle.routing.specs.Arcs.{from, to, children};
+ghost use Rattle.routing.specs.AtMostTwo.{listed};
 ghost use Rattle.gateway.specs.Rounds.{bit_of, all_bits};
-ghost use Rattle.announce.specs.Inside.Receivers.{Holds, listed};
 
-use neighbours::neighbours_of;
-use routing::Gateways;
-
-// At most two gateways: their count, and their numbers with zeros behind.
-#[derive(Clone, Copy)]
-pub struct Few {
-    pub count: u8,
-    pub first: u8,
-    pub second: u8,
-}
+use neighbours::middles::Middles;
+use routing::at_most_two::AtMostTwo;
 
 // The gateways that gateway own of n hears from.
-pub fn heard(n: u8, own: u8) -> Few
+pub fn heard(n: u8, own: u8) -> AtMostTwo<u8>
     requires { own < n }
-    ensures { Holds (from n own) result }
+    ensures { listed result ≡ from n own }
 {
-    let around = neighbours_of(n as u32, own as u32);
-    let from = around.from;
-    narrowed(from)
+    narrowed(Middles::new(n as u32).from_of(own as u32))
 }
 
 // The gateways that it tells.
-pub fn told(n: u8, own: u8) -> Few
+pub fn told(n: u8, own: u8) -> AtMostTwo<u8>
     requires { own < n }
-    ensures { Holds (to n own) result }
+    ensures { listed result ≡ to n own }
 {
-    let around = neighbours_of(n as u32, own as u32);
-    let to = around.to;
-    narrowed(to)
+    narrowed(Middles::new(n as u32).to_of(own as u32))
 }
 
-fn narrowed(among: Gateways) -> Few
-    requires { (among.count ≤ 2) × (get_or among.number 0 0 < 256) × (get_or among.number 1 0 < 256) }
-    ensures { (result.count ≡ among.count) × (result.first ≡ get_or among.number 0 0) × (result.second ≡ get_or among.number 1 0) }
+// Numbers below 256, a byte each.
+fn narrowed(among: AtMostTwo<u32>) -> AtMostTwo<u8>
+    requires { All (λ k. k < 256) (listed among) }
+    ensures { listed result ≡ listed among }
 {
-    let number = among.number;
-    Few {
-        count: among.count as u8,
-        first: number[0] as u8,
-        second: number[1] as u8,
-    }
-}
-
-// Nobody.
-pub fn nobody() -> Few
-    ensures { Holds [] result }
-{
-    Few {
-        count: 0,
-        first: 0,
-        second: 0,
-    }
+    among.map(|k| k as u8)
 }
 
 // The gateways that an Update goes on to.
-pub fn children(n: u8, own: u8) -> Few
-    ensures { Holds (children n own) result }
+pub fn children(n: u8, own: u8) -> AtMostTwo<u8>
+    ensures { listed result ≡ children n own }
 {
     let left = 2 * (own as u16) + 1;
-    if (n as u16) <= left {
-        return nobody();
-    }
-    if (n as u16) <= left + 1 {
-        return Few {
-            count: 1,
-            first: left as u8,
-            second: 0,
-        };
-    }
-    Few {
-        count: 2,
-        first: left as u8,
-        second: (left + 1) as u8,
+    if n as u16 <= left {
+        AtMostTwo::None
+    } else if n as u16 == left + 1 {
+        AtMostTwo::One(left as u8)
+    } else {
+        AtMostTwo::Two(left as u8, (left + 1) as u8)
     }
 }
 
 // The bit of a gateway among these: 1 for the first, 2 for the second, 0 where it is not there.
-pub fn bit_of(k: u8, among: Few) -> u8
+pub fn bit_of(k: u8, among: AtMostTwo<u8>) -> u8
     ensures { (result ≡ bit_of k (listed among)) × (result ≤ 2) }
 {
-    if among.count == 0 {
-        return 0;
+    if among.get(0) == Some(k) {
+        1
+    } else if among.get(1) == Some(k) {
+        2
+    } else {
+        0
     }
-    if k == among.first {
-        return 1;
-    }
-    if among.count == 1 {
-        return 0;
-    }
-    if k == among.second {
-        return 2;
-    }
-    0
 }
 
 // The bits of all of these.
-pub fn all_bits(among: Few) -> u8
+pub fn all_bits(among: AtMostTwo<u8>) -> u8
     ensures { result ≡ all_bits (listed among) }
 {
-    if among.count == 0 {
-        return 0;
+    match among {
+        AtMostTwo::None => 0,
+        AtMostTwo::One(_) => 1,
+        AtMostTwo::Two(_, _) => 3,
     }
-    if among.count == 1 {
-        return 1;
-    }
-    3
 }

@@ -12,9 +12,10 @@ use std::io::Read;
 fn print(rt: &impl Print, input: &[u8], out: &mut [u8]) -> io::Result<()>
     ensures { out.new ≡ (rendering input.now out.old).out }
 {
-    let put = rendering::render(input, out);
-    let length = put.length;
-    rt.write_all(&out[..length])
+    match rendering::render(input, out) {
+        Ok(length) => rt.write_all(&out[..length]),
+        Err(_) => Ok(()),
+    }
 }
 
 // The length of an array that is lent whole is known from its type alone, however long it is; and it holds every listing, so

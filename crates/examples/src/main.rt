@@ -7,7 +7,7 @@ ghost use Rattle.std.specs.Prelude.{◌≤◌};
 use agreement::compare;
 use example_opening::{opening_list, set_up_both};
 use lines::Gateway;
-use neighbours::mids_of;
+use neighbours::middles::Middles;
 use printing::print_record;
 use std::io;
 use turns::take_turns;
@@ -22,8 +22,7 @@ fn main(rt: HostRuntime) -> io::Result<()> {
 fn print_sharing(rt: &impl Print, n: u32) -> io::Result<()>
     requires { (1 ≤ n) × (n ≤ 65535) }
 {
-    let middles = mids_of(n);
-    if middles.shared {
+    if Middles::new(n).shared {
         println!(rt; "{n} shared")
     } else {
         println!(rt; "{n} not shared")

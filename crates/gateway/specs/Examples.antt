@@ -4,6 +4,7 @@ use Rattle.lists.specs.Lists.{every}
 use Rattle.lists.specs.Families.{together}
 use Rattle.routing.specs.Arcs.{figure2, from, to, mid0, mid1, arcs, round_messages}
 use Rattle.routing.specs.Answers.{neighbours_of, totals_of}
+use Rattle.refusal.specs.Numbers.{number_in}
 use Rattle.model.specs.declared.LeadTimes.{LeadTimes}
 use Rattle.model.specs.declared.Message.{Message}
 use Rattle.model.specs.declared.Kind.TheVariants.{Failure, Request}
@@ -109,7 +110,7 @@ pub record Starred : Type 0 where
   -- N = 11: gateway 3 tells 7, not shared; only 5 is in both trees
   pub eleven : ((figure2 11 3).row.shared ≡ false) × (to 11 3 ≡ 7 ∷ []) × (in_both_trees 11 ≡ 5 ∷ [])
   -- N = 0 gives 8: in routing, and at set up, whatever the other settings, the opening list and the memory
-  pub zero : ((neighbours_of 0 0).answer ≡ 8) × ((totals_of 0).answer ≡ 8)
+  pub zero : (number_in (neighbours_of 0 0) ≡ 8) × (number_in (totals_of 0) ≡ 8)
   pub zero_set_up : (o : Opening) (list memory : List ℕ) → (set_up (no_gateways o) list memory).answer.number ≡ 8
   -- N = 2, least due hours 7 and 9, an unacknowledged 5 sent by 1: agreed time 5. Without it: 7
   pub unacknowledged : Agreed (round_of_two due7 due9sent5) 5

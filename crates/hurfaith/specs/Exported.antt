@@ -1,7 +1,10 @@
 -- The answers of the exported functions: what a call leaves, with the numbers of its answer packed into one.
-use Rattle.std.specs.Prelude.{◌≡◌, ℕ, ◌+◌, ◌/◌, ◌%◌, cond, List, ◌∷◌, leb, eqb, length, drop}
+use Rattle.std.specs.Prelude.{◌≡◌, Result, Ok, Err, ℕ, ◌+◌, ◌/◌, ◌%◌, cond, List, ◌∷◌, leb, eqb, length, drop}
 use Rattle.std.specs.Borrow.{Bor}
+use Rattle.refusal.specs.declared.Refusal.{Refusal}
+use Rattle.refusal.specs.Numbers.{refusal_number}
 use Rattle.routing.specs.Answers.{neighbours_of}
+use Rattle.routing.specs.declared.Neighbours.{Neighbours}
 use Rattle.packing.specs.Packed.{packed, ReadBack, packed_two, ReadBackTwo, number_at}
 use Rattle.buffer.specs.Slice.{Bytes}
 use Rattle.frame.specs.Reasons.{reading}
@@ -63,16 +66,17 @@ pub record RouteResult : Type 0 where
   pub answer : ℕ
   pub neighbours : List ℕ
 
--- the two that a gateway hears from and the two that it tells at the array's front; 8 for a number outside its range, then 5 for
--- an array of less than four
-unfoldable pub routed : ℕ → ℕ → List ℕ → RouteResult
-unfolding neighbours_of
-routed N own neighbours =
-    let r = neighbours_of N own in
+-- the two that a gateway hears from and the two that it tells at the array's front; the refusals of routing, then 5 for an array of
+-- less than four
+abbrev pub put_front : Result Neighbours Refusal → List ℕ → RouteResult
+put_front (Ok r) neighbours =
     let front = number_at r.from 0 ∷ number_at r.from 1 ∷ number_at r.to 0 ∷ number_at r.to 1 ∷ drop 4 neighbours in
-    cond (eqb r.answer 0)
-    (cond (leb 4 (length neighbours)) (record { answer = 0; neighbours = front }) (record { answer = 5; neighbours = neighbours }))
-    (record { answer = r.answer; neighbours = neighbours })
+    cond (leb 4 (length neighbours)) (record { answer = 0; neighbours = front }) (record { answer = 5; neighbours = neighbours })
+put_front (Err why) neighbours = record { answer = refusal_number why; neighbours = neighbours }
+
+-- those of gateway own among N; 8 for a number outside its range
+unfoldable pub routed : (N own : ℕ) → List ℕ → RouteResult
+routed N own neighbours = put_front (neighbours_of N own) neighbours
 
 -- what the call of the balance leaves: its number, and the array
 pub record BalanceResult : Type 0 where

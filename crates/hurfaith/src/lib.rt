@@ -3,6 +3,7 @@
 #![tactic(auto)]
 
 ghost use Rattle.std.specs.Prelude.{◌≡◌, []};
+ghost use Rattle.refusal.specs.Numbers.{number_in};
 ghost use Rattle.views.specs.Viewing.{viewed};
 ghost use Rattle.gateway.specs.Calls.{left, worked_off, started, committed, agreed_time, taken, set_up};
 ghost use Rattle.hurfaith.specs.Exported.{packed_answer, packed_work, packed_time, routed, number_alone, settings_given, LampAnswer, packed_view, balance_given};
@@ -28,23 +29,28 @@ use work::work;
 pub extern "C" fn hurfaith_route(gateways: u32, own: u32, neighbours: &mut [u16]) -> u32
     ensures { record { answer = result; neighbours = neighbours.new } ≡ routed gateways own neighbours.old }
 {
-    let around = neighbours_of(gateways, own);
-    if around.answer != 0 {
-        return around.answer as u32;
+    match route(gateways, own, neighbours) {
+        Ok(()) => 0,
+        Err(why) => why.number() as u32,
     }
+}
+
+// Puts the neighbours of gateway own among n to the array's front.
+fn route(n: u32, own: u32, neighbours: &mut [u16]) -> Result<(), Refusal>
+    ensures { record { answer = number_in result; neighbours = neighbours.new } ≡ routed n own neighbours.old }
+{
+    let around = neighbours_of(n, own)?;
     if neighbours.len() < 4 {
-        return 5;
+        return Err(Refusal::NoRoom);
     }
-    let from = around.from;
-    let to = around.to;
     let numbers = [
-        number_at(from, 0),
-        number_at(from, 1),
-        number_at(to, 0),
-        number_at(to, 1),
+        number_at(around.from, 0),
+        number_at(around.from, 1),
+        number_at(around.to, 0),
+        number_at(around.to, 1),
     ];
     put_front(neighbours, numbers);
-    0
+    Ok(())
 }
 
 // Set up.

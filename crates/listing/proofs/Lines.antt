@@ -1,19 +1,18 @@
 -- The lines of the listing: their lengths, and how they follow one another.
-use mathlib.Core.Path.{◌≡◌, refl, sym, ◌∙◌, ap}
+use mathlib.Core.Path.{◌≡◌, refl, ◌∙◌, ap}
 use mathlib.Core.List.{List, [], ◌∷◌, ◌++◌, map, append-nil}
 use Prim.Native.Nat.{ℕ, zero, suc, ◌+◌, ◌-◌, ◌≤◌, ◌<◌}
 use native.Mathlib.Nat.{add-zero}
 use native.Mathlib.Numerals.{add-one}
 use native.Mathlib.Omega.{arith}
-use native.Mathlib.Decide.{ℕ_discrete}
-use lib.ListN.{length, get_or, take, set, length-append}
-use Rattle.routing.proofs.FewArcs.{to-few}
+use lib.ListN.{length, set, length-append}
 use Rattle.lists.proofs.ListLaws.{joined-append}
 use Rattle.lists.specs.Lists.{joined}
 use Rattle.buffer.specs.Slice.{Puts}
-use Rattle.routing.specs.declared.Gateways.{Gateways}
+use Rattle.routing.specs.AtMostTwo.{listed}
+use Rattle.routing.specs.declared.at_most_two.AtMostTwo.{AtMostTwo}
+use Rattle.routing.specs.declared.at_most_two.AtMostTwo.TheVariants.{None, One, Two}
 use Rattle.routing.specs.Arcs.{Arc, arcs, arcs_of_first, to}
-use Rattle.routing.specs.Answers.{gateways}
 use Rattle.text.specs.Decimal.{decimal}
 use Rattle.listing.specs.Output.{nodes_word, arcs_word, round_word, first_line, arc_line, lines_from}
 use Rattle.buffer.proofs.Putting.{puts-nothing, puts-byte, puts-more, puts-length}
@@ -26,75 +25,39 @@ pub length-first_line : (N arcs messages : ℕ) → length (first_line N arcs me
 unfolding first_line
 length-first_line N arcs messages = simp length-append (omega arith)
 
--- the lines of none, one or two arcs from a gateway
-module _ (own k : ℕ) (xs : List ℕ) where
-  pub no_line : k ≡ 0 → lines_from own (take k xs) ≡ []
+-- the lines of no, one or two arcs from a gateway
+module _ (own : ℕ) where
+  pub no_line : {to : AtMostTwo ℕ} → to ≡ None → lines_from own (listed to) ≡ []
   unfolding lines_from joined
   no_line e = rw e
 
-  pub one_line : k ≡ 1 → 1 ≤ length xs → lines_from own (take k xs) ≡ arc_line (own, get_or xs 0 0)
+  pub one_line : {to : AtMostTwo ℕ} (i : ℕ) → to ≡ One i → lines_from own (listed to) ≡ arc_line (own, i)
   unfolding lines_from joined
-  one_line e h = rw e (go xs h)
-    where
-      go : (xs : List ℕ) → 1 ≤ length xs → lines_from own (take 1 xs) ≡ arc_line (own, get_or xs 0 0)
-      go [] h = absurd (omega arith)
-      go (x ∷ xs) h = append-nil (arc_line (own, x))
+  one_line i e = rw e (append-nil (arc_line (own, i)))
 
-  pub two-lines : k ≡ 2 → 2 ≤ length xs → lines_from own (take k xs) ≡ arc_line (own, get_or xs 0 0) ++ arc_line (own, get_or xs 1 0)
+  pub two-lines : {to : AtMostTwo ℕ} (i j : ℕ) → to ≡ Two i j → lines_from own (listed to) ≡ arc_line (own, i) ++ arc_line (own, j)
   unfolding lines_from joined
-  two-lines e h = rw e (go xs h)
-    where
-      go : (xs : List ℕ) → 2 ≤ length xs → lines_from own (take 2 xs) ≡ arc_line (own, get_or xs 0 0) ++ arc_line (own, get_or xs 1 0)
-      go [] h = absurd (omega arith)
-      go (x ∷ []) h = absurd (omega arith)
-      go (x ∷ y ∷ xs) h = ap (λ (l : List ℕ). arc_line (own, x) ++ l) (append-nil (arc_line (own, y)))
+  two-lines i j e = rw e (ap (λ (l : List ℕ). arc_line (own, i) ++ l) (append-nil (arc_line (own, j))))
 
-  pub two-length : k ≡ 2 → 2 ≤ length xs → length (lines_from own (take k xs)) ≡ length (arc_line (own, get_or xs 0 0)) + length (arc_line (own, get_or xs 1 0))
-  two-length e h = ap length (two-lines e h) ∙ length-append (arc_line (own, get_or xs 0 0)) (arc_line (own, get_or xs 1 0))
-
-  pub first-within : (k ≡ 0 → ⊥) → k ≤ 2 → 2 ≤ length xs → length (arc_line (own, get_or xs 0 0)) ≤ length (lines_from own (take k xs))
-  first-within some most h = go (ℕ_discrete k 1)
-    where
-      go : Dec (k ≡ 1) → length (arc_line (own, get_or xs 0 0)) ≤ length (lines_from own (take k xs))
-      go (yes e) = omega (arith, ap length (one_line e (omega arith)))
-      go (no e) = omega (arith, two-length (omega arith) h)
+  pub two-length : {to : AtMostTwo ℕ} (i j : ℕ) → to ≡ Two i j → length (lines_from own (listed to)) ≡ length (arc_line (own, i)) + length (arc_line (own, j))
+  two-length i j e = ap length (two-lines i j e) ∙ length-append (arc_line (own, i)) (arc_line (own, j))
 
   -- those lines put
-  module _ (at : ℕ) (m : List ℕ) where
-    pub none-put : k ≡ 0 → Puts at (lines_from own (take k xs)) m m at
+  module _ (at : ℕ) (m : List ℕ) {to : AtMostTwo ℕ} where
+    pub none-put : to ≡ None → Puts at (lines_from own (listed to)) m m at
     none-put e = rw (no_line e) (puts-nothing at m)
 
-    pub one-put : {p : ℕ} {now : List ℕ} → k ≡ 1 → 1 ≤ length xs → Puts at (arc_line (own, get_or xs 0 0)) m now p → Puts at (lines_from own (take k xs)) m now p
-    one-put e h a = rw (one_line e h) a
+    pub one-put : {i p : ℕ} {now : List ℕ} → to ≡ One i → Puts at (arc_line (own, i)) m now p → Puts at (lines_from own (listed to)) m now p
+    one-put {i} e a = rw (one_line i e) a
 
-    pub two-put : {p q : ℕ} {now later : List ℕ} → k ≡ 2 → 2 ≤ length xs → at + length (lines_from own (take k xs)) ≤ length m
-        → Puts at (arc_line (own, get_or xs 0 0)) m now p → Puts p (arc_line (own, get_or xs 1 0)) now later q → Puts at (lines_from own (take k xs)) m later q
-    two-put e h room a b = rw (two-lines e h) (puts-more (omega (arith, two-length e h)) a b)
+    pub two-put : {i j p q : ℕ} {now later : List ℕ} → to ≡ Two i j → at + length (lines_from own (listed to)) ≤ length m
+        → Puts at (arc_line (own, i)) m now p → Puts p (arc_line (own, j)) now later q → Puts at (lines_from own (listed to)) m later q
+    two-put {i} {j} e room a b = rw (two-lines i j e) (puts-more (omega (arith, two-length i j e)) a b)
 
 -- the lines of one gateway more
 pub lines_next : (n i : ℕ) → joined arc_line (arcs_of_first n (i + 1)) ≡ joined arc_line (arcs_of_first n i) ++ lines_from i (to n i)
 unfolding arcs_of_first lines_from
 lines_next n i = rw (add-one i) (joined-append arc_line (arcs_of_first n i) (map (λ (j : ℕ). (i, j)) (to n i)))
-
--- a gateway's to, as the code holds it
-held : (l : List ℕ) → length l ≤ 2 → take (gateways l).count (gateways l).number ≡ l
-held [] h = refl
-held (x ∷ []) h = refl
-held (x ∷ y ∷ []) h = refl
-held (x ∷ y ∷ z ∷ l) h = absurd (omega arith)
-
-module _ (n i : ℕ) (h : i < n) {g : Gateways} (e : g ≡ gateways (to n i)) where
-  at_most_two : length (to n i) ≤ 2
-  at_most_two = (to-few n i h).two
-
-  pub to-count : g.count ≤ 2
-  to-count = omega (arith, ap (λ (g : Gateways). g.count) e, at_most_two)
-
-  pub to-numbers : length g.number ≡ 2
-  to-numbers = ap (λ (g : Gateways). length g.number) e
-
-  pub to_held : lines_from i (take g.count g.number) ≡ lines_from i (to n i)
-  to_held = ap (λ (g : Gateways). lines_from i (take g.count g.number)) e ∙ ap (lines_from i) (held (to n i) at_most_two)
 
 -- a whole line put
 pub arc-put : (at i j : ℕ) (m : List ℕ) {p q : ℕ} {now later : List ℕ} → at + length (arc_line (i, j)) ≤ length m
@@ -162,17 +125,16 @@ no_lines n = refl
 pub no-lines-put : (n at : ℕ) (m : List ℕ) → Puts at (joined arc_line (arcs_of_first n 0)) m m at
 no-lines-put n at m = rw (no_lines n) (puts-nothing at m)
 
--- one gateway's lines more, as the code holds its to
-module _ (n i : ℕ) (h : i < n) {g : Gateways} (e : g ≡ gateways (to n i)) where
-  pub length-turn : length (joined arc_line (arcs_of_first n (i + 1))) ≡ length (joined arc_line (arcs_of_first n i)) + length (lines_from i (take
-      g.count g.number))
-  length-turn =
-      ap length (lines_next n i)
-      ∙ length-append (joined arc_line (arcs_of_first n i)) (lines_from i (to n i))
-      ∙ ap (λ (l : List ℕ). length (joined arc_line (arcs_of_first n i)) + length l) (sym (to_held n i h e))
+-- one gateway's lines more
+module _ (n i : ℕ) (h : i < n) {l : List ℕ} (e : l ≡ to n i) where
+  pub length-turn : length (joined arc_line (arcs_of_first n (i + 1))) ≡ length (joined arc_line (arcs_of_first n i)) + length (lines_from i l)
+  length-turn = rw e (ap length (lines_next n i) ∙ length-append (joined arc_line (arcs_of_first n i)) (lines_from i (to n i)))
 
   pub lines-turn : (at : ℕ) (m : List ℕ) {p q : ℕ} {now later : List ℕ} → at + length (joined arc_line (arcs n)) ≤ length m
-      → Puts at (joined arc_line (arcs_of_first n i)) m now p → Puts p (lines_from i (take g.count g.number)) now later q → Puts at
+      → Puts at (joined arc_line (arcs_of_first n i)) m now p → Puts p (lines_from i l) now later q → Puts at
       (joined arc_line (arcs_of_first n (i + 1))) m later q
-  lines-turn at m room a b =
-      rw (lines_next n i) (puts-more (omega (arith, lines-within n i (omega arith))) a (rw (to_held n i h e) at b))
+  lines-turn at m room a b = rw (lines_next n i) (puts-more (omega (arith, lines-within n i (omega arith))) a (rw e at b))
+
+  -- and these are within the whole
+  pub turn-within : length (joined arc_line (arcs_of_first n i)) + length (lines_from i l) ≤ length (joined arc_line (arcs n))
+  turn-within = omega (arith, length-turn, lines-within n (i + 1) (omega arith))

@@ -14,13 +14,12 @@ use Rattle.lists.specs.Lists.{◌∈◌, joined}
 use Rattle.routing.specs.Arcs.{Arc, arcs, arc_count, round_messages}
 use Rattle.routing.proofs.Reading.{mids}
 use Rattle.routing.proofs.Theorems.{count-is, laws as arc-laws}
-use Rattle.text.specs.declared.Spelled.{Spelled}
-use Rattle.text.specs.declared.Spelled.TheVariants.{Number, Nothing}
+use Rattle.std.specs.Prelude.{Option, Some, None, unwrap_or}
 use Rattle.text.specs.Decimal.{decimal, spelled}
 use Rattle.text.proofs.Digits.{decimal-plain, is_spelled, spelled-iff}
 use Rattle.text.proofs.Putting.{length-within}
 use Rattle.text.proofs.Reading.{digit_at, plain-digits, plain-some}
-use Rattle.listing.specs.Output.{line_end, first_line, arc_line, listing, without_end, or_zero, number_in, printed, Laws}
+use Rattle.listing.specs.Output.{line_end, first_line, arc_line, listing, without_end, number_in, printed, Laws}
 use Rattle.listing.proofs.Lines.{length-arc_line, length-first_line}
 
 -- a decimal text does not end in a line end
@@ -39,7 +38,7 @@ one_end text =
 
 given : (input : List ℕ) (N : ℕ) → N ≤ 65535 → without_end input ≡ decimal N → printed input ≡ listing N
 unfolding printed number_in
-given input N h e = ap listing (ap or_zero (is_spelled 65535 (without_end input) N (sym e) h))
+given input N h e = ap listing (ap (λ (o : Option ℕ). unwrap_or o 0) (is_spelled 65535 (without_end input) N (sym e) h))
 
 -- an input is what stands before its line end, alone or with the line end
 with-end : (input : List ℕ) → (input ≡ without_end input) ⊎ (input ≡ without_end input ++ (line_end ∷ []))
@@ -72,12 +71,12 @@ module _ (input : List ℕ) (other : (N : ℕ) → 1 ≤ N → N ≤ 65535 → (
   unfolding number_in
   none = go (spelled 65535 (without_end input)) refl
     where
-      go : (found : Spelled) → spelled 65535 (without_end input) ≡ found → or_zero found ≡ 0
-      go (Number zero) e = refl
-      go (Number (suc n)) e =
+      go : (found : Option ℕ) → spelled 65535 (without_end input) ≡ found → unwrap_or found 0 ≡ 0
+      go (Some zero) e = refl
+      go (Some (suc n)) e =
           let d = (spelled-iff 65535 (without_end input) (suc n)).0 e in
           absurd (not-one (suc n) (omega arith) d.1 d.0)
-      go Nothing e = refl
+      go None e = refl
 
   refused : printed input ≡ 56 ∷ line_end ∷ []
   unfolding printed listing
@@ -146,9 +145,9 @@ number-below : (input : List ℕ) → number_in input ≤ 65535
 unfolding number_in
 number-below input = go (spelled 65535 (without_end input)) refl
   where
-    go : (found : Spelled) → spelled 65535 (without_end input) ≡ found → or_zero found ≤ 65535
-    go (Number n) e = ((spelled-iff 65535 (without_end input) n).0 e).1
-    go Nothing e = omega arith
+    go : (found : Option ℕ) → spelled 65535 (without_end input) ≡ found → unwrap_or found 0 ≤ 65535
+    go (Some n) e = ((spelled-iff 65535 (without_end input) n).0 e).1
+    go None e = omega arith
 
 pub laws : Laws
 unfolding printed

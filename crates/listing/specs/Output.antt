@@ -1,12 +1,11 @@
 -- What the program arcs prints for each input, byte by byte.
-use Rattle.std.specs.Prelude.{◌≡◌, cond, List, [], ◌∷◌, ◌++◌, map, ℕ, zero, suc, ◌-◌, ◌≤◌, leb, eqb, length, get_or, take}
+use Rattle.std.specs.Prelude.{◌≡◌, Result, Ok, Err, unwrap_or, cond, List, [], ◌∷◌, ◌++◌, map, ℕ, zero, suc, ◌-◌, ◌≤◌, leb, eqb, length, get_or, take}
 use Rattle.lists.specs.Lists.{joined}
 use Rattle.buffer.specs.Slice.{write}
 use Rattle.routing.specs.Arcs.{Arc, arcs, arc_count, round_messages}
-use Rattle.text.specs.declared.Spelled.{Spelled}
-use Rattle.text.specs.declared.Spelled.TheVariants.{Number, Nothing}
+use Rattle.refusal.specs.declared.Refusal.{Refusal}
+use Rattle.refusal.specs.declared.Refusal.TheVariants.{NoRoom}
 use Rattle.text.specs.Decimal.{decimal, spelled}
-use Rattle.listing.specs.declared.Rendered.{Rendered}
 
 -- A blank and a line end.
 abbrev pub blank : ℕ
@@ -47,30 +46,25 @@ listing (suc n) = first_line (suc n) (arc_count (suc n)) (round_messages (suc n)
 unfoldable pub without_end : List ℕ → List ℕ
 without_end input = cond (eqb (get_or input (length input - 1) 0) line_end) (take (length input - 1) input) input
 
--- A number as it is, and 0 for none.
-abbrev pub or_zero : Spelled → ℕ
-or_zero (Number n) = n
-or_zero Nothing = 0
-
 -- N as the input gives it: a number up to 65,535 in decimal without leading zeros, with at most one line end after it; else 0.
 unfoldable pub number_in : (input : List ℕ) → ℕ
-number_in input = or_zero (spelled 65535 (without_end input))
+number_in input = unwrap_or (spelled 65535 (without_end input)) 0
 
 -- All that the program prints.
 unfoldable pub printed : (input : List ℕ) → List ℕ
 printed input = listing (number_in input)
 
--- What render answers, and the output afterwards.
+-- What render answers, how many bytes it put or why not, and the output afterwards.
 pub record RenderResult : Type 0 where
-  pub answer : Rendered
+  pub answer : Result ℕ Refusal
   pub out : List ℕ
 
 -- All of the bytes at the front of the output, the rest unchanged; where there is too little room 5, and nothing is written.
 unfoldable pub rendered : (bytes out : List ℕ) → RenderResult
 rendered bytes out =
     cond (leb (length bytes) (length out))
-    (record { answer = record { answer = 0; length = length bytes }; out = write 0 bytes out })
-    (record { answer = record { answer = 5; length = 0 }; out = out })
+    (record { answer = Ok (length bytes); out = write 0 bytes out })
+    (record { answer = Err NoRoom; out = out })
 
 -- What render does with an input.
 unfoldable pub rendering : (input out : List ℕ) → RenderResult

@@ -2,10 +2,7 @@
 use mathlib.Core.Path.{◌≡◌, refl}
 use Prim.Native.Nat.{ℕ, ◌+◌, ◌*◌, ◌≤◌, ◌<◌}
 use native.Mathlib.Omega.{arith}
-use lib.ListN.{get_or}
-use borrow.Author.Tests.{lt-ltb, le-ltb}
-use Rattle.routing.specs.declared.Gateways.{Gateways}
-use Rattle.packing.specs.Packed.{packed, ReadBack, packed_two, ReadBackTwo, number_at}
+use Rattle.packing.specs.Packed.{packed, ReadBack, packed_two, ReadBackTwo}
 
 -- the sum
 pub packed-sum : (number written count : ℕ) → number + 256 * written + 4294967296 * count ≡ packed number written count
@@ -24,10 +21,3 @@ read-back-two number written h = record { number = omega arith; written = omega 
 pub read_back : (number written count : ℕ) → number < 256 → written < 16777216 → ReadBack number written count
 unfolding packed
 read_back number written count h k = record { number = omega arith; written = omega arith; count = omega arith }
-
--- one of at most two
-pub number-none : (g : Gateways) (i : ℕ) → g.count ≤ i → 65535 ≡ number_at g i
-number-none g i h = rw (le-ltb i g.count h)
-
-pub number-some : (g : Gateways) (i : ℕ) → i < g.count → get_or g.number i 0 ≡ number_at g i
-number-some g i h = rw (lt-ltb i g.count h)

@@ -1,6 +1,7 @@
 -- An answer of several numbers in one, and a gateway's neighbours in an array of four.
-use Rattle.std.specs.Prelude.{◌≡◌, cond, ℕ, ◌+◌, ◌*◌, ◌/◌, ◌%◌, ltb, get_or}
-use Rattle.routing.specs.declared.Gateways.{Gateways}
+use Rattle.std.specs.Prelude.{◌≡◌, ℕ, ◌+◌, ◌*◌, ◌/◌, ◌%◌, get_or}
+use Rattle.routing.specs.AtMostTwo.{listed}
+use Rattle.routing.specs.declared.at_most_two.AtMostTwo.{AtMostTwo}
 
 -- a number below 256, the bytes written, below 16,777,216, and a count below 4,294,967,296 in one number of 64 bits
 unfoldable pub packed : ℕ → ℕ → ℕ → ℕ
@@ -22,5 +23,5 @@ pub record ReadBackTwo (n w : ℕ) : Type 0 where
   pub written : packed_two n w / 256 ≡ w
 
 -- the gateway of that index, 65,535 where there is none
-abbrev pub number_at : Gateways → ℕ → ℕ
-number_at g i = cond (ltb i g.count) (get_or g.number i 0) 65535
+abbrev pub number_at : AtMostTwo ℕ → ℕ → ℕ
+number_at among i = get_or (listed among) i 65535

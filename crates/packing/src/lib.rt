@@ -4,8 +4,9 @@
 ghost use Rattle.std.specs.Prelude.{◌≡◌, ◌++◌, ◌<◌, ◌≤◌, get_or, length, drop};
 ghost use Rattle.packing.specs.Packed as Packed;
 ghost use Rattle.packing.specs.Packed.{number_at};
+ghost use Rattle.routing.specs.AtMostTwo.{listed};
 
-use routing::Gateways;
+use routing::at_most_two::AtMostTwo;
 
 // A number, the bytes written and a count in one number.
 pub fn packed(number: u8, written: usize, count: u32) -> u64
@@ -24,15 +25,11 @@ pub fn packed_two(number: u8, written: usize) -> u64
 }
 
 // The gateway of that index, 65,535 where there is none.
-pub fn number_at(among: Gateways, i: usize) -> u16
-    requires { (i < 2) × (get_or among.number i 0 < 65536) }
+pub fn number_at(among: AtMostTwo<u32>, i: usize) -> u16
+    requires { get_or (listed among) i 0 < 65536 }
     ensures { result ≡ number_at among i }
 {
-    if i >= among.count {
-        return 65535;
-    }
-    let number = among.number;
-    number[i] as u16
+    among.get(i).map_or(65535, |number| number as u16)
 }
 
 // Puts N values to the front of an array.

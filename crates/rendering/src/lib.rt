@@ -1,81 +1,65 @@
 // The whole output of arcs for an input: the number that it spells, its listing, or 8; 5 where there is too little room.
 #![tactic(auto)]
 
-ghost use Rattle.std.specs.Prelude.{◌≡◌, ◌+◌, ◌≤◌, length, take};
-ghost use Rattle.routing.specs.Arcs.{arcs};
+ghost use Rattle.std.specs.Prelude.{◌≡◌, ◌≤◌, IfSome, unwrap_or};
 ghost use Rattle.listing.specs.Output.{listing, without_end, number_in, rendered, rendering};
 
-use listing::{Rendered, arcs_length, first_length, put_listing};
-use neighbours::{mids_of, totals_of};
-use text::Spelled;
+use listing::{arcs_length, first_length, put_listing};
+use neighbours::middles::Middles;
+use refusal::Refusal;
 
-// Where the text ends: before the line end that may stand last.
-fn text_end(input: &[u8]) -> usize
-    ensures { (take result input.now ≡ without_end input.now) × (result ≤ length input.now) }
+// The text before the line end that may stand last.
+fn without_end(input: &[u8]) -> &[u8]
+    ensures { result.now ≡ without_end input.now }
 {
-    let n = input.len();
-    if n == 0 {
-        return 0;
-    }
-    if input[n - 1] == 10 {
-        return n - 1;
-    }
-    n
-}
-
-// N as the input gives it, and 0 where it gives none.
-fn number_in(input: &[u8]) -> u32
-    ensures { (result ≡ number_in input.now) × (result ≤ 65535) }
-{
-    let end = text_end(input);
-    let found = text::spelled_number(&input[..end], 65535);
-    match found {
-        Spelled::Number(n) => n,
-        Spelled::Nothing => 0,
+    match input {
+        [front @ .., b'\n'] => front,
+        _ => input,
     }
 }
 
-fn render_refusal(out: &mut [u8]) -> Rendered
+// N as the input gives it, from 1.
+fn number_in(input: &[u8]) -> Option<u32>
+    ensures number { unwrap_or result 0 ≡ number_in input.now }
+    ensures range { IfSome result (λ n. (1 ≤ n) × (n ≤ 65535)) }
+{
+    match text::spelled_number(without_end(input), 65535) {
+        Some(n) if n > 0 => Some(n),
+        _ => None,
+    }
+}
+
+fn render_refusal(out: &mut [u8]) -> Result<usize, Refusal>
     ensures { record { answer = result; out = out.new } ≡ rendered (listing 0) out.old }
 {
     if out.len() < 2 {
-        return Rendered {
-            answer: 5,
-            length: 0,
-        };
+        return Err(Refusal::NoRoom);
     }
-    out[0] = 56;
-    out[1] = 10;
-    Rendered {
-        answer: 0,
-        length: 2,
-    }
+    out[0] = b'8';
+    out[1] = b'\n';
+    Ok(2)
 }
 
-fn render_listing(out: &mut [u8], n: u32) -> Rendered
+fn render_listing(out: &mut [u8], n: u32) -> Result<usize, Refusal>
     requires { (1 ≤ n) × (n ≤ 65535) }
     ensures { record { answer = result; out = out.new } ≡ rendered (listing n) out.old }
 {
-    let m = mids_of(n);
-    let t = totals_of(n);
-    let length = first_length(n, t.arcs, t.messages) + arcs_length(n, m);
+    let middles = Middles::new(n);
+    let totals = middles.totals();
+    let length = first_length(n, totals) + arcs_length(middles);
     if out.len() < length {
-        return Rendered {
-            answer: 5,
-            length: 0,
-        };
+        return Err(Refusal::NoRoom);
     }
-    put_listing(out, n, t.arcs, t.messages, m);
-    Rendered { answer: 0, length }
+    put_listing(out, middles, totals);
+    Ok(length)
 }
 
-// Puts all that the program prints for an input at the front of the output.
-pub fn render(input: &[u8], out: &mut [u8]) -> Rendered
+// Puts all that the program prints for an input at the front of the output, and answers how many bytes these are.
+pub fn render(input: &[u8], out: &mut [u8]) -> Result<usize, Refusal>
     ensures { record { answer = result; out = out.new } ≡ rendering input.now out.old }
 {
-    let n = number_in(input);
-    if n == 0 {
-        return render_refusal(out);
+    match number_in(input) {
+        Some(n) => render_listing(out, n),
+        None => render_refusal(out),
     }
-    render_listing(out, n)
 }

@@ -15,9 +15,9 @@ use Rattle.gateway.specs.Effects.{settled}
 use Rattle.gateway.specs.Rounds.{least_outstanding, least_queued, frames_in_round, idle, finished, begun, is_idle, start}
 use Rattle.gateway.specs.Calls.{CallResult, leaving}
 use Rattle.gateway.specs.Inside.Premises.{Known, with_header, changed_to}
-use Rattle.announce.specs.Inside.Receivers.{listed}
+use Rattle.routing.specs.AtMostTwo.{listed}
 use Rattle.places.specs.Inside.Searching.{entries_in, sent_in}
-use Rattle.announce.specs.declared.receivers.Few.{Few}
+use Rattle.routing.specs.declared.at_most_two.AtMostTwo.{AtMostTwo}
 use Rattle.gateway.specs.declared.Answer.{Answer}
 use Rattle.phases.proofs.Changing.{gateway-is, out-of-turn}
 use Rattle.gateway.proofs.Knowing.{agreed-is, outstanding-places, queue-places, round_is, settings-are}
@@ -25,20 +25,20 @@ use Rattle.gateway.proofs.Knowing.{agreed-is, outstanding-places, queue-places, 
 module _ (m : List ℕ) (h : Header) (k : Known m h) where
   -- what is announced, as an effect
   module _ {agreed : ℕ} {round : Round} {next : Header} (e : next ≡ changed_to h agreed round) where
-    pub closing : (value : ℕ) (to : Few) → h.settings.own ≡ 0 → agreed ≡ value → round ≡ idle → listed to ≡ children h.settings.n h.settings.own
+    pub closing : (value : ℕ) (to : AtMostTwo ℕ) → h.settings.own ≡ 0 → agreed ≡ value → round ≡ idle → listed to ≡ children h.settings.n h.settings.own
         → record { gateway = with_header next (decode m); frames = frames_in_round Update value next.settings.own (listed to) } ≡ finished value (decode m)
     unfolding finished
     closing value to o a r l =
         rw (e, gateway-is m h k agreed round, a, r, l, ← settings-are m h k, eq-eqb h.settings.own 0 o)
 
-    pub passing-on : (value : ℕ) (to : Few) → (h.settings.own ≡ 0 → ⊥) → agreed ≡ h.agreed → round ≡ idle → listed to ≡ from
+    pub passing-on : (value : ℕ) (to : AtMostTwo ℕ) → (h.settings.own ≡ 0 → ⊥) → agreed ≡ h.agreed → round ≡ idle → listed to ≡ from
         h.settings.n h.settings.own
         → record { gateway = with_header next (decode m); frames = frames_in_round Lvt value next.settings.own (listed to) } ≡ finished value (decode m)
     unfolding finished
     passing-on value to o a r l =
         rw (e, gateway-is m h k agreed round, a, agreed-is m h k, r, l, ← settings-are m h k, ne_eqb h.settings.own 0 o)
 
-    pub counting-on : (note : ℕ) (to' : Few) → (h.settings.own + 1 ≡ h.settings.n → ⊥) → note ≡ least_outstanding (sent_in
+    pub counting-on : (note : ℕ) (to' : AtMostTwo ℕ) → (h.settings.own + 1 ≡ h.settings.n → ⊥) → note ≡ least_outstanding (sent_in
         h.settings.q m h.outstanding) → agreed ≡ h.agreed
         → round ≡ record { phase = Counting; arrived = 0; note = note } → listed to' ≡ to h.settings.n h.settings.own
         → record { gateway = with_header next (decode m); frames = frames_in_round Start 0 next.settings.own (listed to') } ≡ begun (decode m)

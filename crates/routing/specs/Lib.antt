@@ -1,4 +1,5 @@
 -- The definitions of routing.
+pub mod AtMostTwo
 pub mod Figure2
 pub mod Arcs
 pub mod Answers

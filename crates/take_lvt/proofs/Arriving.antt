@@ -16,9 +16,9 @@ use Rattle.gateway.specs.Effects.{settled}
 use Rattle.gateway.specs.Rounds.{least_queued, frames_in_round, finished, is_idle, bit_of, all_bits, stands, one_lvt, take_lvt, value_in}
 use Rattle.gateway.specs.Calls.{CallResult, leaving}
 use Rattle.gateway.specs.Inside.Premises.{Known, with_header, changed_to}
-use Rattle.announce.specs.Inside.Receivers.{listed, Holds}
+use Rattle.routing.specs.AtMostTwo.{listed}
 use Rattle.places.specs.Inside.Searching.{entries_in}
-use Rattle.announce.specs.declared.receivers.Few.{Few}
+use Rattle.routing.specs.declared.at_most_two.AtMostTwo.{AtMostTwo}
 use Rattle.gateway.specs.declared.Answer.{Answer}
 use Rattle.phases.proofs.Changing.{gateway-is, out-of-turn}
 use Rattle.gateway.proofs.Knowing.{agreed-is, queue-places, round_is, settings-are}
@@ -29,13 +29,12 @@ module _ (m : List ℕ) (h : Header) (k : Known m h) where
     unfolding one_lvt
     all-lvts value e = rw (eq-eqb arrived all e)
 
-    pub more-lvts : (value : ℕ) {next : Header} {round : Round} {nobody : Few} → (arrived ≡ all → ⊥) → next ≡ changed_to h h.agreed round
+    pub more-lvts : (value : ℕ) {next : Header} {round : Round} → (arrived ≡ all → ⊥) → next ≡ changed_to h h.agreed round
         → round ≡ record { phase = Stopped; arrived = arrived; note = value }
-        → Holds [] nobody
-        → record { gateway = with_header next (decode m); frames = frames_in_round Lvt 0 next.settings.own (listed nobody) } ≡ one_lvt all
+        → record { gateway = with_header next (decode m); frames = frames_in_round Lvt 0 next.settings.own [] } ≡ one_lvt all
         arrived value (decode m)
     unfolding one_lvt
-    more-lvts value {next} {round} {nobody} n e r z = rw (z.all, e, gateway-is m h k h.agreed round, agreed-is m h k, r, ne_eqb arrived all n)
+    more-lvts value {next} {round} n e r = rw (e, gateway-is m h k h.agreed round, agreed-is m h k, r, ne_eqb arrived all n)
 
   -- the value before an Lvt
   pub value-idle : h.round.phase ≡ Idle → 0 ≡ value_in h.round.phase (decode m)
@@ -57,7 +56,7 @@ module _ (m : List ℕ) (h : Header) (k : Known m h) where
     unfolding take_lvt
     lvt-wrong-half hour n four = out-of-turn m h k output four (decode m) ∙ rw (← round_is m h k, sym i ∙ n)
 
-    module _ (among : Few) {bit : ℕ} {there : Bool} (is : bit ≡ bit_of sender (listed among)) (test : there ≡ (leb 1 bit && not (stands bit
+    module _ (among : AtMostTwo ℕ) {bit : ℕ} {there : Bool} (is : bit ≡ bit_of sender (listed among)) (test : there ≡ (leb 1 bit && not (stands bit
         h.round.arrived))) where
       pub lvt-not-awaited : (hour : ℕ) {r : Answer} → idle ≡ false → listed among ≡ to h.settings.n h.settings.own → not there ≡
           true → (r.number ≡ 4) × (r.written ≡ 0)

@@ -9,13 +9,14 @@ ghost use Rattle.gateway.specs.Calls.{unless_below};
 ghost use Rattle.gateway.specs.Inside.Premises.{Known, Leaves};
 
 use announce::announce;
-use announce::receivers::{all_bits, bit_of, nobody, told};
+use announce::receivers::{all_bits, bit_of, told};
 use gateway::{Answer, refused};
 use memory::{Header, Phase};
 use model::{Kind, Message};
 use phases::{awaited, changed, is_idle, stopped};
 use places::least::least_queued;
 use round::steps::finish;
+use routing::at_most_two::AtMostTwo;
 
 // An Lvt below the agreed time is 9, before its turn is looked at.
 pub fn take_timely_lvt(
@@ -76,7 +77,7 @@ fn lvt_in(
         return finish(memory, output, header, value);
     }
     let next = changed(header, header.agreed, stopped(arrived, value));
-    announce(memory, output, next, Kind::Lvt, 0, nobody())
+    announce(memory, output, next, Kind::Lvt, 0, AtMostTwo::None)
 }
 
 // The value before an Lvt: the first one stops the note and takes the value then.

@@ -16,8 +16,8 @@ use Rattle.gateway.specs.Effects.{settled}
 use Rattle.gateway.specs.Rounds.{frames_in_round, begun, is_idle, bit_of, all_bits, stands, one_start, take_start}
 use Rattle.gateway.specs.Calls.{CallResult, leaving}
 use Rattle.gateway.specs.Inside.Premises.{Known, with_header, changed_to}
-use Rattle.announce.specs.Inside.Receivers.{listed, Holds}
-use Rattle.announce.specs.declared.receivers.Few.{Few}
+use Rattle.routing.specs.AtMostTwo.{listed}
+use Rattle.routing.specs.declared.at_most_two.AtMostTwo.{AtMostTwo}
 use Rattle.gateway.specs.declared.Answer.{Answer}
 use Rattle.phases.proofs.Changing.{gateway-is, out-of-turn}
 use Rattle.gateway.proofs.Knowing.{agreed-is, round_is, settings-are}
@@ -28,14 +28,12 @@ module _ (m : List ℕ) (h : Header) (k : Known m h) where
     unfolding one_start
     all-starts e = rw (eq-eqb arrived all e)
 
-    pub more-starts : {next : Header} {round : Round} {nobody : Few} → (arrived ≡ all → ⊥) → next ≡ changed_to h h.agreed round → round ≡
+    pub more-starts : {next : Header} {round : Round} → (arrived ≡ all → ⊥) → next ≡ changed_to h h.agreed round → round ≡
         record { phase = Idle; arrived = arrived; note = h.round.note }
-        → Holds [] nobody
-        → record { gateway = with_header next (decode m); frames = frames_in_round Start 0 next.settings.own (listed nobody) } ≡ one_start
+        → record { gateway = with_header next (decode m); frames = frames_in_round Start 0 next.settings.own [] } ≡ one_start
         all arrived (decode m)
     unfolding one_start
-    more-starts {next} {round} {nobody} n e r z = rw (
-      z.all,
+    more-starts {next} {round} n e r = rw (
       e,
       gateway-is m h k h.agreed round,
       agreed-is m h k,
@@ -55,7 +53,7 @@ module _ (m : List ℕ) (h : Header) (k : Known m h) where
     unfolding take_start
     start-wrong-half n four = out-of-turn m h k output four (decode m) ∙ rw (← round_is m h k, sym i ∙ not-true idle n)
 
-    module _ (among : Few) {bit : ℕ} {there : Bool} (is : bit ≡ bit_of sender (listed among)) (test : there ≡ (leb 1 bit && not (stands bit
+    module _ (among : AtMostTwo ℕ) {bit : ℕ} {there : Bool} (is : bit ≡ bit_of sender (listed among)) (test : there ≡ (leb 1 bit && not (stands bit
         h.round.arrived))) where
       pub start-not-awaited : {r : Answer} → not idle ≡ false → listed among ≡ from h.settings.n h.settings.own → not there ≡ true →
           (r.number ≡ 4) × (r.written ≡ 0)

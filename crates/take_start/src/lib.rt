@@ -6,12 +6,13 @@ ghost use Rattle.gateway.specs.Rounds.{one_start, take_start};
 ghost use Rattle.gateway.specs.Inside.Premises.{Known, Leaves};
 
 use announce::announce;
-use announce::receivers::{all_bits, bit_of, heard, nobody};
+use announce::receivers::{all_bits, bit_of, heard};
 use gateway::{Answer, refused};
 use memory::Header;
 use model::Kind;
 use phases::{awaited, changed, is_idle, waiting};
 use round::steps::begin;
+use routing::at_most_two::AtMostTwo;
 
 // Taking a Start from gateway k.
 pub fn take_start(memory: &mut [u8], output: &mut [u8], header: Header, k: u8) -> Answer
@@ -42,5 +43,5 @@ fn start_in(memory: &mut [u8], output: &mut [u8], header: Header, all: u8, arriv
     }
     let round = header.round;
     let next = changed(header, header.agreed, waiting(arrived, round.note));
-    announce(memory, output, next, Kind::Start, 0, nobody())
+    announce(memory, output, next, Kind::Start, 0, AtMostTwo::None)
 }

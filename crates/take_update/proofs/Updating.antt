@@ -13,8 +13,8 @@ use Rattle.gateway.specs.Effects.{settled}
 use Rattle.gateway.specs.Rounds.{frames_in_round, take_update}
 use Rattle.gateway.specs.Calls.{CallResult, leaving}
 use Rattle.gateway.specs.Inside.Premises.{Known, with_header, changed_to}
-use Rattle.announce.specs.Inside.Receivers.{listed}
-use Rattle.announce.specs.declared.receivers.Few.{Few}
+use Rattle.routing.specs.AtMostTwo.{listed}
+use Rattle.routing.specs.declared.at_most_two.AtMostTwo.{AtMostTwo}
 use Rattle.gateway.specs.declared.Answer.{Answer}
 use Rattle.phases.proofs.Changing.{gateway-is, out-of-turn}
 use Rattle.gateway.proofs.Knowing.{agreed-is, round_is, settings-are}
@@ -37,7 +37,7 @@ module _ (m : List ℕ) (h : Header) (k : Known m h) where
           from' ((h.settings.own - 1) / 2) n,
     )
 
-  pub update-taken : (output : List ℕ) (from' hour : ℕ) (to' : Few) {larger : ℕ} {next : Header} {l : CallResult Answer} → (h.settings.own
+  pub update-taken : (output : List ℕ) (from' hour : ℕ) (to' : AtMostTwo ℕ) {larger : ℕ} {next : Header} {l : CallResult Answer} → (h.settings.own
       ≡ 0 → ⊥) → from' ≡ (h.settings.own - 1) / 2
       → larger ≡ max h.agreed hour → next ≡ changed_to h larger h.round
       → listed to' ≡ children h.settings.n h.settings.own

@@ -8,7 +8,7 @@ use native.Mathlib.Omega.{arith}
 use native.Mathlib.Decide.{dec_lt, dec_le, ℕ_discrete}
 use lib.Dec.{ltb}
 use borrow.Author.Tests.{lt-ltb, le-ltb, le-leb, lt-leb}
-use Rattle.text.specs.declared.Spelled.TheVariants.{Number, Nothing}
+use Rattle.std.specs.Prelude.{Some, None}
 use Rattle.buffer.specs.Slice.{same_bytes}
 use Rattle.buffer.proofs.Equality.{bytes_same, same_bytes_lem}
 use Rattle.text.specs.Decimal.{digit, digits, decimal, value_from, value, spelled, Laws}
@@ -157,35 +157,35 @@ plain-decimal (from {b = b} {l = l} p q d) =
 
 -- what a text spells
 module _ (most : ℕ) (text : List ℕ) where
-  pub is_spelled : (n : ℕ) → decimal n ≡ text → n ≤ most → spelled most text ≡ Number n
+  pub is_spelled : (n : ℕ) → decimal n ≡ text → n ≤ most → spelled most text ≡ Some n
   unfolding spelled
   is_spelled n e h =
       let v : value text ≡ n = ap value (sym e) ∙ value-decimal n in
       rw (v, e, bytes_same text, le-leb n most h)
 
   -- it spells its value, or nothing
-  cases : ((decimal (value text) ≡ text) × (value text ≤ most)) ⊎ (spelled most text ≡ Nothing)
+  cases : ((decimal (value text) ≡ text) × (value text ≤ most)) ⊎ (spelled most text ≡ None)
   unfolding spelled
   cases = go (same_bytes (decimal (value text)) text) refl (dec_le (value text) most)
     where
       go : (b : Bool) → same_bytes (decimal (value text)) text ≡ b → Dec (value text ≤ most) → ((decimal (value text) ≡ text) × (value text ≤
-          most)) ⊎ (spelled most text ≡ Nothing)
+          most)) ⊎ (spelled most text ≡ None)
       go true e (yes h) = inl (same_bytes_lem (decimal (value text)) text e, h)
       go true e (no h) = inr (rw (e, lt-leb (value text) most (omega arith)))
       go false e h = inr (rw e)
 
-  pub not-spelled : ((n : ℕ) → n ≤ most → decimal n ≡ text → ⊥) → spelled most text ≡ Nothing
+  pub not-spelled : ((n : ℕ) → n ≤ most → decimal n ≡ text → ⊥) → spelled most text ≡ None
   not-spelled f = ⊎_elim (λ h. absurd (f (value text) h.1 h.0)) (λ e. e) cases
 
-  pub spelled-iff : (n : ℕ) → (spelled most text ≡ Number n) ↔ ((decimal n ≡ text) × (n ≤ most))
+  pub spelled-iff : (n : ℕ) → (spelled most text ≡ Some n) ↔ ((decimal n ≡ text) × (n ≤ most))
   spelled-iff n = (λ e. ⊎_elim (found e) (λ o. absurd (never e o)) cases, λ h. is_spelled n h.0 h.1)
     where
-      never : spelled most text ≡ Number n → spelled most text ≡ Nothing → ⊥
+      never : spelled most text ≡ Some n → spelled most text ≡ None → ⊥
       never e o = let z : ◌≡◌ {A = ℕ} 0 1 = cc in omega arith
 
-      found : spelled most text ≡ Number n → (decimal (value text) ≡ text) × (value text ≤ most) → (decimal n ≡ text) × (n ≤ most)
+      found : spelled most text ≡ Some n → (decimal (value text) ≡ text) × (value text ≤ most) → (decimal n ≡ text) × (n ≤ most)
       found e h =
-          let s : spelled most text ≡ Number (value text) = is_spelled (value text) h.0 h.1 in
+          let s : spelled most text ≡ Some (value text) = is_spelled (value text) h.0 h.1 in
           let same_number : value text ≡ n = cc in
           (subst (λ (k : ℕ). decimal k ≡ text) same_number h.0, omega (arith, h.1))
 

@@ -1,7 +1,8 @@
 -- How the digits of a number are put one behind the other, and how many there are.
 use mathlib.Core.Path.{◌≡◌, ◌∙◌, ap}
 use mathlib.Core.List.{List, [], ◌∷◌}
-use Prim.Native.Nat.{ℕ, suc, zero, ◌+◌, ◌/◌, ◌%◌, ◌^◌, ◌≤◌, ◌<◌}
+use Rattle.std.specs.Prelude.{Option, Some, None, IfSome, IfNone, unwrap_or}
+use Prim.Native.Nat.{ℕ, suc, zero, ◌+◌, ◌*◌, ◌/◌, ◌%◌, ◌^◌, ◌≤◌, ◌<◌}
 use native.Mathlib.Omega.{arith}
 use native.Mathlib.Nat.{pow-succ'}
 use native.Mathlib.Decide.{dec_lt}
@@ -27,9 +28,39 @@ length-within (suc k) n h = go (dec_lt n 10) (length-within k (n / 10))
     go (yes l) rest = omega (arith, length-small n l)
     go (no l) rest = omega (arith, length_more n (omega arith), rest (omega (arith, pow-succ' 10 (suc k))))
 
+-- at least one
+length-some : (bound n : ℕ) → n ≤ bound → 1 ≤ length (decimal n)
+length-some zero n h = omega (arith, length-small n (omega arith))
+length-some (suc bound) n h = go (dec_lt n 10)
+  where
+    go : Dec (n < 10) → 1 ≤ length (decimal n)
+    go (yes l) = omega (arith, length-small n l)
+    go (no l) = omega (arith, length_more n (omega arith))
+
+-- a power of ten is at least one
+power-some : (k : ℕ) → 1 ≤ 10 ^ k
+power-some zero = omega arith
+power-some (suc k) = omega (arith, pow-succ' 10 k, power-some k)
+
+-- and no fewer
+pub length-least : (k n : ℕ) → 10 ^ k ≤ n → suc k ≤ length (decimal n)
+length-least zero n h = length-some n n (omega arith)
+length-least (suc k) n h =
+    omega (arith, length_more n (omega (arith, pow-succ' 10 k, power-some k)), length-least k (n / 10) (omega (arith, pow-succ' 10 k)))
+
+-- the digits counted by the power of ten, which 0 has not
+pub digits-counted : (n : ℕ) (o : Option ℕ) → n < 4294967296 → IfNone o (n ≡ 0) → IfSome o (λ k. 10 ^ k ≤ n) → IfSome o (λ k. n < 10 * 10 ^ k)
+    → (unwrap_or o 0 + 1 ≡ length (decimal n)) × (1 ≤ unwrap_or o 0 + 1) × (unwrap_or o 0 + 1 ≤ 10)
+digits-counted n None w z p q = omega (arith, length-small n (omega arith))
+digits-counted n (Some k) w z p q =
+    let at-most = length-within k n (omega (arith, pow-succ' 10 k)) in
+    omega (arith, length-least k n p, length-within 9 n (omega arith))
+
 module _ (m : List ℕ) (at n : ℕ) (room : at + length (decimal n) ≤ length m) where
-  pub put_small : n < 10 → Puts at (decimal n) m (set m at (48 + n)) (at + 1)
-  put_small h = rw (decimal-small n h) (puts-byte at (48 + n) m (omega (arith, length-small n h)))
+  pub put_small : n < 10 → Puts at (decimal n) m (set m at (48 + n % 10)) (at + 1)
+  put_small h =
+      let e : n % 10 ≡ n = omega arith in
+      rw (decimal-small n h, e) (puts-byte at (48 + n) m (omega (arith, length-small n h)))
 
   pub put-more : {next : ℕ} {now : List ℕ} → 10 ≤ n → Puts at (decimal (n / 10)) m now next → Puts at (decimal n) m (set now next (48 + n % 10)) (next + 1)
   put-more {next} {now} h a =

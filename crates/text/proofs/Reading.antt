@@ -6,7 +6,7 @@ use native.Mathlib.Numerals.{add-one}
 use native.Mathlib.Omega.{arith}
 use lib.ListN.{length, get_or, take, drop, take-append-drop}
 use lib.Seq.{take-suc, take_all}
-use Rattle.text.specs.declared.Spelled.TheVariants.{Number, Nothing}
+use Rattle.std.specs.Prelude.{Some, None}
 use Rattle.text.specs.Decimal.{decimal, value_from, value, spelled}
 use Rattle.text.proofs.Digits.{Digits, Plain, nought, from, none, decimal-plain, decimal-small, plain-decimal, value-append}
 use Rattle.text.proofs.Digits.{value-decimal, value_from-grows, digits_append, one-digit, is_spelled, not-spelled}
@@ -45,19 +45,19 @@ module _ (text : List ℕ) (i : ℕ) (h : i < length text) where
   read-digits p q d = rw next-take (digits_append d (one-digit p q))
 
 module _ (most : ℕ) (text : List ℕ) where
-  not_plain : (Plain text → ⊥) → Nothing ≡ spelled most text
+  not_plain : (Plain text → ⊥) → None ≡ spelled most text
   not_plain f = sym (not-spelled most text (λ n h e. f (subst Plain e (decimal-plain n))))
 
-  pub empty : length text ≡ 0 → Nothing ≡ spelled most text
+  pub empty : length text ≡ 0 → None ≡ spelled most text
   empty h = not_plain (λ p. omega (arith, plain-some p))
 
-  pub led-by-zero : get_or text 0 0 ≡ 48 → (length text ≡ 1 → ⊥) → Nothing ≡ spelled most text
+  pub led-by-zero : get_or text 0 0 ≡ 48 → (length text ≡ 1 → ⊥) → None ≡ spelled most text
   led-by-zero z h = not_plain (λ p. h (plain-lead p z))
 
-  pub no_digit : (i : ℕ) → i < length text → (48 ≤ get_or text i 0 → get_or text i 0 ≤ 57 → ⊥) → Nothing ≡ spelled most text
+  pub no_digit : (i : ℕ) → i < length text → (48 ≤ get_or text i 0 → get_or text i 0 ≤ 57 → ⊥) → None ≡ spelled most text
   no_digit i h f = not_plain (λ p. let d = digit_at (plain-digits p) i h in f d.0 d.1)
 
-  too_large : (i : ℕ) → most < value (take i text) → Nothing ≡ spelled most text
+  too_large : (i : ℕ) → most < value (take i text) → None ≡ spelled most text
   too_large i h =
       sym
       (not-spelled most text
@@ -71,11 +71,11 @@ module _ (most : ℕ) (text : List ℕ) where
         value_from-grows (value (take i text)) (drop i text),
       )))
 
-  pub past-most : (i : ℕ) {v : ℕ} → i < length text → v ≡ value (take i text) → most < 10 * v + (get_or text i 0 - 48) → Nothing ≡ spelled most text
+  pub past-most : (i : ℕ) {v : ℕ} → i < length text → v ≡ value (take i text) → most < 10 * v + (get_or text i 0 - 48) → None ≡ spelled most text
   past-most i h e k = too_large (i + 1) (omega (arith, read-value text i h e))
 
   pub whole : (i : ℕ) {v : ℕ} → length text ≤ i → v ≡ value (take i text) → Digits (take i text) → 1 ≤ length text → (get_or text 0 0 ≡ 48 → ⊥) → v ≤ most
-      → Number v ≡ spelled most text
+      → Some v ≡ spelled most text
   whole i {v} h f d some lead k =
       let e : take i text ≡ text = take_all i text h in
       let w : v ≡ value text = f ∙ ap value e in
@@ -86,5 +86,5 @@ lone [] z h = absurd (omega arith)
 lone (x ∷ []) z h = ap (λ (b : ℕ). b ∷ []) (sym z)
 lone (x ∷ y ∷ l) z h = absurd (omega arith)
 
-pub lone-zero : (most : ℕ) (text : List ℕ) → get_or text 0 0 ≡ 48 → length text ≡ 1 → Number 0 ≡ spelled most text
+pub lone-zero : (most : ℕ) (text : List ℕ) → get_or text 0 0 ≡ 48 → length text ≡ 1 → Some 0 ≡ spelled most text
 lone-zero most text z h = sym (is_spelled most text 0 (decimal-small 0 (omega arith) ∙ lone text z h) (omega arith))

@@ -1,8 +1,6 @@
 -- Decimal text as bytes: the digits of a number, most significant first and without leading zeros, and the number that a text spells.
-use Rattle.std.specs.Prelude.{◌≡◌, ◌↔◌, true, false, cond, ◌&&◌, List, [], ◌∷◌, ◌++◌, ℕ, zero, suc, ◌+◌, ◌*◌, ◌-◌, ◌/◌, ◌%◌, ◌≤◌, ◌<◌, leb, ltb}
+use Rattle.std.specs.Prelude.{◌≡◌, ◌↔◌, true, false, cond, ◌&&◌, List, [], ◌∷◌, ◌++◌, Option, Some, None, ℕ, zero, suc, ◌+◌, ◌*◌, ◌-◌, ◌/◌, ◌%◌, ◌≤◌, ◌<◌, leb, ltb}
 use Rattle.buffer.specs.Slice.{same_bytes}
-use Rattle.text.specs.declared.Spelled.{Spelled}
-use Rattle.text.specs.declared.Spelled.TheVariants.{Number, Nothing}
 
 -- The byte of a digit.
 abbrev pub digit : ℕ → ℕ
@@ -33,8 +31,8 @@ unfoldable pub value : List ℕ → ℕ
 value text = value_from 0 text
 
 -- The number up to most that a text spells: its value, if the text is the decimal text of that.
-unfoldable pub spelled : (most : ℕ) → List ℕ → Spelled
-spelled most text = cond (same_bytes (decimal (value text)) text && leb (value text) most) (Number (value text)) Nothing
+unfoldable pub spelled : (most : ℕ) → List ℕ → Option ℕ
+spelled most text = cond (same_bytes (decimal (value text)) text && leb (value text) most) (Some (value text)) None
 
 -- What holds of decimal text.
 pub record Laws : Type 0 where
@@ -44,4 +42,4 @@ pub record Laws : Type 0 where
   -- it has the value n, so that no two numbers have the same text
   pub valued : (n : ℕ) → value (decimal n) ≡ n
   -- a text spells n exactly if it is the decimal text of n, up to most
-  pub converse : (most n : ℕ) (text : List ℕ) → (spelled most text ≡ Number n) ↔ ((decimal n ≡ text) × (n ≤ most))
+  pub converse : (most n : ℕ) (text : List ℕ) → (spelled most text ≡ Some n) ↔ ((decimal n ≡ text) × (n ≤ most))

@@ -1,12 +1,12 @@
 -- The tests of validity, a law for each branch of the code that makes them where a chain of tests does not say it.
 use mathlib.Core.Path.{◌≡◌, ◌∙◌, ap}
-use Prim.Native.Nat.{ℕ, ◌<◌}
-use native.Mathlib.Omega.{arith}
+use Prim.Native.Nat.{ℕ}
+use mathlib.Core.List.{List}
+use lib.ListN.{length}
 use mathlib.Core.Bool.{Bool, true, false}
 use lib.Dec.{leb}
-use borrow.Author.Tests.{eq-eqb, ne_eqb, le-leb, lt-ltb}
-use Rattle.routing.specs.Answers.{neighbours_of}
-use Rattle.routing.specs.declared.Neighbours.{Neighbours}
+use borrow.Author.Tests.{eq-eqb, ne_eqb}
+use Rattle.routing.specs.Arcs.{from, to}
 use Rattle.model.specs.declared.Message.{Message}
 use Rattle.frame.specs.Writing.{well_formed}
 use Rattle.frame.specs.declared.Frame.{Frame}
@@ -41,10 +41,10 @@ module _ (arrived froms tos : ℕ) {phase : Phase} where
   stopped-some p h e = e ∙ rw (p, eq-eqb tos 2 h)
 
 -- the arcs that routing gives
-pub round-decided : (s : Settings) (round : Round) {found : Neighbours} {r : Bool} → s.own < s.n → s.n < 256 → found ≡ neighbours_of s.n s.own
-    → r ≡ arrivals_possible round.arrived found.from.count found.to.count round.phase → r ≡ round_possible s round
-unfolding round_possible neighbours_of
-round-decided s round own small p e = e ∙ rw (p, le-leb 1 s.n (omega arith), le-leb s.n 65535 (omega arith), lt-ltb s.own s.n own)
+pub round-decided : (s : Settings) (round : Round) {n froms tos : ℕ} {f t : List ℕ} {r : Bool} → n ≡ s.n → f ≡ from n s.own → froms ≡ length f
+    → t ≡ to n s.own → tos ≡ length t → r ≡ arrivals_possible round.arrived froms tos round.phase → r ≡ round_possible s round
+unfolding round_possible
+round-decided s round n f k t l e = e ∙ rw (k, f, l, t, n)
 
 -- the form of a message as the frame that it was made into
 pub formed-as : (cancel : Bool) (m : Message) {f : Frame} {x : Bool} → f ≡ frame_if cancel m → x ≡ well_formed f → x ≡ well_formed (frame_if cancel m)

@@ -11,7 +11,7 @@ use frame::tables::has_lamp;
 use limits::numbers_below;
 use memory::{Entry, HEADER_SIZE, OUTSTANDING_SIZE, Phase, QUEUE_SIZE, Round, Sent, Settings};
 use model::{Message, State, kind_number, lead_times_valid};
-use neighbours::neighbours_of;
+use neighbours::middles::Middles;
 use rules::well_formed;
 
 // How long the memory has to be for its settings.
@@ -58,11 +58,14 @@ pub fn round_possible(settings: Settings, round: Round) -> bool
     requires { settings.own < settings.n }
     ensures { result ≡ round_possible settings round }
 {
-    let neighbours = neighbours_of(settings.n as u32, settings.own as u32);
-    let from = neighbours.from;
-    let to = neighbours.to;
-    let phase = round.phase;
-    arrivals_possible(round.arrived, from.count, to.count, phase)
+    let middles = Middles::new(settings.n as u32);
+    let own = settings.own as u32;
+    arrivals_possible(
+        round.arrived,
+        middles.from_of(own).len(),
+        middles.to_of(own).len(),
+        round.phase,
+    )
 }
 
 fn arrivals_possible(arrived: u8, froms: usize, tos: usize, phase: Phase) -> bool

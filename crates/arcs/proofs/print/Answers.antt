@@ -6,8 +6,8 @@ use Rattle.rendering.proofs.Whole.{put-within}
 use Rattle.arcs.proofs.print.Goals as goal
 
 pub slice_bounds-write_all-end : goal.slice_bounds-write_all-end
-slice_bounds-write_all-end g c = omega (arith, put-within _ _ c.render-put.ensures, c.render-put.auto.out)
+slice_bounds-write_all-end g c = omega (arith, put-within _ _ c.render.ensures c.in-Ok.is, c.render.auto.out)
 
-pub slice_bounds-write_all-end-2 : goal.slice_bounds-write_all-end-2
-slice_bounds-write_all-end-2 g c =
-    sym (length-take-le _ _ (omega (arith, put-within _ _ c.render-put.ensures, c.render-put.auto.out)))
+pub slice_bounds-write_all-end-in-Ok : goal.slice_bounds-write_all-end-in-Ok
+slice_bounds-write_all-end-in-Ok g c =
+    sym (length-take-le _ _ (omega (arith, put-within _ _ c.render.ensures c.in-Ok.is, c.render.auto.out)))

@@ -5,4 +5,4 @@ use Rattle.listing.proofs.first_length.Goals as goal
 
 pub returns : goal.returns
 returns c =
-    omega (arith, length-first_line c.args.n c.args.arcs c.args.messages)
+    omega (arith, length-first_line c.args.n c.args.totals.arcs c.args.totals.messages)

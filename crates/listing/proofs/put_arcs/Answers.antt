@@ -1,43 +1,25 @@
 -- `put_arcs` puts the lines gateway by gateway: after i turns those of the first i.
 use native.Mathlib.Omega.{arith}
-use mathlib.Core.Path.{refl, ◌∙◌, ap}
+use mathlib.Core.Path.{◌∙◌, ap}
 use mathlib.Core.List.{List}
-use Prim.Native.Nat.{◌+◌}
 use Rattle.lists.specs.Lists.{joined}
 use Rattle.buffer.specs.Slice.{write}
 use Rattle.routing.specs.Arcs.{Arc}
-use Rattle.listing.proofs.Lines.{no-lines-put, to-count, to-numbers, length-turn, lines-within, lines-turn, all_lines}
+use Rattle.listing.proofs.Lines.{no-lines-put, turn-within, lines-turn, all_lines}
 use Rattle.listing.specs.Output.{arc_line}
 use Rattle.listing.proofs.put_arcs.Goals as goal
 
-pub loop-i-init : goal.loop-i-init
-loop-i-init c = (omega arith, no-lines-put _ _ _, refl)
+pub loop-own-init : goal.loop-own-init
+loop-own-init c = no-lines-put _ _ _
 
 pub put_lines-next-requires : goal.put_lines-next-requires
-put_lines-next-requires c = (
-  to-count _ _ c.loop-i-test.true c.to_of.ensures,
-  to-numbers _ _ c.loop-i-test.true c.to_of.ensures,
-  omega (
-    arith,
-    length-turn _ _ c.loop-i-test.true c.to_of.ensures,
-    lines-within c.args.n (c.loop-i.i
-        + 1) (omega arith),
-    c.loop-i.invariant.1.position,
-  ),
-)
+put_lines-next-requires c =
+    omega (arith, turn-within _ _ c.loop-own-test.true c.to_of.ensures, c.loop-own.invariant.position, c.loop-own.auto.out)
 
-pub loop-i-preserved : goal.loop-i-preserved
-loop-i-preserved c = (
-  omega arith,
-  lines-turn _ _ c.loop-i-test.true c.to_of.ensures _ _ c.requires.2 c.loop-i.invariant.1
-      c.put_lines-next.ensures,
-  c.put_lines-next.auto.out ∙ c.loop-i.invariant.2,
-)
-
-pub shape_of-out : goal.shape_of-out
-shape_of-out c = c.loop-i.invariant.2
+pub loop-own-preserved : goal.loop-own-preserved
+loop-own-preserved c = lines-turn _ _ c.loop-own-test.true c.to_of.ensures _ _ c.requires c.loop-own.invariant c.put_lines-next.ensures
 
 pub returns : goal.returns
 returns c =
-    c.loop-i.invariant.1.output ∙ ap (λ (l : List Arc). write c.args.at (joined arc_line l) c.args.out.now) (all_lines
-    c.args.n c.loop-i.i (omega arith) (omega arith))
+    c.loop-own.invariant.output
+    ∙ ap (λ (l : List Arc). write c.args.at (joined arc_line l) c.args.out.now) (all_lines c.args.middles.n c.loop-own.own (omega arith) (omega arith))

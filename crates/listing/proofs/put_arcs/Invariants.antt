@@ -1,14 +1,8 @@
-use mathlib.Core.Path.{◌≡◌}
-use Prim.Native.Nat.{◌-◌, ◌≤◌}
-use lib.ListN.{length}
 use Rattle.lists.specs.Lists.{joined}
 use Rattle.buffer.specs.Slice.{Puts}
 use Rattle.routing.specs.Arcs.{arcs_of_first}
 use Rattle.listing.specs.Output.{arc_line}
 use Rattle.listing.proofs.put_arcs.Given as goal
 
-abbrev pub invariant-loop-i : goal.invariant-loop-i
-invariant-loop-i l = (l.i ≤ l.n) × Puts l.at (joined arc_line (arcs_of_first l.n l.i)) l.initial.out l.out l.next × (length l.out ≡ length l.initial.out)
-
-abbrev pub decreases-loop-i : goal.decreases-loop-i
-decreases-loop-i l = l.n - l.i
+abbrev pub invariant-loop-own : goal.invariant-loop-own
+invariant-loop-own l = Puts l.at (joined arc_line (arcs_of_first l.middles.n l.own)) l.initial.out l.out l.next

@@ -11,22 +11,22 @@ pub put_field-nodes_end-requires : goal.put_field-nodes_end-requires
 put_field-nodes_end-requires c =
     omega (
       arith,
-      length-first_line c.args.n c.args.arcs c.args.messages,
+      length-first_line c.args.n c.args.totals.arcs c.args.totals.messages,
       length-append nodes_word (decimal
           c.args.n),
-      length-append arcs_word (decimal c.args.arcs),
-      length-append round_word (decimal c.args.messages),
+      length-append arcs_word (decimal c.args.totals.arcs),
+      length-append round_word (decimal c.args.totals.messages),
     )
 
 pub put_field-arcs_end-requires : goal.put_field-arcs_end-requires
 put_field-arcs_end-requires c =
     omega (
       arith,
-      length-first_line c.args.n c.args.arcs c.args.messages,
+      length-first_line c.args.n c.args.totals.arcs c.args.totals.messages,
       length-append nodes_word (decimal
           c.args.n),
-      length-append arcs_word (decimal c.args.arcs),
-      length-append round_word (decimal c.args.messages),
+      length-append arcs_word (decimal c.args.totals.arcs),
+      length-append round_word (decimal c.args.totals.messages),
       c.put_field-nodes_end.ensures.position,
       c.put_field-nodes_end.auto.out,
     )
@@ -35,11 +35,11 @@ pub put_field-end-requires : goal.put_field-end-requires
 put_field-end-requires c =
     omega (
       arith,
-      length-first_line c.args.n c.args.arcs c.args.messages,
+      length-first_line c.args.n c.args.totals.arcs c.args.totals.messages,
       length-append nodes_word (decimal
           c.args.n),
-      length-append arcs_word (decimal c.args.arcs),
-      length-append round_word (decimal c.args.messages),
+      length-append arcs_word (decimal c.args.totals.arcs),
+      length-append round_word (decimal c.args.totals.messages),
       c.put_field-nodes_end.ensures.position,
       c.put_field-nodes_end.auto.out,
       c.put_field-arcs_end.ensures.position,
@@ -50,11 +50,11 @@ pub bounds-out-end : goal.bounds-out-end
 bounds-out-end c =
     omega (
       arith,
-      length-first_line c.args.n c.args.arcs c.args.messages,
+      length-first_line c.args.n c.args.totals.arcs c.args.totals.messages,
       length-append nodes_word (decimal
           c.args.n),
-      length-append arcs_word (decimal c.args.arcs),
-      length-append round_word (decimal c.args.messages),
+      length-append arcs_word (decimal c.args.totals.arcs),
+      length-append round_word (decimal c.args.totals.messages),
       c.put_field-nodes_end.ensures.position,
       c.put_field-nodes_end.auto.out,
       c.put_field-arcs_end.ensures.position,
@@ -67,11 +67,11 @@ pub overflow_add-result : goal.overflow_add-result
 overflow_add-result c =
     omega (
       arith,
-      length-first_line c.args.n c.args.arcs c.args.messages,
+      length-first_line c.args.n c.args.totals.arcs c.args.totals.messages,
       length-append nodes_word (decimal
           c.args.n),
-      length-append arcs_word (decimal c.args.arcs),
-      length-append round_word (decimal c.args.messages),
+      length-append arcs_word (decimal c.args.totals.arcs),
+      length-append round_word (decimal c.args.totals.messages),
       c.put_field-nodes_end.ensures.position,
       c.put_field-arcs_end.ensures.position,
       c.put_field-end.ensures.position,

@@ -11,9 +11,9 @@ returns-then-arrived-all c =
 
 pub announce-requires : goal.announce-requires
 announce-requires c =
-    (still _ _ c.requires c.changed-next.ensures, c.nobody.ensures.two, omega arith)
+    (still _ _ c.requires c.changed-next.ensures, omega arith)
 
 pub returns : goal.returns
 returns c =
     as-effect c.args.memory.now c.args.output.now c.announce.ensures (more-starts _ _ c.requires _ _
-    c.if-arrived-all.false c.changed-next.ensures c.waiting.ensures c.nobody.ensures)
+    c.if-arrived-all.false c.changed-next.ensures c.waiting.ensures)

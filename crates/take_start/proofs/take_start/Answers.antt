@@ -20,7 +20,7 @@ heard-among-requires c = let z = sizes _ _ c.requires in omega arith
 pub returns-then-not-awaited : goal.returns-then-not-awaited
 returns-then-not-awaited c =
     start-not-awaited _ _ c.requires _ _ c.is_idle.ensures c.heard-among.result c.bit_of-bit.ensures.0
-    c.awaited.ensures (ap not c.if-not-is_idle.false) c.heard-among.ensures.all (ap not c.if-not-awaited.true) c.refused-then-not-awaited.ensures
+    c.awaited.ensures (ap not c.if-not-is_idle.false) c.heard-among.ensures (ap not c.if-not-awaited.true) c.refused-then-not-awaited.ensures
 
 pub overflow_add-round : goal.overflow_add-round
 overflow_add-round c =
@@ -32,5 +32,5 @@ overflow_add-round c =
 pub returns : goal.returns
 returns c =
     start-awaited _ _ c.requires c.args.output.now _ c.is_idle.ensures c.heard-among.result
-    c.bit_of-bit.ensures.0 c.awaited.ensures (ap not c.if-not-is_idle.false) c.heard-among.ensures.all (ap not c.if-not-awaited.false)
+    c.bit_of-bit.ensures.0 c.awaited.ensures (ap not c.if-not-is_idle.false) c.heard-among.ensures (ap not c.if-not-awaited.false)
     c.all_bits.ensures c.start_in.ensures

@@ -13,9 +13,9 @@ returns-then-k-settings c =
 
 pub announce-requires : goal.announce-requires
 announce-requires c =
-    (still _ _ c.requires c.changed-next.ensures, c.children.ensures.two, omega arith)
+    (still _ _ c.requires c.changed-next.ensures, omega arith)
 
 pub returns : goal.returns
 returns c =
     update-taken _ _ c.requires c.args.output.now _ _ _ (omega arith) c.if-k-settings.false c.larger.ensures
-    c.changed-next.ensures c.children.ensures.all c.announce.ensures
+    c.changed-next.ensures c.children.ensures c.announce.ensures

@@ -1,12 +1,15 @@
 -- `announce::receivers::all_bits` meets its contract.
-use Rattle.announce.proofs.Neighbours.{all_none, all_one, all_two}
+use Rattle.gateway.specs.Rounds.{all_bits}
 use Rattle.announce.proofs.receivers.all_bits.Goals as goal
 
-pub returns-then-among-eq0 : goal.returns-then-among-eq0
-returns-then-among-eq0 c = search all_none
+pub returns-in-None : goal.returns-in-None
+unfolding all_bits
+returns-in-None c = rw c.in-None.is
 
-pub returns-then-among-eq1 : goal.returns-then-among-eq1
-returns-then-among-eq1 c = search all_one
+pub returns-in-One : goal.returns-in-One
+unfolding all_bits
+returns-in-One c = rw c.in-One.is
 
-pub returns : goal.returns
-returns c = search all_two
+pub returns-in-Two : goal.returns-in-Two
+unfolding all_bits
+returns-in-Two c = rw c.in-Two.is

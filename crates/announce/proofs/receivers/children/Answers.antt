@@ -1,4 +1,5 @@
 -- `announce::receivers::children` meets its contract.
+use native.Mathlib.Omega.{arith}
 use Rattle.announce.proofs.Neighbours.{no-child, one-child, two-children}
 use Rattle.announce.proofs.receivers.children.Goals as goal
 
@@ -8,5 +9,5 @@ returns-then-n-left c = search no-child
 pub returns-then-n-left-2 : goal.returns-then-n-left-2
 returns-then-n-left-2 c = search one-child
 
-pub returns : goal.returns
-returns c = search two-children
+pub returns-else-n-left-2 : goal.returns-else-n-left-2
+returns-else-n-left-2 c = two-children _ _ (omega arith)

@@ -32,10 +32,10 @@ told-requires c =
 
 pub announce-requires : goal.announce-requires
 announce-requires c =
-    (still _ _ c.requires c.changed-next.ensures, c.told.ensures.two, omega arith)
+    (still _ _ c.requires c.changed-next.ensures, omega arith)
 
 pub returns : goal.returns
 returns c =
     as-effect c.args.memory.now c.args.output.now c.announce.ensures (counting-on _ _ c.requires
     c.changed-next.ensures _ _ c.if-settings.false c.least_outstanding-note.ensures refl
-    c.counting.ensures c.told.ensures.all)
+    c.counting.ensures c.told.ensures)

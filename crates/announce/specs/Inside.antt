@@ -1,2 +1,0 @@
--- What contracts inside the repository cite beside the definitions. No reader has to believe it.
-pub mod Receivers
