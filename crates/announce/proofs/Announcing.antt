@@ -1,6 +1,8 @@
 -- Laws of a round's frames to at most two gateways, and of a header written together with them.
 use mathlib.Core.Path.{◌≡◌, refl, sym, ◌∙◌, ap}
 use mathlib.Core.List.{List, ◌++◌, append-nil}
+use Rattle.std.specs.Prelude.{Err}
+use Rattle.refusal.specs.declared.Refusal.TheVariants.{NoRoom}
 use Prim.Native.Nat.{ℕ, ◌+◌, ◌*◌, ◌^◌, ◌≤◌, ◌<◌}
 use native.Mathlib.Nat.{zero-add, mul-le-mul_right}
 use native.Mathlib.Omega.{arith}
@@ -29,12 +31,12 @@ use Rattle.memory.proofs.Holding.{length-queue, length-outstanding}
 use Rattle.memory.proofs.SoundMemory.{sound-facts, sound-holds, sound-room, sound-fits, header-held}
 use Rattle.gateway.specs.Effects.{bytes_of_frames, fits, settled}
 use Rattle.gateway.specs.Rounds.{frame_in_round, frames_in_round}
-use Rattle.gateway.specs.Calls.{leaving}
+use Rattle.gateway.specs.Calls.{left, leaving}
 use Rattle.gateway.specs.Inside.Premises.{Changed, with_header}
 use Rattle.routing.specs.AtMostTwo.{listed}
 use Rattle.routing.specs.declared.at_most_two.AtMostTwo.{AtMostTwo}
 use Rattle.routing.specs.declared.at_most_two.AtMostTwo.TheVariants.{None, One, Two}
-use Rattle.gateway.specs.declared.Answer.{Answer}
+use Rattle.gateway.specs.Answers.{answer_of}
 use Rattle.frame.proofs.Sizes.{start-length, lvt-length, kind-small}
 
 module _ (kind : Kind) where
@@ -164,14 +166,13 @@ module _ (m : List ℕ) (h : Header) (c : Changed m h) (bytes : Bytes m) where
     pub announce-room : count * one ≤ length output → length (bytes_of_frames (frames_in_round kind hour h.settings.own (listed to))) ≤ length output
     announce-room l = rw size at l
 
-    pub announce-none : length output < count * one → {r : Answer} → (r.number ≡ 5) × (r.written ≡ 0)
-        → record { answer = r; memory = m; output = output } ≡ leaving (settled (length output) (decode m) (record {
-          gateway = with_header h
-              (decode m);
-          frames = frames_in_round kind hour h.settings.own (listed to);
-        })) m output
+    pub announce-none : length output < count * one → left (answer_of (Err NoRoom)) m output ≡ leaving (settled (length output) (decode m) (record {
+      gateway = with_header h
+          (decode m);
+      frames = frames_in_round kind hour h.settings.own (listed to);
+    })) m output
     unfolding leaving settled fits kept
-    announce-none l {r} (x, y) =
+    announce-none l =
         let k = room-kept in
         let short : length output < length (bytes_of_frames (frames_in_round kind hour h.settings.own (listed to))) = rw size at l in
         rw (
@@ -180,7 +181,6 @@ module _ (m : List ℕ) (h : Header) (c : Changed m h) (bytes : Bytes m) where
               k.sent,
           lt-leb _ _ short,
         )
-        (λ i. record { answer = record { number = x i; written = y i }; memory = m; output = output })
 
     pub announce-done : count * one ≤ length output → {after out : List ℕ} → after ≡ write 6 (header_back h) (write 0 (header_front h) m)
         → out ≡ write 0 (bytes_of_frames (frames_in_round kind hour h.settings.own (listed to))) output

@@ -15,10 +15,10 @@ ghost use Rattle.gateway.specs.Inside.Premises.{Changed, announced, Leaves};
 
 use frame::tables::{LVT_LENGTH, START_LENGTH};
 use frame::{Frame, Sense};
-use gateway::{Answer, refused};
 use header::write_header;
 use memory::Header;
 use model::{Kind, Message, kind_number};
+use refusal::Refusal;
 use routing::at_most_two::AtMostTwo;
 use writer::outgoing::{put_frame, put_two};
 
@@ -30,7 +30,7 @@ pub fn announce(
     kind: Kind,
     hour: u32,
     to: AtMostTwo<u8>,
-) -> Answer
+) -> Result<usize, Refusal>
     requires { Changed memory.old header × (3 < kind_number kind) }
     ensures { Leaves result memory output (settling (announced header kind hour (listed to))) }
 {
@@ -38,11 +38,11 @@ pub fn announce(
     let own = settings.own;
     let written = to.len() * length_in_round(kind);
     if output.len() < written {
-        return refused(5);
+        return Err(Refusal::NoRoom);
     }
     write_header(memory, header);
     put_each(output, kind, hour, own, to);
-    Answer { number: 0, written }
+    Ok(written)
 }
 
 // How long a frame of that kind is: a Start, or else an Lvt or an Update.

@@ -25,11 +25,9 @@ pub fn bring_all<const N: usize>(
 fn bring<const N: usize>(gateways: &mut [Gateway; 2], frame: &[u8], line: &mut ArrayVec<u8, N>) {
     let mut output = [0u8; 4096];
     let gateway = &mut gateways[receiver_of(frame)];
-    let answer = take(&mut gateway.memory, frame, &mut output);
-    if answer.number == 0 {
-        append(line, &output, answer.written);
-    } else {
-        put(line, frame);
+    match take(&mut gateway.memory, frame, &mut output) {
+        Ok(written) => append(line, &output, written),
+        Err(_) => put(line, frame),
     }
 }
 

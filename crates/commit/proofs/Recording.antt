@@ -3,6 +3,8 @@ use mathlib.Core.Path.{◌≡◌, refl, sym, ◌∙◌, subst}
 use mathlib.Core.Bool.{Bool, true, false, cond}
 use mathlib.Core.List.Memᴰ.{head as member-first}
 use mathlib.Core.List.{List, [], ◌∷◌}
+use Rattle.std.specs.Prelude.{Err}
+use Rattle.refusal.specs.declared.Refusal.TheVariants.{NoRoom, NothingToDo}
 use Prim.Native.Nat.{ℕ, suc, ◌+◌, ◌-◌, ◌≤◌, ◌<◌}
 use native.Mathlib.Nat.{zero-add, sub-zero}
 use native.Mathlib.Omega.{arith}
@@ -34,10 +36,10 @@ use Rattle.memory.proofs.Validated.{Saved, and-more, valid-facts}
 use Rattle.gateway.specs.Effects.{with_queue}
 use Rattle.gateway.specs.Undoing.{processed_of}
 use Rattle.gateway.specs.Committing.{record_for, record_of, recorded, commit}
-use Rattle.gateway.specs.Calls.{CallResult, leaving, on_sound, committed}
+use Rattle.gateway.specs.Calls.{left, CallResult, leaving, on_sound, committed}
 use Rattle.gateway.specs.Inside.Premises.{Known}
 use Rattle.places.specs.Inside.Searching.{has_mark}
-use Rattle.gateway.specs.declared.Answer.{Answer}
+use Rattle.gateway.specs.Answers.{Answer, answer_of}
 use Rattle.frame.proofs.Sizes.{plain-length, restock-length}
 use Rattle.memory.proofs.Places.{place_at}
 use Rattle.gateway.proofs.Searches.{processed-member}
@@ -90,16 +92,10 @@ module _ (m : List ℕ) (h : Header) (known : Known m h) (k : ℕ)
   unfolding decode
   agreed-here = rw known.header
 
-  pub nothing-to-commit : (output : List ℕ) {r : Answer} → h.queued ≤ k → (r.number ≡ 6) × (r.written ≡ 0) → record {
-    answer = r;
-    memory
-        = m;
-    output = output;
-  } ≡ leaving (commit (length output) (decode m)) m output
+  pub nothing-to-commit : (output : List ℕ) → h.queued ≤ k → left (answer_of (Err NothingToDo)) m output ≡ leaving (commit (length output) (decode m)) m output
   unfolding leaving commit
-  nothing-to-commit output {r} e (a, b) =
+  nothing-to-commit output e =
       rw (none-processed (decode m).queue (omega (arith, position, queue-count m h known)))
-      (λ i. record { answer = record { number = a i; written = b i }; memory = m; output = output })
 
   module _ (below : k < h.queued) (entry : Entry) (read : entry ≡ entry_of (part m (queue_at k) queue_size)) where
     here : get_or (decode m).queue (first_where is_processed (decode m).queue) entry ≡ entry
@@ -112,12 +108,10 @@ module _ (m : List ℕ) (h : Header) (known : Known m h) (k : ℕ)
         let o = oldest-processed (decode m).queue entry (omega (arith, position, queue-count m h known)) in
         (o.0, rw here at o.1)
 
-    pub not_yet : (output : List ℕ) {r : Answer} → h.agreed ≤ entry.message.hour → (r.number ≡ 6) × (r.written ≡ 0)
-        → record { answer = r; memory = m; output = output } ≡ leaving (commit (length output) (decode m)) m output
+    pub not_yet : (output : List ℕ) → h.agreed ≤ entry.message.hour → left (answer_of (Err NothingToDo)) m output ≡ leaving (commit (length output) (decode m)) m output
     unfolding leaving commit
-    not_yet output {r} l (a, b) =
+    not_yet output l =
         rw (oldest.1, ← agreed-here, le-ltb entry.message.hour h.agreed l)
-        (λ i. record { answer = record { number = a i; written = b i }; memory = m; output = output })
 
     pub lamp-whole : length entry.message.lamp ≡ 18
     unfolding entry_of message_of
@@ -162,19 +156,10 @@ module _ (e : Entry) (lamp : length e.message.lamp ≡ 18) (m output : List ℕ)
   pub record-room : one + state_size ≤ length output → length (record_of e) ≤ length output
   record-room h = rw size at h
 
-  pub no_record : {r : Answer} → length output < one + state_size → (r.number ≡ 5) × (r.written ≡ 0) → record {
-    answer = r;
-    memory = m;
-    output =
-        output;
-  } ≡ leaving (recorded (length output) e (without k (decode m).queue) (decode m)) m output
+  pub no_record : length output < one + state_size → left (answer_of (Err NoRoom)) m output ≡ leaving (recorded (length output) e (without k (decode m).queue) (decode m)) m output
   unfolding leaving
-  no_record {r} h (a, b) =
-      rw (lt-leb (length (record_of e)) (length output) (rw size at h)) (λ i. record {
-        answer = record { number = a i; written = b i };
-        memory = m;
-        output = output;
-      })
+  no_record h =
+      rw (lt-leb (length (record_of e)) (length output) (rw size at h))
 
   pub record-done : {out after : List ℕ} → one + state_size ≤ length output → out ≡ write 0 (record_of e) output
       → after ≡ encode (with_queue (without k (decode m).queue) (decode m)) m

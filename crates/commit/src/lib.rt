@@ -9,6 +9,7 @@ ghost use Rattle.buffer.specs.Slice.{write};
 ghost use Rattle.frame.specs.Layout.{whole_length};
 ghost use Rattle.frame.specs.Kinds.{map_of_kind};
 ghost use Rattle.gateway.specs.Committing.{record_of, recorded, commit};
+ghost use Rattle.gateway.specs.Answers.{answer_of};
 ghost use Rattle.gateway.specs.Calls.{left, committed};
 ghost use Rattle.gateway.specs.Inside.Premises.{Known, Leaves};
 
@@ -18,36 +19,33 @@ use encoding::write_state;
 use entries::frame_if;
 use frame::lamps::PLAIN_LENGTH;
 use frame::tables::RESTOCK_LENGTH;
-use gateway::{Answer, refused};
 use memory::{Entry, HEADER_SIZE, Header, Mark, QUEUE_SIZE, STATE_SIZE};
 use model::{Kind, kind_number};
 use places::changes::remove_entry;
 use places::search::next_marked;
+use refusal::Refusal;
 use soundness::checked;
 use writer::outgoing::put_frame;
 
-pub fn commit(memory: &mut [u8], output: &mut [u8]) -> Answer
-    ensures { left result memory.new output.new ≡ committed memory.old output.old }
+pub fn commit(memory: &mut [u8], output: &mut [u8]) -> Result<usize, Refusal>
+    ensures { left (answer_of result) memory.new output.new ≡ committed memory.old output.old }
 {
-    let found = checked(memory);
-    if !found.sound {
-        return refused(10);
-    }
-    commit_oldest(memory, output, found.header)
+    let header = checked(memory)?;
+    commit_oldest(memory, output, header)
 }
 
 // Any event at the agreed hour stays, as a message of that very hour may still come.
-fn commit_oldest(memory: &mut [u8], output: &mut [u8], header: Header) -> Answer
+fn commit_oldest(memory: &mut [u8], output: &mut [u8], header: Header) -> Result<usize, Refusal>
     requires { Known memory.old header }
     ensures { Leaves result memory output commit }
 {
     let Some(k) = next_marked(memory, 0, header.queued as usize, Mark::Processed) else {
-        return refused(6);
+        return Err(Refusal::NothingToDo);
     };
     let entry = read_entry(memory, HEADER_SIZE + QUEUE_SIZE * k);
     let message = entry.message;
     if header.agreed <= message.hour {
-        return refused(6);
+        return Err(Refusal::NothingToDo);
     }
     commit_place(memory, output, header, k, entry)
 }
@@ -59,7 +57,7 @@ fn commit_place(
     header: Header,
     k: usize,
     entry: Entry,
-) -> Answer
+) -> Result<usize, Refusal>
     requires { Known memory.old header
         × (k < header.queued)
         × (length entry.message.lamp ≡ 18)
@@ -71,14 +69,11 @@ fn commit_place(
     let kind = message.kind;
     let size = event_length(kind) + STATE_SIZE;
     if output.len() < size {
-        return refused(5);
+        return Err(Refusal::NoRoom);
     }
     put_record(output, entry);
     remove_entry(memory, header, k);
-    Answer {
-        number: 0,
-        written: size,
-    }
+    Ok(size)
 }
 
 // How long the frame of an event of that kind is: a Restock, or else a message with a lamp.

@@ -11,14 +11,13 @@ pub fn commit_both(gateways: &mut [Gateway; 2]) {
     }
 }
 
-// A gateway commits until it answers other than 0, at most 1000 events.
+// A gateway commits until a commit is refused, at most 1000 events.
 fn commit_all(gateway: &mut Gateway) {
     let mut output = [0u8; 4096];
     for _ in 0..1000 {
-        let answer = commit(&mut gateway.memory, &mut output);
-        if answer.number != 0 {
+        let Ok(written) = commit(&mut gateway.memory, &mut output) else {
             break;
-        }
-        append(&mut gateway.events, &output, answer.written);
+        };
+        append(&mut gateway.events, &output, written);
     }
 }

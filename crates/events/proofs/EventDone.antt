@@ -2,6 +2,9 @@
 use mathlib.Core.Path.{◌≡◌, refl, sym, ◌∙◌, ap, subst}
 use mathlib.Core.Bool.{Bool, true, false, not, ◌&&◌}
 use mathlib.Core.List.{List, ◌∷◌, ◌++◌}
+use Rattle.refusal.specs.Numbers.{refusal_number}
+use Rattle.refusal.specs.declared.Refusal.{Refusal}
+use Rattle.refusal.specs.declared.Refusal.TheVariants.{NoRoom, NothingToDo}
 use Prim.Native.Nat.{ℕ, suc, ◌+◌, ◌-◌, ◌*◌, ◌≤◌, ◌<◌}
 use native.Mathlib.Nat.{add-zero}
 use native.Mathlib.Omega.{arith}
@@ -48,7 +51,7 @@ use Rattle.events.proofs.NextPending.{none-pending, next-message, next-brings, p
 use Rattle.events.proofs.WorkedLaws.{worked-none, worked-full, done_by, worked-one}
 
 -- work that stops before an event
-pub turn_stopped : {before memory : List ℕ} {t : Turn} {g : Gateway} → Reached before memory t g → (why : ℕ) → {w : Progress} → w ≡ none_done why g
+pub turn_stopped : {before memory : List ℕ} {t : Turn} {g : Gateway} → Reached before memory t g → (why : Refusal) → {w : Progress} → w ≡ none_done (refusal_number why) g
     → {r : Turn} → r ≡ stopped_with why t → Turned w before memory t r
 turn_stopped {t = t} reached why e i =
     rw (i, e)
@@ -67,9 +70,9 @@ module _ {before memory : List ℕ} {t : Turn} {g : Gateway} (reached : Reached 
 
   pub none_left : (room : ℕ) {k : ℕ} → k ≡ t.place + first_where (has_mark Pending) (places_at entry_of queue_size memory (header_size + queue_size * t.place)
       (t.header.queued - t.place))
-      → t.header.queued ≤ k → {r : Turn} → r ≡ stopped_with 6 t → Turned (worked 1 (room - t.written) g) before memory t r
+      → t.header.queued ≤ k → {r : Turn} → r ≡ stopped_with NothingToDo t → Turned (worked 1 (room - t.written) g) before memory t r
   none_left room f e i =
-      turn_stopped reached 6
+      turn_stopped reached NothingToDo
       (worked-none (room - t.written) g 0 (none-pending g.queue (omega (arith, found-next f, placed-count reached.placed))))
       i
 
@@ -143,9 +146,9 @@ module _ {before memory : List ℕ} {t : Turn} {g : Gateway} (reached : Reached 
 
   module _ (room : ℕ) {has : Bool} (has-is : has ≡ room_for t.header (room - t.written) reply) where
     -- there is no room
-    pub no_room : not has ≡ true → {r : Turn} → r ≡ stopped_with 5 t → Turned (worked 1 (room - t.written) g) before memory t r
+    pub no_room : not has ≡ true → {r : Turn} → r ≡ stopped_with NoRoom t → Turned (worked 1 (room - t.written) g) before memory t r
     no_room n i =
-        turn_stopped reached 5
+        turn_stopped reached NoRoom
         (worked-full (room - t.written) g e.message pending.0 pending.1 0 (fits-is (room - t.written) ∙ sym
         has-is ∙ not-true has n))
         i
@@ -211,7 +214,7 @@ module _ {before memory : List ℕ} {t : Turn} {g : Gateway} (reached : Reached 
 
           pub event-done : {memory₂ : List ℕ} {r : Header} → SendsReply memory₁ memory₂ (header_after next t.header) reply r → {bytes : ℕ}
               → bytes ≡ reply_bytes reply
-              → Turned (worked 1 (room - t.written) g) before memory₂ t (record { header = r; written = t.written + bytes; place = k + 1; why = 0 })
+              → Turned (worked 1 (room - t.written) g) before memory₂ t (record { header = r; written = t.written + bytes; place = k + 1; why = None })
           event-done sends b =
               let place : k + 1 ≡ suc (first_where is_pending g.queue) = omega (arith, first) in
               rw work-is

@@ -16,6 +16,7 @@ use encoding::write_entry;
 use entries::site_of;
 use memory::{Entry, HEADER_SIZE, Header, Mark, QUEUE_SIZE};
 use places::search::next_marked;
+use refusal::Refusal;
 use replies::{Turn, has_room, reply_bytes, send_reply};
 
 // One event, for an output of room bytes.
@@ -26,7 +27,7 @@ pub fn work_one(memory: &mut [u8], room: usize, turn: Turn) -> Turn
     let queued = turn.header.queued as usize;
     match next_marked(memory, turn.place, queued, Mark::Pending) {
         Some(k) => work_at(memory, room, turn, k),
-        None => stopped(turn, 6),
+        None => stopped(turn, Refusal::NothingToDo),
     }
 }
 
@@ -45,7 +46,7 @@ fn work_at(memory: &mut [u8], room: usize, turn: Turn, k: usize) -> Turn
     let reply = reply_to(site_of(header.settings), state, message);
     let bytes = reply_bytes(reply);
     if !has_room(header, reply, bytes, room - turn.written) {
-        return stopped(turn, 5);
+        return stopped(turn, Refusal::NoRoom);
     }
     let done = Entry {
         message,
@@ -62,13 +63,16 @@ fn work_at(memory: &mut [u8], room: usize, turn: Turn, k: usize) -> Turn
         header: last,
         written: turn.written + bytes,
         place: k + 1,
-        why: 0,
+        why: None,
     }
 }
 
-// Work that stops, with that number.
-fn stopped(turn: Turn, why: u8) -> Turn
+// Work that stops, for that reason.
+fn stopped(turn: Turn, why: Refusal) -> Turn
     ensures { result ≡ stopped_with why turn }
 {
-    Turn { why, ..turn }
+    Turn {
+        why: Some(why),
+        ..turn
+    }
 }

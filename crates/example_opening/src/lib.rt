@@ -16,8 +16,8 @@ pub fn set_up_both(first: &mut Gateway, second: &mut Gateway, list: &[u8])
     ensures first { first.new.memory ≡ (set_up (example_opening 0 0) list.now first.old.memory).memory }
     ensures second { second.new.memory ≡ (set_up (example_opening 1 1) [] second.old.memory).memory }
 {
-    set_up(&mut first.memory, opening(0, 0), list);
-    set_up(&mut second.memory, opening(1, 1), b"");
+    let _ = set_up(&mut first.memory, opening(0, 0), list);
+    let _ = set_up(&mut second.memory, opening(1, 1), b"");
 }
 
 // The settings of the example. Supplier of both is gateway 1.

@@ -1,63 +1,66 @@
 -- A law for each branch of a call before it looks at what it was asked: memory that is not sound, and memory that is.
-use mathlib.Core.Path.{◌≡◌, refl, sym, ◌∙◌, ap}
-use mathlib.Core.Bool.{Bool, true, false, cond, not}
+use mathlib.Core.Path.{◌≡◌, refl, ◌∙◌}
+use mathlib.Core.Bool.{Bool, true, false, cond}
 use mathlib.Core.List.{List}
+use Rattle.std.specs.Prelude.{Ok, Err}
 use Prim.Native.Nat.{ℕ}
 use lib.ListN.{length}
-use borrow.Author.Tests.{not-true, not-false, le-leb}
 use Rattle.buffer.specs.Slice.{write}
 use Rattle.memory.specs.Codec.{header_at, decode, encode}
 use Rattle.memory.specs.Records.{Gateway}
 use Rattle.memory.specs.Soundness.{sound}
-use Rattle.memory.specs.Layout.{header_size}
 use Rattle.memory.specs.Inside.Checking.{checked_as}
-use Rattle.memory.specs.declared.Checked.{Checked}
-use Rattle.memory.proofs.SoundMemory.{sound-facts}
+use Rattle.memory.specs.declared.Header.{Header}
+use Rattle.refusal.specs.declared.Refusal.{Refusal}
+use Rattle.refusal.specs.declared.Refusal.TheVariants.{NotSound}
 use Rattle.gateway.specs.Effects.{Outcome}
 use Rattle.gateway.specs.Working.{Progress, worked}
 use Rattle.gateway.specs.Rounds.{start}
 use Rattle.gateway.specs.Calls.{CallResult, left, leaving, on_sound, agreed_time, started, worked_off}
 use Rattle.gateway.specs.Inside.Premises.{Known}
-use Rattle.gateway.specs.declared.Answer.{Answer}
-use Rattle.gateway.specs.declared.Worked.{Worked}
+use Rattle.gateway.specs.Answers.{Answer, Worked, answer_of, time_of}
 
--- what was found in memory m
-module _ (m : List ℕ) {r : Checked} (found : r ≡ checked_as m) where
-  pub unsound : not r.sound ≡ true → sound m ≡ false
-  unsound n = sym (ap (λ (x : Checked). x.sound) found) ∙ not-true r.sound n
+-- memory m that is not sound, and memory m that is
+module _ (m : List ℕ) where
+  refuted-as : {why : Refusal} → Err why ≡ checked_as m → (sound m ≡ false) × (why ≡ NotSound)
+  refuted-as {why} found = by (sound m) refl found
+    where
+      by : (b : Bool) → sound m ≡ b → Err why ≡ cond b (Ok (header_at m)) (Err NotSound) → (sound m ≡ false) × (why ≡ NotSound)
+      by true e f = cc
+      by false e f = (e, cc)
 
-  is-sound : not r.sound ≡ false → sound m ≡ true
-  is-sound n = sym (ap (λ (x : Checked). x.sound) found) ∙ not-false r.sound n
+  pub unsound : {why : Refusal} → Err why ≡ checked_as m → sound m ≡ false
+  unsound found = (refuted-as found).0
 
-  header_read : not r.sound ≡ false → r.header ≡ header_at m
-  header_read n =
-      ap (λ (x : Checked). x.header) found ∙ rw (le-leb header_size (length m) (sound-facts m (is-sound n)).header)
+  pub not_sound : {why : Refusal} → Err why ≡ checked_as m → why ≡ NotSound
+  not_sound found = (refuted-as found).1
 
-  pub known : not r.sound ≡ false → Known m r.header
-  known n = record { soundness = is-sound n; header = header_read n }
+  pub known : {h : Header} → Ok h ≡ checked_as m → Known m h
+  known {h} found = by (sound m) refl found
+    where
+      by : (b : Bool) → sound m ≡ b → Ok h ≡ cond b (Ok (header_at m)) (Err NotSound) → Known m h
+      by true e f = record { soundness = e; header = cc }
+      by false e f = cc
 
   -- reading the agreed time
-  pub time-unsound : not r.sound ≡ true → record { number = 10; hour = 0 } ≡ agreed_time m
+  pub time-unsound : {why : Refusal} → Err why ≡ checked_as m → time_of (Err why) ≡ agreed_time m
   unfolding agreed_time
-  time-unsound n = rw (unsound n)
+  time-unsound found = rw (unsound found, not_sound found)
 
-  pub time-sound : not r.sound ≡ false → record { number = 0; hour = r.header.agreed } ≡ agreed_time m
+  pub time-sound : {h : Header} → Ok h ≡ checked_as m → time_of (Ok h.agreed) ≡ agreed_time m
   unfolding agreed_time
-  time-sound n = rw (is-sound n, header_read n)
+  time-sound found = let k = known found in rw (k.soundness, k.header)
 
   -- a call with an output
   module _ (call : ℕ → Gateway → Outcome) (output : List ℕ) where
-    pub call-unsound : not r.sound ≡ true → {a : Answer} → (a.number ≡ 10) × (a.written ≡ 0) → record {
-      answer = a;
-      memory = m;
-      output = output;
-    } ≡ on_sound call m output
+    pub call-unsound : {why : Refusal} → Err why ≡ checked_as m → left (answer_of (Err why)) m output ≡ on_sound call m output
     unfolding on_sound
-    call-unsound n (p, q) = rw (unsound n) (λ i. record { answer = record { number = p i; written = q i }; memory = m; output = output })
+    call-unsound found = rw (unsound found, not_sound found)
 
-    pub call-sound : not r.sound ≡ false → {l : CallResult Answer} → l ≡ leaving (call (length output) (decode m)) m output → l ≡ on_sound call m output
+    pub call-sound : {h : Header} → Ok h ≡ checked_as m → {l : CallResult Answer} → l ≡ leaving (call (length output) (decode m)) m output
+        → l ≡ on_sound call m output
     unfolding on_sound
-    call-sound n p = p ∙ rw (is-sound n)
+    call-sound found p = p ∙ rw (known found).soundness
 
 -- the start call is such a call
 pub start-call : (m output : List ℕ) → on_sound start m output ≡ started m output

@@ -1,27 +1,29 @@
 -- A law for each branch of the call take: refusals in their order, then what each sense and kind of frame comes to.
-use mathlib.Core.Path.{◌≡◌, refl, sym, ◌∙◌, ap}
+use mathlib.Core.Path.{◌≡◌, refl, sym, ◌∙◌}
 use mathlib.Core.Bool.{true, false, cond}
 use mathlib.Core.List.{List}
+use Rattle.std.specs.Prelude.{Result, Ok, Err}
+use Rattle.refusal.specs.Numbers.{refusal_number}
+use Rattle.refusal.proofs.Numbers.{refusal-some}
+use Rattle.refusal.specs.declared.Refusal.{Refusal}
+use Rattle.refusal.specs.declared.Refusal.TheVariants.{NoFrame, BelowAgreedTime}
 use Prim.Native.Nat.{ℕ, ◌≤◌, ◌<◌}
 use native.Mathlib.Omega.{arith}
 use lib.Dec.{eqb}
 use lib.ListN.{length}
-use borrow.Author.Tests.{eq-eqb, ne_eqb, lt-ltb, le-ltb}
+use borrow.Author.Tests.{ne_eqb, lt-ltb, le-ltb}
 use Rattle.buffer.specs.Slice.{Bytes}
 use Rattle.model.specs.Messages.{kind_number, kind_of, origin_of, quantity_of}
 use Rattle.model.specs.declared.Message.{Message}
 use Rattle.model.proofs.Ordered.{kind-again}
 use Rattle.model.specs.declared.Kind.{Kind}
 use Rattle.model.specs.declared.Kind.TheVariants.{Failure, Request, Delivery, Restock, Start, Lvt, Update}
-use Rattle.frame.specs.Limits.{refusal}
 use Rattle.frame.specs.Writing.{well_formed}
 use Rattle.frame.specs.Reasons.{reading, form_number, read_in}
 use Rattle.frame.specs.declared.Frame.{Frame}
-use Rattle.std.specs.Prelude.{Ok, Err}
 use Rattle.frame.specs.declared.forms.FormError.{FormError}
-use Rattle.frame.specs.declared.forms.FormError.TheVariants.{NotTaken}
 use Rattle.frame.specs.declared.Sense.TheVariants.{Plain, Cancel, Acknowledgment, CancelAcknowledgment}
-use Rattle.frame.proofs.FormNumbers.{number-some, taken-read}
+use Rattle.frame.proofs.FormNumbers.{taken-read}
 use Rattle.frame.proofs.Laws.{one-to-one}
 use Rattle.memory.specs.Codec.{decode}
 use Rattle.memory.specs.Inside.Fits.{MessageFits}
@@ -30,24 +32,25 @@ use Rattle.memory.specs.declared.Header.{Header}
 use Rattle.gateway.specs.Effects.{Outcome, refused, settled}
 use Rattle.gateway.specs.Taking.{take_plain, take_cancel, take_acknowledgment}
 use Rattle.gateway.specs.Rounds.{take_start, take_lvt, take_update}
-use Rattle.gateway.specs.Calls.{CallResult, leaving, unless_below, by_carrier, take_by_kind, take_for, take_frame, take_bytes, taken, on_sound}
+use Rattle.gateway.specs.Calls.{CallResult, left, leaving, unless_below, by_carrier, take_by_kind, take_for, take_frame, take_bytes, taken, on_sound}
 use Rattle.gateway.specs.Inside.Premises.{Known}
-use Rattle.gateway.specs.declared.Answer.{Answer}
+use Rattle.gateway.specs.Answers.{Answer, answer_of}
 use Rattle.gateway.proofs.ReadMessages.{ranged-fits}
 use Rattle.gateway.proofs.Knowing.{agreed-is, settings-are}
 
--- what a refusal with a number other than 0 leaves
-pub leaves-refused : (m output : List ℕ) (g : Gateway) (number : ℕ) → eqb number 0 ≡ false → {r : Answer} → (r.number ≡ number) × (r.written ≡ 0)
-    → record { answer = r; memory = m; output = output } ≡ leaving (refused number g) m output
+-- no refusal has the number 0
+pub refusal-numbered : (why : Refusal) → eqb (refusal_number why) 0 ≡ false
+refusal-numbered why = ne_eqb (refusal_number why) 0 (refusal-some why)
+
+-- what a refusal leaves
+pub leaves-refused : (m output : List ℕ) (g : Gateway) (why : Refusal) → left (answer_of (Err why)) m output ≡ leaving (refused (refusal_number why) g) m output
 unfolding leaving
-leaves-refused m output g number h {r} (a, b) =
-    rw h (λ i. record { answer = record { number = a i; written = b i }; memory = m; output = output })
+leaves-refused m output g why = rw (refusal-numbered why)
 
 -- below the agreed time, or not
 module _ (m output : List ℕ) (h : Header) (k : Known m h) (hour : ℕ) (x : Outcome) where
-  pub below : hour < h.agreed → {r : Answer} → (r.number ≡ 9) × (r.written ≡ 0) → record { answer = r; memory = m; output = output } ≡
-      leaving (unless_below hour (decode m) x) m output
-  below l p = leaves-refused m output (decode m) 9 refl p ∙ rw (lt-ltb hour (decode m).agreed (rw (sym (agreed-is m h k)) l))
+  pub below : hour < h.agreed → left (answer_of (Err BelowAgreedTime)) m output ≡ leaving (unless_below hour (decode m) x) m output
+  below l = leaves-refused m output (decode m) BelowAgreedTime ∙ rw (lt-ltb hour (decode m).agreed (rw (sym (agreed-is m h k)) l))
 
   pub not-below : h.agreed ≤ hour → {l : CallResult Answer} → l ≡ leaving x m output → l ≡ leaving (unless_below hour (decode m) x) m output
   not-below l p = p ∙ rw (le-ltb hour (decode m).agreed (rw (sym (agreed-is m h k)) l))
@@ -64,16 +67,16 @@ module _ (m output : List ℕ) (room : ℕ) (f : Frame) (g : Gateway) {l : CallR
   sense-cancel e p = p ∙ rw e
 
 -- an acknowledgment leaves the output alone
-module _ (m after output : List ℕ) (room : ℕ) (f : Frame) (g : Gateway) {r : Answer} where
-  pub sense-acknowledgment : f.sense ≡ Acknowledgment → ((out : List ℕ) → record { answer = r; memory = after; output = out } ≡ leaving
+module _ (m after output : List ℕ) (room : ℕ) (f : Frame) (g : Gateway) (r : Result ℕ Refusal) where
+  pub sense-acknowledgment : f.sense ≡ Acknowledgment → ((out : List ℕ) → left (answer_of r) after out ≡ leaving
       (take_acknowledgment false f.message g) m out)
-      → record { answer = r; memory = after; output = output } ≡ leaving (take_frame room f g) m output
+      → left (answer_of r) after output ≡ leaving (take_frame room f g) m output
   unfolding take_frame
   sense-acknowledgment e p = p output ∙ rw e
 
-  pub sense-cancel-acknowledgment : f.sense ≡ CancelAcknowledgment → ((out : List ℕ) → record { answer = r; memory = after; output = out }
+  pub sense-cancel-acknowledgment : f.sense ≡ CancelAcknowledgment → ((out : List ℕ) → left (answer_of r) after out
       ≡ leaving (take_acknowledgment true f.message g) m out)
-      → record { answer = r; memory = after; output = output } ≡ leaving (take_frame room f g) m output
+      → left (answer_of r) after output ≡ leaving (take_frame room f g) m output
   unfolding take_frame
   sense-cancel-acknowledgment e p = p output ∙ rw e
 
@@ -98,10 +101,9 @@ module _ (room : ℕ) (x : Message) (g : Gateway) where
   restock-kind Update h a b c = absurd (c refl)
 
 module _ (m output : List ℕ) (room : ℕ) (x : Message) (g : Gateway) {n : ℕ} (is : n ≡ kind_number x.kind) where
-  pub kind-restock : 2 < kind_number x.kind → (n ≡ 4 → ⊥) → (n ≡ 5 → ⊥) → (n ≡ 6 → ⊥) → {number : ℕ} → number ≡ form_number NotTaken
-      → {r : Answer} → (r.number ≡ number) × (r.written ≡ 0)
-      → record { answer = r; memory = m; output = output } ≡ leaving (take_by_kind room x g x.kind) m output
-  kind-restock h a b c i p = leaves-refused m output g 1 refl (p.0 ∙ i, p.1) ∙ rw (restock-kind room x g x.kind h (λ e. a (is ∙ e)) (λ e. b (is ∙ e)) (λ e. c (is ∙ e)))
+  pub kind-restock : 2 < kind_number x.kind → (n ≡ 4 → ⊥) → (n ≡ 5 → ⊥) → (n ≡ 6 → ⊥)
+      → left (answer_of (Err NoFrame)) m output ≡ leaving (take_by_kind room x g x.kind) m output
+  kind-restock h a b c = leaves-refused m output g NoFrame ∙ rw (restock-kind room x g x.kind h (λ e. a (is ∙ e)) (λ e. b (is ∙ e)) (λ e. c (is ∙ e)))
 
   -- the kind with that number
   named : {k : ℕ} → n ≡ k → x.kind ≡ kind_of k (origin_of x.kind) (quantity_of x.kind)
@@ -123,24 +125,20 @@ module _ (m output : List ℕ) (room : ℕ) (x : Message) (g : Gateway) {n : ℕ
     kind-update e p = p ∙ rw (named e)
 
 -- the number of the checks before
-module _ (m output : List ℕ) (x : Outcome) (g : Gateway) {number wanted : ℕ} (e : number ≡ wanted) where
-  pub number-refused : (number ≡ 0 → ⊥) → {r : Answer} → (r.number ≡ number) × (r.written ≡ 0) → record {
-    answer = r;
-    memory = m;
-    output =
-        output;
-  } ≡ leaving (cond (eqb wanted 0) x (refused wanted g)) m output
-  number-refused h p = leaves-refused m output g number (ne_eqb number 0 h) p ∙ rw (← e, ne_eqb number 0 h)
+module _ (m output : List ℕ) (x : Outcome) (g : Gateway) {wanted : ℕ} where
+  pub number-refused : (why : Refusal) → refusal_number why ≡ wanted → left (answer_of (Err why)) m output
+      ≡ leaving (cond (eqb wanted 0) x (refused wanted g)) m output
+  number-refused why e = leaves-refused m output g why ∙ rw (← e, refusal-numbered why)
 
-  pub number_passed : number ≡ 0 → {l : CallResult Answer} → l ≡ leaving x m output → l ≡ leaving (cond (eqb wanted 0) x (refused wanted g)) m output
-  number_passed h p = p ∙ rw (← e, eq-eqb number 0 h)
+  pub number_passed : 0 ≡ wanted → {l : CallResult Answer} → l ≡ leaving x m output → l ≡ leaving (cond (eqb wanted 0) x (refused wanted g)) m output
+  number_passed e p = p ∙ rw (← e)
 
 -- a byte string by what was read in this call
 module _ (m bytes output : List ℕ) (h : Header) (k : Known m h) where
-  pub form-refused : {reason : FormError} → Err reason ≡ read_in by_carrier (reading bytes) → {a : Answer} → (a.number ≡ form_number reason) × (a.written ≡ 0)
-      → record { answer = a; memory = m; output = output } ≡ leaving (take_bytes bytes (length output) (decode m)) m output
+  pub form-refused : {reason : FormError} → Err reason ≡ read_in by_carrier (reading bytes) → (why : Refusal) → refusal_number why ≡ form_number reason
+      → left (answer_of (Err why)) m output ≡ leaving (take_bytes bytes (length output) (decode m)) m output
   unfolding take_bytes
-  form-refused {reason} e p = leaves-refused m output (decode m) (form_number reason) (ne_eqb (form_number reason) 0 (number-some reason)) p ∙ rw (← e)
+  form-refused e why u = leaves-refused m output (decode m) why ∙ rw (← e, u)
 
   pub form-taken : {f : Frame} → Ok f ≡ read_in by_carrier (reading bytes) → {l : CallResult Answer}
       → l ≡ leaving (take_for h.settings f (length output) (decode m)) m output → l ≡ leaving (take_bytes bytes (length output) (decode m)) m output

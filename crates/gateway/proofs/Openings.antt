@@ -21,7 +21,7 @@ use Rattle.frame.proofs.Laws.{one-to-one}
 use Rattle.frame.specs.Kinds.{sense_number}
 use Rattle.frame.specs.Layout.{whole_length}
 use Rattle.frame.specs.Limits.{refusal}
-use Rattle.frame.specs.Reasons.{reading, frame_read, read_in, read_number}
+use Rattle.frame.specs.Reasons.{reading, frame_read}
 use Rattle.frame.specs.declared.Frame.{Frame}
 use Rattle.frame.specs.declared.Sense.{Sense}
 use Rattle.frame.specs.declared.Sense.TheVariants.{Plain, Cancel, Acknowledgment, CancelAcknowledgment}
@@ -37,7 +37,7 @@ use Rattle.gateway.specs.Taking.{is_later}
 use Rattle.gateway.specs.Undoing.{pending_entry}
 use Rattle.gateway.specs.SettingUp.{settings_of, opening_valid, cut_frames, may_open, opening_refusal, first_refusal, queued, opened, set_up_refusal}
 use Rattle.gateway.specs.Calls.{CallResult, refused_with, set_up}
-use Rattle.gateway.specs.declared.Answer.{Answer}
+use Rattle.gateway.specs.Answers.{Answer}
 use Rattle.gateway.specs.declared.Opening.{Opening}
 use Rattle.lists.proofs.PieceLaws.{first-none}
 use Rattle.frame.proofs.PieceBytes.{cut-bytes}

@@ -20,7 +20,7 @@ use Rattle.gateway.specs.Committing.{commit}
 use Rattle.gateway.specs.SettingUp.{opened, cut_frames, set_up_refusal}
 use Rattle.gateway.specs.Calls.{CallResult, left, refused_with, leaving, on_sound, take_bytes, taken, started, committed, worked_off, set_up}
 use Rattle.gateway.specs.Claims.{RefusedAlone, RefusalsChangeNothing}
-use Rattle.gateway.specs.declared.Worked.{Worked}
+use Rattle.gateway.specs.Answers.{Worked}
 use Rattle.gateway.specs.declared.Opening.{Opening}
 
 -- a call on the gateway that the memory holds

@@ -19,7 +19,7 @@ use Rattle.gateway.specs.Committing.{commit}
 use Rattle.gateway.specs.SettingUp.{settings_of}
 use Rattle.gateway.specs.Calls.{CallResult, refused_with, leaving, on_sound, take_bytes, taken, started, committed, worked_off, set_up, agreed_time}
 use Rattle.gateway.specs.Claims.{SoundBytes, StaysSound, NeverUnsound}
-use Rattle.gateway.specs.declared.Answer.{Answer}
+use Rattle.gateway.specs.Answers.{Answer}
 use Rattle.gateway.specs.declared.Opening.{Opening}
 use Rattle.gateway.proofs.Maintaining.{Proper, Kept, Answers, below-ten, Ends}
 use Rattle.gateway.proofs.Keeps.{start-keeps, commit-keeps, bytes-keep, work-keeps}

@@ -24,10 +24,8 @@ use Rattle.gateway.specs.Taking.{take_plain, take_cancel, take_acknowledgment}
 use Rattle.gateway.specs.Rounds.{start, take_start, take_lvt, take_update}
 use Rattle.gateway.specs.Committing.{commit}
 use Rattle.gateway.specs.SettingUp.{opened, set_up_refusal, cut_frames}
-use Rattle.gateway.specs.declared.Answer.{Answer}
-use Rattle.gateway.specs.declared.Worked.{Worked}
+use Rattle.gateway.specs.Answers.{Answer, Worked, AgreedTime}
 use Rattle.gateway.specs.declared.Opening.{Opening}
-use Rattle.gateway.specs.declared.AgreedTime.{AgreedTime}
 
 -- what a call leaves: its answer, the memory and the output
 pub record CallResult (A : Type 0) : Type 0 where

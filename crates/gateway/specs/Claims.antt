@@ -17,7 +17,7 @@ use Rattle.memory.specs.declared.Settings.{Settings}
 use Rattle.gateway.specs.Working.{pending_of}
 use Rattle.gateway.specs.SettingUp.{settings_of}
 use Rattle.gateway.specs.Calls.{CallResult, refused_with, taken, started, committed, worked_off, set_up, agreed_time}
-use Rattle.gateway.specs.declared.Answer.{Answer}
+use Rattle.gateway.specs.Answers.{Answer}
 use Rattle.gateway.specs.declared.Opening.{Opening}
 
 -- Demand 1: "Where a gateway is handed a frame, opening list, setting or memory of any content, in any state, the call returns within its

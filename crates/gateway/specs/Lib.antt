@@ -1,5 +1,6 @@
--- The gateway's calls: what all of them come to (Effects); each on a gateway as a record of lists, in the order of document 01; then
+-- The gateway's calls: what they answer (Answers); what all of them come to (Effects); each on a gateway as a record of lists, in the order of document 01; then
 -- all of them on the lent bytes (Calls).
+pub mod Answers
 pub mod Effects
 pub mod SettingUp
 pub mod Working

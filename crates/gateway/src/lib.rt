@@ -1,23 +1,15 @@
 // The gateway's calls: what they are told and answer. Their code stands in the crates above.
 #![tactic(auto)]
 
-ghost use Rattle.std.specs.Prelude.{◌≡◌};
-
 use model::LeadTimes;
+use refusal::Refusal;
 
-// What taking a frame, the start call and commit answer: document 01's number, 0 where the call is accepted, and how many
-// bytes were written.
-#[derive(Clone, Copy)]
-pub struct Answer {
-    pub number: u8,
-    pub written: usize,
-}
-
-// What work answers: the count done, why it stopped, and how many bytes were written.
+// What work answers: the count done, why it stopped where it did, and how many bytes were written. Taking a frame, the start call, commit
+// and set up answer how many bytes were written, or why they refuse.
 #[derive(Clone, Copy)]
 pub struct Worked {
     pub count: u32,
-    pub why: u8,
+    pub stopped: Option<Refusal>,
     pub written: usize,
 }
 
@@ -33,18 +25,4 @@ pub struct Opening {
     pub q: u32,
     pub u: u32,
     pub hours: LeadTimes,
-}
-
-// What reading the agreed time answers: 0 and the hour, or 10.
-#[derive(Clone, Copy)]
-pub struct AgreedTime {
-    pub number: u8,
-    pub hour: u32,
-}
-
-// The answer of a call that is refused: nothing was written.
-pub fn refused(number: u8) -> Answer
-    ensures { (result.number ≡ number) × (result.written ≡ 0) }
-{
-    Answer { number, written: 0 }
 }

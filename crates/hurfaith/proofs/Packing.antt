@@ -5,9 +5,7 @@ use Prim.Native.Nat.{ℕ, ◌<◌}
 use native.Mathlib.Omega.{arith}
 use Rattle.buffer.specs.Slice.{Bytes}
 use Rattle.gateway.specs.Calls.{CallResult, worked_off, taken, started, committed}
-use Rattle.gateway.specs.declared.Answer.{Answer}
-use Rattle.gateway.specs.declared.Worked.{Worked}
-use Rattle.gateway.specs.declared.AgreedTime.{AgreedTime}
+use Rattle.gateway.specs.Answers.{Answer, Worked, AgreedTime}
 use Rattle.packing.specs.Packed.{packed}
 use Rattle.hurfaith.specs.Exported.{packed_answer, packed_work, number_alone, packed_time}
 use Rattle.hurfaith.proofs.WrittenSizes.{started-small, committed-small, worked-small}

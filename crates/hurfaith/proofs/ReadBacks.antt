@@ -15,8 +15,7 @@ use Rattle.gateway.specs.Effects.{Outcome}
 use Rattle.gateway.specs.Rounds.{start}
 use Rattle.gateway.specs.Committing.{commit}
 use Rattle.gateway.specs.Calls.{CallResult, refused_with, leaving, on_sound, take_bytes, taken, started, committed, worked_off, agreed_time}
-use Rattle.gateway.specs.declared.Answer.{Answer}
-use Rattle.gateway.specs.declared.AgreedTime.{AgreedTime}
+use Rattle.gateway.specs.Answers.{Answer, AgreedTime}
 use Rattle.gateway.proofs.Maintaining.{Proper}
 use Rattle.gateway.proofs.Keeps.{start-keeps, commit-keeps, bytes-keep, work-keeps}
 use Rattle.hurfaith.specs.Exported.{AnswersReadBack}

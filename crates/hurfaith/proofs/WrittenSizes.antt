@@ -28,7 +28,7 @@ use Rattle.gateway.specs.Undoing.{processed_of}
 use Rattle.gateway.specs.Committing.{record_for, record_of, commit_oldest, commit}
 use Rattle.gateway.specs.Working.{pending_of, processed_next, done, Progress, none_done, once_more, worked_by, worked}
 use Rattle.gateway.specs.Calls.{CallResult, refused_with, leaving, on_sound, started, committed, worked_off}
-use Rattle.gateway.specs.declared.Answer.{Answer}
+use Rattle.gateway.specs.Answers.{Answer}
 use Rattle.gateway.proofs.Searches.{pending-member, processed-member}
 use Rattle.gateway.proofs.Replies.{Good, sent-good}
 use Rattle.routing.proofs.FewArcs.{from-few, to-few}

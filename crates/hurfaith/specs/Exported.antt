@@ -12,9 +12,7 @@ use Rattle.frame.specs.Lamps.{lamp_refusal, lamp_start, IsLamp}
 use Rattle.records.specs.Balancing.{balanced}
 use Rattle.views.specs.Viewing.{ViewResult, viewed}
 use Rattle.gateway.specs.Calls.{CallResult, taken, started, committed, worked_off, agreed_time}
-use Rattle.gateway.specs.declared.Answer.{Answer}
-use Rattle.gateway.specs.declared.Worked.{Worked}
-use Rattle.gateway.specs.declared.AgreedTime.{AgreedTime}
+use Rattle.gateway.specs.Answers.{Answer, Worked, AgreedTime}
 use Rattle.gateway.specs.declared.Opening.{Opening}
 
 -- what taking a frame, the start call and commit leave, with the answer packed: the count is 0

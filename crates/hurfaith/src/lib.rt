@@ -2,9 +2,11 @@
 // comes packed into one. include/hurfaith.h is their C side.
 #![tactic(auto)]
 
-ghost use Rattle.std.specs.Prelude.{◌≡◌, []};
-ghost use Rattle.refusal.specs.Numbers.{number_in};
+ghost use Rattle.std.specs.Prelude.{◌≡◌, ◌<◌, []};
+ghost use Rattle.refusal.specs.Numbers.{number_in, number_if};
 ghost use Rattle.views.specs.Viewing.{viewed};
+ghost use Rattle.packing.specs.Packed.{packed};
+ghost use Rattle.gateway.specs.Answers.{answer_of};
 ghost use Rattle.gateway.specs.Calls.{left, worked_off, started, committed, agreed_time, taken, set_up};
 ghost use Rattle.hurfaith.specs.Exported.{packed_answer, packed_work, packed_time, routed, number_alone, settings_given, LampAnswer, packed_view, balance_given};
 
@@ -90,8 +92,10 @@ pub extern "C" fn hurfaith_set_up(
         u: outstanding_places,
         hours,
     };
-    let answer = set_up(memory, opening, list);
-    answer.number as u32
+    match set_up(memory, opening, list) {
+        Ok(_) => 0,
+        Err(why) => why.number() as u32,
+    }
 }
 
 // Work: up to budget events.
@@ -100,7 +104,17 @@ pub extern "C" fn hurfaith_work(memory: &mut [u8], output: &mut [u8], budget: u3
     ensures { left result memory.new output.new ≡ packed_work (worked_off budget memory.old output.old) }
 {
     let worked = work(memory, output, budget);
-    packed(worked.why, worked.written, worked.count)
+    packed(number_if(worked.stopped), worked.written, worked.count)
+}
+
+// The number of a refusal, or 0.
+fn number_if(stopped: Option<Refusal>) -> u8
+    ensures { result ≡ number_if stopped }
+{
+    match stopped {
+        Some(why) => why.number(),
+        None => 0,
+    }
 }
 
 // Taking a frame.
@@ -109,8 +123,7 @@ pub extern "C" fn hurfaith_take(memory: &mut [u8], frame: &[u8], output: &mut [u
     ensures { left result memory.new output.new
         ≡ packed_answer (taken memory.old frame.now output.old) }
 {
-    let answer = take(memory, frame, output);
-    packed(answer.number, answer.written, 0)
+    packed_result(take(memory, frame, output))
 }
 
 // The start call.
@@ -118,8 +131,7 @@ pub extern "C" fn hurfaith_take(memory: &mut [u8], frame: &[u8], output: &mut [u
 pub extern "C" fn hurfaith_start(memory: &mut [u8], output: &mut [u8]) -> u64
     ensures { left result memory.new output.new ≡ packed_answer (started memory.old output.old) }
 {
-    let answer = start(memory, output);
-    packed(answer.number, answer.written, 0)
+    packed_result(start(memory, output))
 }
 
 // Commit.
@@ -127,8 +139,18 @@ pub extern "C" fn hurfaith_start(memory: &mut [u8], output: &mut [u8]) -> u64
 pub extern "C" fn hurfaith_commit(memory: &mut [u8], output: &mut [u8]) -> u64
     ensures { left result memory.new output.new ≡ packed_answer (committed memory.old output.old) }
 {
-    let answer = commit(memory, output);
-    packed(answer.number, answer.written, 0)
+    packed_result(commit(memory, output))
+}
+
+// The answer of a call that writes: the number of its refusal or 0, and the bytes written.
+fn packed_result(answer: Result<usize, Refusal>) -> u64
+    requires { (answer_of answer).written < 16777216 }
+    ensures { result ≡ packed (answer_of answer).number (answer_of answer).written 0 }
+{
+    match answer {
+        Ok(written) => packed(0, written, 0),
+        Err(why) => packed(why.number(), 0, 0),
+    }
 }
 
 // Reading the agreed time.
@@ -136,8 +158,10 @@ pub extern "C" fn hurfaith_commit(memory: &mut [u8], output: &mut [u8]) -> u64
 pub extern "C" fn hurfaith_agreed_time(memory: &[u8]) -> u64
     ensures { result ≡ packed_time (agreed_time memory.now) }
 {
-    let time = agreed_time(memory);
-    packed(time.number, 0, time.hour)
+    match agreed_time(memory) {
+        Ok(hour) => packed(0, 0, hour),
+        Err(why) => packed(why.number(), 0, 0),
+    }
 }
 
 // Reading the lamp: the number, and the place of the lamp's first byte in the frame.

@@ -87,10 +87,3 @@ pub struct Header {
     pub queued: u16,
     pub outstanding: u16,
 }
-
-// What is found in lent memory: whether it is sound, and its header, of zeros where the memory is too short for one.
-#[derive(Clone, Copy)]
-pub struct Checked {
-    pub sound: bool,
-    pub header: Header,
-}

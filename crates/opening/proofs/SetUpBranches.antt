@@ -1,7 +1,11 @@
 -- Set up: a law for each branch of the call.
 use mathlib.Core.Path.{◌≡◌, sym, ◌∙◌, ap}
-use mathlib.Core.Bool.{Bool, true, false, not}
-use mathlib.Core.List.{List, []}
+use mathlib.Core.Bool.{Bool, true, false, cond, not}
+use mathlib.Core.List.{List, [], ◌∷◌}
+use Rattle.std.specs.Prelude.{Err}
+use Rattle.refusal.specs.Numbers.{refusal_number}
+use Rattle.refusal.specs.declared.Refusal.{Refusal}
+use Rattle.refusal.specs.declared.Refusal.TheVariants.{NoRoom, OutOfRange}
 use Prim.Native.Nat.{ℕ, ◌+◌, ◌*◌, ◌≤◌, ◌<◌}
 use native.Mathlib.Omega.{arith}
 use lib.Dec.{eqb}
@@ -21,13 +25,14 @@ use Rattle.memory.proofs.Validated.{settings-facts, valid-facts}
 use Rattle.lists.proofs.BoolLaws.{and_left, and_right}
 use Rattle.memory.proofs.Fitting.{valid-fits}
 use Rattle.memory.proofs.Holding.{encode-by}
-use Rattle.gateway.specs.SettingUp.{settings_of, opening_valid, cut_frames, opening_refusal, first_refusal, queued, opened, set_up_refusal}
-use Rattle.gateway.specs.Calls.{set_up}
-use Rattle.gateway.specs.declared.Answer.{Answer}
+use Rattle.gateway.specs.SettingUp.{may_open, settings_of, opening_valid, cut_frames, opening_refusal, first_refusal, queued, opened, set_up_refusal}
+use Rattle.gateway.specs.Calls.{left, set_up}
+use Rattle.gateway.specs.Answers.{answer_of}
+use Rattle.gateway.proofs.Dispatching.{refusal-numbered}
 use Rattle.gateway.specs.declared.Opening.{Opening}
 use Rattle.gateway.proofs.Openings.{length-queued, opened-keeps}
-use Rattle.opening_list.specs.declared.Checked.{Checked}
-use Rattle.opening_list.specs.Inside.Frames.{frames_from, checked_as, opened_header}
+use Rattle.refusal.proofs.Numbers.{refusal-some}
+use Rattle.opening_list.specs.Inside.Frames.{Checked, frames_from, checked_as, opened_header}
 use Rattle.lists.proofs.PieceLaws.{none-refused}
 use Rattle.opening_list.proofs.Checking.{frames-all}
 
@@ -50,15 +55,14 @@ valid-opening o size v =
     }
 
 module _ (o : Opening) (list m : List ℕ) where
-  refused_as : (n : ℕ) → set_up_refusal o (length m) list ≡ n → (n ≡ 0 → ⊥) → {r : Answer} → (r.number ≡ n) × (r.written ≡ 0)
-      → record { answer = r; memory = m; output = [] } ≡ set_up o list m
+  refused_as : (why : Refusal) → set_up_refusal o (length m) list ≡ refusal_number why → left (answer_of (Err why)) m [] ≡ set_up o list m
   unfolding set_up
-  refused_as n p d {r} (a, b) = rw (p, ne_eqb n 0 d) (λ i. record { answer = record { number = a i; written = b i }; memory = m; output = [] })
+  refused_as why p = rw (p, refusal-numbered why)
 
   module _ {valid : Bool} (e : valid ≡ opening_valid o (length m)) where
-    pub not_valid : not valid ≡ true → {r : Answer} → (r.number ≡ 8) × (r.written ≡ 0) → record { answer = r; memory = m; output = [] } ≡ set_up o list m
+    pub not_valid : not valid ≡ true → left (answer_of (Err OutOfRange)) m [] ≡ set_up o list m
     unfolding set_up_refusal
-    not_valid h = refused_as 8 (rw (sym e ∙ not-true valid h)) (λ z. omega arith)
+    not_valid h = refused_as OutOfRange (rw (sym e ∙ not-true valid h))
 
     module _ (h : not valid ≡ false) where
       is-valid : opening_valid o (length m) ≡ true
@@ -71,14 +75,11 @@ module _ (o : Opening) (list m : List ℕ) where
         first-is : r.number ≡ first_refusal (settings_of o) (cut_frames (length list) list)
         first-is = ap (λ (x : Checked). x.number) k ∙ rw (t, frames-all list)
 
-        pub frame_refused : (r.number ≡ 0 → ⊥) → {a : Answer} → (a.number ≡ r.number) × (a.written ≡ 0) → record {
-          answer = a;
-          memory =
-              m;
-          output = [];
-        } ≡ set_up o list m
+        pub frame_refused : (why : Refusal) → refusal_number why ≡ r.number → left (answer_of (Err why)) m [] ≡ set_up o list m
         unfolding set_up_refusal
-        frame_refused d = refused_as r.number (rw (is-valid, ← first-is, ne_eqb r.number 0 d)) d
+        frame_refused why n =
+            let d : r.number ≡ 0 → ⊥ = λ z. refusal-some why (n ∙ z) in
+            refused_as why (rw (is-valid, ← first-is, ne_eqb r.number 0 d) (sym n))
 
         module _ (z : r.number ≡ 0) where
           count-is : r.count ≡ length (cut_frames (length list) list)
@@ -90,11 +91,11 @@ module _ (o : Opening) (list m : List ℕ) where
           none_is : eqb (first_refusal (settings_of o) (cut_frames (length list) list)) 0 ≡ true
           none_is = eq-eqb _ 0 (sym first-is ∙ z)
 
-          pub too_many : s.q < r.count → {a : Answer} → (a.number ≡ 5) × (a.written ≡ 0) → record { answer = a; memory = m; output = [] } ≡ set_up o list m
+          pub too_many : s.q < r.count → left (answer_of (Err NoRoom)) m [] ≡ set_up o list m
           unfolding set_up_refusal
           too_many f =
               let more : o.q < length (cut_frames (length list) list) = rw (← count-is) (rw t at f) in
-              refused_as 5 (rw (is-valid, none_is, lt-leb (length (cut_frames (length list) list)) o.q more)) (λ y. omega arith)
+              refused_as NoRoom (rw (is-valid, none_is, lt-leb (length (cut_frames (length list) list)) o.q more))
 
           module _ (f : r.count ≤ s.q) where
             enough : length (cut_frames (length list) list) ≤ o.q

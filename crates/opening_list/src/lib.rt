@@ -8,7 +8,7 @@ ghost use Rattle.buffer.specs.Slice.{write};
 ghost use Rattle.memory.specs.Codec.{entry_bytes};
 ghost use Rattle.refusal.specs.Numbers.{number_in};
 ghost use Rattle.gateway.specs.SettingUp.{may_open, opening_refusal, queued};
-ghost use Rattle.opening_list.specs.Inside.Frames.{frames_from, checked_as, memory_entered};
+ghost use Rattle.opening_list.specs.Inside.Frames.{frames_from, checked_as, checked_of, memory_entered};
 
 use effects::insert::{insert_place, unprocessed};
 use frame::forms::BLANK_FRAME;
@@ -21,11 +21,19 @@ use places::search::place_for;
 use reader::{read, read_where};
 use refusal::Refusal;
 
-// What the pass over the opening list finds: the first refusal, or 0, and how many frames stand before it or in all.
+// Why the opening list is turned down: the refusal of its first frame that is refused, and how many frames stand before it.
 #[derive(Clone, Copy)]
-pub struct Checked {
-    pub number: u8,
-    pub count: usize,
+pub struct FrameRefused {
+    pub refusal: Refusal,
+    pub before: usize,
+}
+
+impl From<FrameRefused> for Refusal {
+    ghost from_gives = { λ found refusal. refusal ≡ found.refusal };
+
+    fn from(found: FrameRefused) -> Refusal {
+        found.refusal
+    }
 }
 
 // Whether a frame is a plain message of kind 0 or 3.
@@ -47,27 +55,24 @@ fn opening_refusal(bytes: &[u8], settings: Settings) -> Result<(), Refusal>
     check(frame, settings.n as u16, settings.own, settings.last)
 }
 
-// One pass: the first refusal, and the number of frames before it or in all.
-pub fn check_list(list: &[u8], settings: Settings) -> Checked
-    ensures { result ≡ checked_as settings (frames_from list.now 0) }
+// One pass: the number of frames, or the first refusal and the number of frames before it.
+pub fn check_list(list: &[u8], settings: Settings) -> Result<usize, FrameRefused>
+    ensures { checked_of result ≡ checked_as settings (frames_from list.now 0) }
 {
     let mut count = 0;
     let mut at = 0;
     while at < list.len() {
         let end = frame_end(list, at);
-        match opening_refusal(&list[at..end], settings) {
-            Ok(()) => {}
-            Err(refusal) => {
-                return Checked {
-                    number: refusal.number(),
-                    count,
-                };
-            }
+        if let Err(refusal) = opening_refusal(&list[at..end], settings) {
+            return Err(FrameRefused {
+                refusal,
+                before: count,
+            });
         }
         at = end;
         count += 1;
     }
-    Checked { number: 0, count }
+    Ok(count)
 }
 
 // Puts each message of the list into its queue place, behind those that are not later. A blank frame stands for one that is none: there

@@ -1,16 +1,15 @@
--- A header with another agreed time and round, and a refusal with 4.
+-- A header with another agreed time and round.
 use mathlib.Core.Path.{◌≡◌, sym, ◌∙◌, ap, subst}
 use mathlib.Core.List.{List}
 use Prim.Native.Nat.{ℕ}
 use lib.ListN.{length}
-use Rattle.memory.specs.Records.{Gateway}
 use Rattle.memory.specs.Codec.{decode}
 use Rattle.memory.specs.declared.Header.{Header}
 use Rattle.memory.specs.declared.Round.{Round}
-use Rattle.gateway.specs.Effects.{Effect, settled, with_agreed, with_round, refused}
+use Rattle.gateway.specs.Effects.{Effect, settled, with_agreed, with_round}
 use Rattle.gateway.specs.Calls.{CallResult, leaving}
 use Rattle.gateway.specs.Inside.Premises.{Known, Changed, with_header, changed_to}
-use Rattle.gateway.specs.declared.Answer.{Answer}
+use Rattle.gateway.specs.Answers.{Answer}
 
 -- what is left, by another name of the effect
 pub as-effect : (m output : List ℕ) {l : CallResult Answer} {e f : Effect} → l ≡ leaving (settled (length output) (decode m) e) m output → e
@@ -29,9 +28,3 @@ module _ (m : List ℕ) (h : Header) (k : Known m h) where
   pub gateway-is : (agreed : ℕ) (round : Round) → with_header (changed_to h agreed round) (decode m) ≡ with_agreed agreed (with_round round (decode m))
   unfolding decode
   gateway-is agreed round = rw k.header
-
-  -- a refusal with 4
-  module _ (output : List ℕ) {r : Answer} (four : (r.number ≡ 4) × (r.written ≡ 0)) where
-    pub out-of-turn : (g : Gateway) → record { answer = r; memory = m; output = output } ≡ leaving (refused 4 g) m output
-    unfolding leaving
-    out-of-turn g = λ i. record { answer = record { number = four.0 i; written = four.1 i }; memory = m; output = output }

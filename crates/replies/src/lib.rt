@@ -10,15 +10,16 @@ use encoding::write_sent;
 use frame::lamps::PLAIN_LENGTH;
 use memory::{Header, Sent};
 use model::Message;
+use refusal::Refusal;
 
 // Where work stands between two events: the header so far, which is written last, the bytes of output that the replies so far take,
-// the place from which on the next unprocessed plain message stands, and why work stops, 0 while it goes on.
+// the place from which on the next unprocessed plain message stands, and why work stops, where it does.
 #[derive(Clone, Copy)]
 pub struct Turn {
     pub header: Header,
     pub written: usize,
     pub place: usize,
-    pub why: u8,
+    pub why: Option<Refusal>,
 }
 
 // How many bytes of output what doing a message sends takes: nothing, or a plain message with a lamp.

@@ -2,6 +2,8 @@
 use mathlib.Core.Path.{◌≡◌}
 use mathlib.Core.Bool.{true, false, ◌&&◌}
 use mathlib.Core.List.{List}
+use Rattle.std.specs.Prelude.{Err}
+use Rattle.refusal.specs.declared.Refusal.TheVariants.{NoRoom}
 use Prim.Native.Nat.{ℕ}
 use lib.Dec.{leb}
 use lib.ListN.{length}
@@ -9,8 +11,8 @@ use Rattle.buffer.specs.Slice.{write}
 use Rattle.memory.specs.Codec.{encode}
 use Rattle.memory.specs.Records.{Gateway}
 use Rattle.gateway.specs.Effects.{Effect, bytes_of_frames, fits, settled}
-use Rattle.gateway.specs.Calls.{leaving}
-use Rattle.gateway.specs.declared.Answer.{Answer}
+use Rattle.gateway.specs.Calls.{left, leaving}
+use Rattle.gateway.specs.Answers.{answer_of}
 
 -- the three needs, one after the other
 pub fits_by : (room : ℕ) (e : Effect) {a b d : ℕ} → length e.gateway.queue ≡ a → length e.gateway.outstanding ≡ b → length
@@ -20,14 +22,9 @@ unfolding fits
 fits_by room e p q r = rw (p, q, r)
 
 module _ (m output : List ℕ) (g : Gateway) (e : Effect) where
-  pub no_room : fits (length output) e ≡ false → {r : Answer} → (r.number ≡ 5) × (r.written ≡ 0) → record {
-    answer = r;
-    memory = m;
-    output
-        = output;
-  } ≡ leaving (settled (length output) g e) m output
+  pub no_room : fits (length output) e ≡ false → left (answer_of (Err NoRoom)) m output ≡ leaving (settled (length output) g e) m output
   unfolding leaving settled
-  no_room f {r} (a, b) = rw f (λ i. record { answer = record { number = a i; written = b i }; memory = m; output = output })
+  no_room f = rw f
 
   pub with-room : fits (length output) e ≡ true → {after out : List ℕ} {n : ℕ} → after ≡ encode e.gateway m → out ≡ write 0
       (bytes_of_frames e.frames) output → n ≡ length (bytes_of_frames e.frames)

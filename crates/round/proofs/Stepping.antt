@@ -2,6 +2,8 @@
 use mathlib.Core.Path.{◌≡◌, sym, ◌∙◌}
 use mathlib.Core.Bool.{Bool, true, false, not}
 use mathlib.Core.List.{List}
+use Rattle.std.specs.Prelude.{Err}
+use Rattle.refusal.specs.declared.Refusal.TheVariants.{OutOfTurn}
 use Prim.Native.Nat.{ℕ, ◌+◌, min}
 use lib.ListN.{length}
 use borrow.Author.Tests.{eq-eqb, ne_eqb, not-true, not-false}
@@ -13,13 +15,14 @@ use Rattle.memory.specs.declared.Round.{Round}
 use Rattle.memory.specs.declared.Phase.TheVariants.{Counting}
 use Rattle.gateway.specs.Effects.{settled}
 use Rattle.gateway.specs.Rounds.{least_outstanding, least_queued, frames_in_round, idle, finished, begun, is_idle, start}
-use Rattle.gateway.specs.Calls.{CallResult, leaving}
+use Rattle.gateway.specs.Calls.{CallResult, left, leaving}
 use Rattle.gateway.specs.Inside.Premises.{Known, with_header, changed_to}
 use Rattle.routing.specs.AtMostTwo.{listed}
 use Rattle.places.specs.Inside.Searching.{entries_in, sent_in}
 use Rattle.routing.specs.declared.at_most_two.AtMostTwo.{AtMostTwo}
-use Rattle.gateway.specs.declared.Answer.{Answer}
-use Rattle.phases.proofs.Changing.{gateway-is, out-of-turn}
+use Rattle.gateway.specs.Answers.{Answer, answer_of}
+use Rattle.phases.proofs.Changing.{gateway-is}
+use Rattle.gateway.proofs.Dispatching.{leaves-refused}
 use Rattle.gateway.proofs.Knowing.{agreed-is, outstanding-places, queue-places, round_is, settings-are}
 
 module _ (m : List ℕ) (h : Header) (k : Known m h) where
@@ -65,16 +68,16 @@ module _ (m : List ℕ) (h : Header) (k : Known m h) where
       rw (v, q, n, ← outstanding-places m h k, ← queue-places m h k, ← settings-are m h k, eq-eqb (h.settings.own + 1) h.settings.n o)
 
   -- a refusal with 4
-  module _ (output : List ℕ) {r : Answer} (four : (r.number ≡ 4) × (r.written ≡ 0)) where
-    pub start-elsewhere : (h.settings.own ≡ 0 → ⊥) → record { answer = r; memory = m; output = output } ≡ leaving (start (length output) (decode m)) m output
+  module _ (output : List ℕ) where
+    pub start-elsewhere : (h.settings.own ≡ 0 → ⊥) → left (answer_of (Err OutOfTurn)) m output ≡ leaving (start (length output) (decode m)) m output
     unfolding start
-    start-elsewhere o = out-of-turn m h k output four (decode m) ∙ rw (← settings-are m h k, ne_eqb h.settings.own 0 o)
+    start-elsewhere o = leaves-refused m output (decode m) OutOfTurn ∙ rw (← settings-are m h k, ne_eqb h.settings.own 0 o)
 
     pub start-again : {idle' : Bool} → h.settings.own ≡ 0 → idle' ≡ is_idle h.round.phase → not idle' ≡ true
-        → record { answer = r; memory = m; output = output } ≡ leaving (start (length output) (decode m)) m output
+        → left (answer_of (Err OutOfTurn)) m output ≡ leaving (start (length output) (decode m)) m output
     unfolding start
     start-again {idle'} o i n =
-        out-of-turn m h k output four (decode m) ∙ rw (← settings-are m h k, ← round_is m h k, eq-eqb h.settings.own 0 o, sym i ∙ not-true idle' n)
+        leaves-refused m output (decode m) OutOfTurn ∙ rw (← settings-are m h k, ← round_is m h k, eq-eqb h.settings.own 0 o, sym i ∙ not-true idle' n)
 
   pub start-begins : (output : List ℕ) {idle' : Bool} {l : CallResult Answer} → h.settings.own ≡ 0 → idle' ≡ is_idle h.round.phase → not idle' ≡ false
       → l ≡ leaving (settled (length output) (decode m) (begun (decode m))) m output → l ≡ leaving (start (length output) (decode m)) m output

@@ -5,14 +5,19 @@ ghost use Rattle.gateway.specs.Inside.Premises.{Known, Leaves};
 
 use announce::announce;
 use announce::receivers::{children, heard, told};
-use gateway::{Answer, refused};
 use memory::Header;
 use model::Kind;
 use phases::{changed, counting, is_idle, no_round};
 use places::least::{least_outstanding, least_queued};
+use refusal::Refusal;
 
 // With all Lvts in: gateway 0 closes the round and sends Updates, another sends its Lvt along from.
-pub fn finish(memory: &mut [u8], output: &mut [u8], header: Header, value: u32) -> Answer
+pub fn finish(
+    memory: &mut [u8],
+    output: &mut [u8],
+    header: Header,
+    value: u32,
+) -> Result<usize, Refusal>
     requires { Known memory.old header }
     ensures { Leaves result memory output (settling (finished value)) }
 {
@@ -40,7 +45,7 @@ pub fn finish(memory: &mut [u8], output: &mut [u8], header: Header, value: u32) 
 }
 
 // With all Starts in: gateway N - 1 stops as it starts, another sends Start along to.
-pub fn begin(memory: &mut [u8], output: &mut [u8], header: Header) -> Answer
+pub fn begin(memory: &mut [u8], output: &mut [u8], header: Header) -> Result<usize, Refusal>
     requires { Known memory.old header }
     ensures { Leaves result memory output (settling begun) }
 {
@@ -62,7 +67,7 @@ pub fn begin(memory: &mut [u8], output: &mut [u8], header: Header) -> Answer
 }
 
 // The start call.
-pub fn start_round(memory: &mut [u8], output: &mut [u8], header: Header) -> Answer
+pub fn start_round(memory: &mut [u8], output: &mut [u8], header: Header) -> Result<usize, Refusal>
     requires { Known memory.old header }
     ensures { Leaves result memory output start }
 {
@@ -70,10 +75,10 @@ pub fn start_round(memory: &mut [u8], output: &mut [u8], header: Header) -> Answ
     let round = header.round;
     let phase = round.phase;
     if settings.own != 0 {
-        return refused(4);
+        return Err(Refusal::OutOfTurn);
     }
     if !is_idle(phase) {
-        return refused(4);
+        return Err(Refusal::OutOfTurn);
     }
     begin(memory, output, header)
 }

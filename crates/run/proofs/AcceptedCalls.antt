@@ -22,7 +22,7 @@ use Rattle.lists.proofs.BoolLaws.{and_left, and_right}
 use Rattle.gateway.specs.Effects.{Effect, Outcome, refused, settled, with_agreed}
 use Rattle.gateway.specs.Rounds.{all_bits, start, begun, is_idle, take_start, take_lvt, take_update, one_start, one_lvt, awaited, bit_of, value_in, frames_in_round}
 use Rattle.gateway.specs.Calls.{CallResult, on_sound, leaving, refused_with, take_by_kind, take_by_sense, take_frame, take_bytes}
-use Rattle.gateway.specs.declared.Answer.{Answer}
+use Rattle.gateway.specs.Answers.{Answer}
 use Rattle.run.specs.World.{frames_in}
 use Rattle.run.proofs.FramesCut.{Whole, frames-in}
 use Rattle.run.proofs.AcceptedFrames.{outcome_of, settles, not-below, bytes-accepted}

@@ -12,7 +12,7 @@ use Rattle.gateway.specs.Effects.{Outcome, with_queue}
 use Rattle.gateway.specs.Committing as Committing
 use Rattle.gateway.specs.Committing.{commit}
 use Rattle.gateway.specs.Calls.{CallResult, committed}
-use Rattle.gateway.specs.declared.Answer.{Answer}
+use Rattle.gateway.specs.Answers.{Answer}
 use Rattle.gateway.proofs.Maintaining.{Kept}
 use Rattle.gateway.proofs.Keeps.{commit-keeps}
 use Rattle.timewarp.specs.Worlds as Worlds

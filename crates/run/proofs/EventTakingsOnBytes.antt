@@ -20,7 +20,7 @@ use Rattle.memory.specs.Records.{Gateway}
 use Rattle.memory.specs.Codec.{decode, encode}
 use Rattle.gateway.specs.Effects.{Outcome}
 use Rattle.gateway.specs.Calls.{CallResult, take_bytes, taken}
-use Rattle.gateway.specs.declared.Answer.{Answer}
+use Rattle.gateway.specs.Answers.{Answer}
 use Rattle.gateway.proofs.Maintaining.{Kept}
 use Rattle.gateway.proofs.Keeps.{bytes-keep}
 use Rattle.gateway.proofs.Accepting.{not-refused}

@@ -10,7 +10,7 @@ use Rattle.memory.proofs.SoundMemory.{codec-laws}
 use Rattle.gateway.specs.Effects.{Outcome}
 use Rattle.gateway.specs.Calls.{CallResult, on_sound}
 use Rattle.gateway.specs.Claims.{SoundBytes}
-use Rattle.gateway.specs.declared.Answer.{Answer}
+use Rattle.gateway.specs.Answers.{Answer}
 use Rattle.gateway.proofs.Maintaining.{Proper, Kept, Ends}
 use Rattle.run.proofs.AcceptedCalls.{on-sound}
 

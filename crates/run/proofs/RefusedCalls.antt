@@ -15,7 +15,7 @@ use Rattle.gateway.specs.Claims.{RefusedAlone, SoundBytes}
 use Rattle.gateway.specs.Rounds.{start}
 use Rattle.gateway.specs.Committing.{commit}
 use Rattle.gateway.specs.Calls.{CallResult, take_bytes, set_up, taken, started, committed, worked_off}
-use Rattle.gateway.specs.declared.Answer.{Answer}
+use Rattle.gateway.specs.Answers.{Answer}
 use Rattle.gateway.specs.declared.Opening.{Opening}
 use Rattle.run.specs.World.{World, works, takes, starts, commits, sets_up, with_memory, after_working, after_call}
 use Rattle.run.specs.Ledger.{did_some}

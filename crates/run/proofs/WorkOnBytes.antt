@@ -8,7 +8,7 @@ use Rattle.buffer.specs.Slice.{write}
 use Rattle.memory.specs.Codec.{decode, encode}
 use Rattle.gateway.specs.Working.{Progress, worked}
 use Rattle.gateway.specs.Calls.{CallResult, worked_off}
-use Rattle.gateway.specs.declared.Worked.{Worked}
+use Rattle.gateway.specs.Answers.{Worked}
 use Rattle.gateway.proofs.Keeps.{work-keeps}
 use Rattle.timewarp.specs.Worlds as Worlds
 use Rattle.run.specs.Forecast.{SetUpInput}

@@ -4,16 +4,16 @@
 ghost use Rattle.std.specs.Prelude.{◌≡◌, true};
 ghost use Rattle.memory.specs.Inside.Fits.{MessageFits};
 ghost use Rattle.frame.specs.Writing.{well_formed};
+ghost use Rattle.gateway.specs.Answers.{answer_of};
 ghost use Rattle.gateway.specs.Calls.{left, by_carrier, take_by_kind, take_for, take_frame, take_bytes, taken};
 ghost use Rattle.gateway.specs.Inside.Premises.{Known, Leaves};
 
-use frame::forms::FormError;
 use frame::{Frame, Sense};
-use gateway::{Answer, refused};
 use limits::check;
 use memory::Header;
 use model::{Kind, Message};
 use reader::read_where;
+use refusal::Refusal;
 use soundness::checked;
 use take_acknowledgment::take_acknowledgment;
 use take_cancel::take_cancel;
@@ -22,25 +22,25 @@ use take_plain::take_plain;
 use take_start::take_start;
 use take_update::take_update;
 
-pub fn take(memory: &mut [u8], frame: &[u8], output: &mut [u8]) -> Answer
-    ensures { left result memory.new output.new ≡ taken memory.old frame.now output.old }
+pub fn take(memory: &mut [u8], frame: &[u8], output: &mut [u8]) -> Result<usize, Refusal>
+    ensures { left (answer_of result) memory.new output.new ≡ taken memory.old frame.now output.old }
 {
-    let found = checked(memory);
-    if !found.sound {
-        return refused(10);
-    }
-    take_bytes(memory, frame, output, found.header)
+    let header = checked(memory)?;
+    take_bytes(memory, frame, output, header)
 }
 
 // A byte string that is no frame, or one that this call does not take, is refused with the number of its form.
-fn take_bytes(memory: &mut [u8], frame: &[u8], output: &mut [u8], header: Header) -> Answer
+fn take_bytes(
+    memory: &mut [u8],
+    frame: &[u8],
+    output: &mut [u8],
+    header: Header,
+) -> Result<usize, Refusal>
     requires { Known memory.old header }
     ensures { Leaves result memory output (take_bytes frame.now) }
 {
-    match read_where(frame, by_carrier) {
-        Ok(frame) => take_checked(memory, output, header, frame),
-        Err(reason) => refused(reason.number()),
-    }
+    let frame = read_where(frame, by_carrier)?;
+    take_checked(memory, output, header, frame)
 }
 
 // Whether the carrier brings such frames. A Restock is for opening lists alone.
@@ -51,18 +51,26 @@ fn by_carrier(frame: Frame) -> bool
 }
 
 // Numbers and hour are looked at before the rest: 2, then 3.
-fn take_checked(memory: &mut [u8], output: &mut [u8], header: Header, frame: Frame) -> Answer
+fn take_checked(
+    memory: &mut [u8],
+    output: &mut [u8],
+    header: Header,
+    frame: Frame,
+) -> Result<usize, Refusal>
     requires { Known memory.old header × MessageFits frame.message × (well_formed frame ≡ true) }
     ensures { Leaves result memory output (take_for header.settings frame) }
 {
     let settings = header.settings;
-    match check(frame, settings.n as u16, settings.own, settings.last) {
-        Ok(()) => take_frame(memory, output, header, frame),
-        Err(refusal) => refused(refusal.number()),
-    }
+    check(frame, settings.n as u16, settings.own, settings.last)?;
+    take_frame(memory, output, header, frame)
 }
 
-fn take_frame(memory: &mut [u8], output: &mut [u8], header: Header, frame: Frame) -> Answer
+fn take_frame(
+    memory: &mut [u8],
+    output: &mut [u8],
+    header: Header,
+    frame: Frame,
+) -> Result<usize, Refusal>
     requires { Known memory.old header × MessageFits frame.message × (well_formed frame ≡ true) }
     ensures { Leaves result memory output (λ room g. take_frame room frame g) }
 {
@@ -76,7 +84,12 @@ fn take_frame(memory: &mut [u8], output: &mut [u8], header: Header, frame: Frame
 }
 
 // An event, or a message of the round. A Restock is not taken.
-fn take_by_kind(memory: &mut [u8], output: &mut [u8], header: Header, message: Message) -> Answer
+fn take_by_kind(
+    memory: &mut [u8],
+    output: &mut [u8],
+    header: Header,
+    message: Message,
+) -> Result<usize, Refusal>
     requires { Known memory.old header × MessageFits message }
     ensures { Leaves result memory output (λ room g. take_by_kind room message g message.kind) }
 {
@@ -84,7 +97,7 @@ fn take_by_kind(memory: &mut [u8], output: &mut [u8], header: Header, message: M
         Kind::Failure { .. } | Kind::Request { .. } | Kind::Delivery { .. } => {
             take_plain(memory, output, header, message)
         }
-        Kind::Restock { .. } => refused(FormError::NotTaken.number()),
+        Kind::Restock { .. } => Err(Refusal::NoFrame),
         Kind::Start => take_start(memory, output, header, message.from),
         Kind::Lvt => take_timely_lvt(memory, output, header, message),
         Kind::Update => take_update(memory, output, header, message.from, message.hour),

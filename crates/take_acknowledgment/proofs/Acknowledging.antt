@@ -2,6 +2,8 @@
 use mathlib.Core.Path.{◌≡◌}
 use mathlib.Core.Bool.{Bool}
 use mathlib.Core.List.{List}
+use Rattle.std.specs.Prelude.{Err}
+use Rattle.refusal.specs.declared.Refusal.TheVariants.{NotOutstanding}
 use Prim.Native.Nat.{ℕ, ◌<◌, ◌≤◌}
 use native.Mathlib.Omega.{arith}
 use Rattle.lists.specs.Inside.Positions.{first_where, without}
@@ -12,10 +14,10 @@ use Rattle.memory.specs.Codec.{decode, encode}
 use Rattle.memory.specs.declared.Header.{Header}
 use Rattle.gateway.specs.Effects.{with_outstanding}
 use Rattle.gateway.specs.Taking.{is_sent, take_acknowledgment}
-use Rattle.gateway.specs.Calls.{leaving}
+use Rattle.gateway.specs.Calls.{left, leaving}
 use Rattle.gateway.specs.Inside.Premises.{Known}
 use Rattle.places.specs.Inside.Searching.{sent_in}
-use Rattle.gateway.specs.declared.Answer.{Answer}
+use Rattle.gateway.specs.Answers.{answer_of}
 use Rattle.gateway.proofs.Knowing.{outstanding-count, outstanding-places}
 
 module _ (m : List ℕ) (h : Header) (known : Known m h) (cancel : Bool) (message : Message) (k : ℕ)
@@ -23,12 +25,11 @@ module _ (m : List ℕ) (h : Header) (known : Known m h) (cancel : Bool) (messag
   position : k ≡ first_where (is_sent cancel message) (decode m).outstanding
   position = rw (outstanding-places m h known) found
 
-  pub acknowledgment-of-none : h.outstanding ≤ k → {r : Answer} → (r.number ≡ 7) × (r.written ≡ 0)
-      → (output : List ℕ) → record { answer = r; memory = m; output = output } ≡ leaving (take_acknowledgment cancel message (decode m)) m output
+  pub acknowledgment-of-none : h.outstanding ≤ k → (output : List ℕ) → left (answer_of (Err NotOutstanding)) m output ≡ leaving (take_acknowledgment cancel message (decode m)) m output
   unfolding leaving take_acknowledgment
-  acknowledgment-of-none e {r} (a, b) output =
+  acknowledgment-of-none e output =
       let none = any_none (is_sent cancel message) (decode m).outstanding (omega (arith, position, outstanding-count m h known)) in
-      rw none (λ i. record { answer = record { number = a i; written = b i }; memory = m; output = output })
+      rw none
 
   pub acknowledgment-of-one : k < h.outstanding → {after : List ℕ}
       → after ≡ encode (with_outstanding (without k (decode m).outstanding) (decode m)) m

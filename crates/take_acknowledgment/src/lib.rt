@@ -4,18 +4,18 @@
 ghost use Rattle.gateway.specs.Taking.{take_acknowledgment};
 ghost use Rattle.gateway.specs.Inside.Premises.{Known, LeavesMemory};
 
-use gateway::{Answer, refused};
 use memory::Header;
 use model::Message;
 use places::changes::remove_sent;
 use places::search::find_sent;
+use refusal::Refusal;
 
 pub fn take_acknowledgment(
     memory: &mut [u8],
     header: Header,
     cancel: bool,
     message: Message,
-) -> Answer
+) -> Result<usize, Refusal>
     requires { Known memory.old header }
     ensures { LeavesMemory result memory (take_acknowledgment cancel message) }
 {
@@ -23,11 +23,8 @@ pub fn take_acknowledgment(
     match find_sent(memory, q, header.outstanding as usize, cancel, message) {
         Some(k) => {
             remove_sent(memory, header, k);
-            Answer {
-                number: 0,
-                written: 0,
-            }
+            Ok(0)
         }
-        None => refused(7),
+        None => Err(Refusal::NotOutstanding),
     }
 }

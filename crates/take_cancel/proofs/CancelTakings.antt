@@ -2,6 +2,8 @@
 use mathlib.Core.Path.{◌≡◌, refl, sym, ◌∙◌}
 use mathlib.Core.Bool.{Bool, true, false, not, ◌&&◌}
 use mathlib.Core.List.{List, [], ◌∷◌, ◌++◌, append-nil}
+use Rattle.std.specs.Prelude.{Err}
+use Rattle.refusal.specs.declared.Refusal.TheVariants.{NoRoom}
 use Prim.Native.Nat.{ℕ, ◌+◌, ◌-◌, ◌*◌, ◌≤◌, ◌<◌}
 use native.Mathlib.Nat.{add-zero}
 use native.Mathlib.Omega.{arith}
@@ -27,10 +29,10 @@ use Rattle.lists.proofs.BoolLaws.{and_left, and_right}
 use Rattle.gateway.specs.Effects.{Effect, bytes_of_frames, fits, settled, with_queue, frames_for}
 use Rattle.gateway.specs.Undoing.{processed_of, sent_back}
 use Rattle.gateway.specs.Taking.{acknowledgment, is_plain, waiting_entry, take_cancel, waits, is_later}
-use Rattle.gateway.specs.Calls.{CallResult, leaving}
+use Rattle.gateway.specs.Calls.{CallResult, left, leaving}
 use Rattle.gateway.specs.Inside.Premises.{Known}
 use Rattle.places.specs.Inside.Searching.{entries_in}
-use Rattle.gateway.specs.declared.Answer.{Answer}
+use Rattle.gateway.specs.Answers.{Answer, answer_of}
 use Rattle.effects.specs.Inside.Placed.{Placed}
 use Rattle.effects.specs.Inside.Sending.{stored_frames}
 use Rattle.effects.proofs.PlacedLaws.{placed_first, placed-rest, placed-last}
@@ -121,13 +123,8 @@ module _ (m output : List ℕ) (h : Header) (known : Known m h) (bytes : Bytes m
       (rw append-nil (reply-size true x fits-x.lamp few))
       ∙ rw (← settings-are m h known))
 
-  pub waits-without-room : {ok : Bool} → ok ≡ enough h (h.queued + 1) 0 (length output) → not ok ≡ true → {a : Answer} → (a.number ≡ 5) × (a.written ≡ 0) → record {
-    answer =
-        a;
-    memory = m;
-    output = output;
-  } ≡ leaving (settled (length output) g (waits x g)) m output
-  waits-without-room {ok} p n q = no_room m output g (waits x g) (needs ∙ sym p ∙ not-true ok n) q
+  pub waits-without-room : {ok : Bool} → ok ≡ enough h (h.queued + 1) 0 (length output) → not ok ≡ true → left (answer_of (Err NoRoom)) m output ≡ leaving (settled (length output) g (waits x g)) m output
+  waits-without-room {ok} p n = no_room m output g (waits x g) (needs ∙ sym p ∙ not-true ok n)
 
   module _ {ok : Bool} (p : ok ≡ enough h (h.queued + 1) 0 (length output)) (n : not ok ≡ false) where
     room : enough h (h.queued + 1) 0 (length output) ≡ true
@@ -214,9 +211,8 @@ module _ (m output : List ℕ) (h : Header) (known : Known m h) (bytes : Bytes m
         le-leb 0 h.settings.q (omega arith),
       )
 
-  pub struck-without-room : {ok : Bool} → ok ≡ enough h 0 sent (length output) → not ok ≡ true → {a : Answer} → (a.number ≡ 5) × (a.written ≡ 0)
-      → record { answer = a; memory = m; output = output } ≡ leaving (settled (length output) held (struck_out k x held)) m output
-  struck-without-room {ok} p n q = no_room m output held (struck_out k x held) (needs-struck ∙ sym p ∙ not-true ok n) q
+  pub struck-without-room : {ok : Bool} → ok ≡ enough h 0 sent (length output) → not ok ≡ true → left (answer_of (Err NoRoom)) m output ≡ leaving (settled (length output) held (struck_out k x held)) m output
+  struck-without-room {ok} p n = no_room m output held (struck_out k x held) (needs-struck ∙ sym p ∙ not-true ok n)
 
   module _ {ok : Bool} (p : ok ≡ enough h 0 sent (length output)) (n : not ok ≡ false) where
     all_room : enough h 0 sent (length output) ≡ true

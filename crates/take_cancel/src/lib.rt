@@ -15,21 +15,26 @@ use buffer::{Number, move_within};
 use decoding::read_entry;
 use effects::insert::{insert_place, unprocessed};
 use effects::send::{outstanding_at, put_frames};
-use gateway::{Answer, refused};
 use header::write_header;
 use memory::{HEADER_SIZE, Header, Mark, QUEUE_SIZE, QUEUED_AT};
 use model::Message;
 use places::search::{last_equal, place_for};
+use refusal::Refusal;
 use rollback::room::{acknowledgment, count_sent, has_room};
 use rollback::undo::{undo, undo_entry};
 use writer::outgoing::put_frame;
 
-pub fn take_cancel(memory: &mut [u8], output: &mut [u8], header: Header, message: Message) -> Answer
+pub fn take_cancel(
+    memory: &mut [u8],
+    output: &mut [u8],
+    header: Header,
+    message: Message,
+) -> Result<usize, Refusal>
     requires { Known memory.old header × MessageFits message × (kind_number message.kind ≤ 2) }
     ensures { Leaves result memory output (λ room g. unless_below message.hour g (settled room g (take_cancel message g))) }
 {
     if message.hour < header.agreed {
-        return refused(9);
+        return Err(Refusal::BelowAgreedTime);
     }
     match last_equal(memory, header.queued as usize, message) {
         Some(k) => strike_out(memory, output, header, k, message),
@@ -38,19 +43,24 @@ pub fn take_cancel(memory: &mut [u8], output: &mut [u8], header: Header, message
 }
 
 // The cancel waits in a queue place, after its equals. Of the header the count alone is written: nothing else of it changes.
-fn enter_cancel(memory: &mut [u8], output: &mut [u8], header: Header, message: Message) -> Answer
+fn enter_cancel(
+    memory: &mut [u8],
+    output: &mut [u8],
+    header: Header,
+    message: Message,
+) -> Result<usize, Refusal>
     requires { Known memory.old header × MessageFits message × (kind_number message.kind ≤ 2) }
     ensures { Leaves result memory output (settling (waits message)) }
 {
     let queued = header.queued as usize;
     let k = place_for(memory, queued, message);
     if !has_room(header, queued + 1, 0, output.len()) {
-        return refused(5);
+        return Err(Refusal::NoRoom);
     }
     let written = put_frame(output, 0, acknowledgment(true, message));
     insert_place(memory, queued, k, unprocessed(message, Mark::Waiting));
     (header.queued + 1).write(memory, QUEUED_AT);
-    Answer { number: 0, written }
+    Ok(written)
 }
 
 // The equal plain message in queue place k goes. If it was processed, the processed ones behind it are undone, then it.
@@ -60,19 +70,19 @@ fn strike_out(
     header: Header,
     k: usize,
     message: Message,
-) -> Answer
+) -> Result<usize, Refusal>
     requires { Known memory.old header × (k < header.queued) × MessageFits message × (kind_number message.kind ≤ 2) }
     ensures { Leaves result memory output (settling (struck_out k message)) }
 {
     let sent = count_sent(memory, header, k);
     if !has_room(header, 0, sent, output.len()) {
-        return refused(5);
+        return Err(Refusal::NoRoom);
     }
     let next = take_out(memory, header, k);
     let reply = acknowledgment(true, message);
     let written = put_frames(memory, output, reply, outstanding_at(header), sent);
     write_header(memory, next);
-    Answer { number: 0, written }
+    Ok(written)
 }
 
 // Takes the entry out of queue place k, those behind it moved down, and undoes those and then it. The place that is freed keeps its bytes.

@@ -2,6 +2,8 @@
 use mathlib.Core.Path.{◌≡◌, sym, ◌∙◌}
 use mathlib.Core.Bool.{Bool, true, false, not, ◌&&◌}
 use mathlib.Core.List.{List, []}
+use Rattle.std.specs.Prelude.{Err}
+use Rattle.refusal.specs.declared.Refusal.TheVariants.{OutOfTurn}
 use Prim.Native.Nat.{ℕ, ◌+◌, min}
 use lib.Dec.{leb}
 use lib.ListN.{length}
@@ -14,13 +16,14 @@ use Rattle.memory.specs.declared.Round.{Round}
 use Rattle.memory.specs.declared.Phase.TheVariants.{Idle, Counting, Stopped}
 use Rattle.gateway.specs.Effects.{settled}
 use Rattle.gateway.specs.Rounds.{least_queued, frames_in_round, finished, is_idle, bit_of, all_bits, stands, one_lvt, take_lvt, value_in}
-use Rattle.gateway.specs.Calls.{CallResult, leaving}
+use Rattle.gateway.specs.Calls.{CallResult, left, leaving}
 use Rattle.gateway.specs.Inside.Premises.{Known, with_header, changed_to}
 use Rattle.routing.specs.AtMostTwo.{listed}
 use Rattle.places.specs.Inside.Searching.{entries_in}
 use Rattle.routing.specs.declared.at_most_two.AtMostTwo.{AtMostTwo}
-use Rattle.gateway.specs.declared.Answer.{Answer}
-use Rattle.phases.proofs.Changing.{gateway-is, out-of-turn}
+use Rattle.gateway.specs.Answers.{Answer, answer_of}
+use Rattle.phases.proofs.Changing.{gateway-is}
+use Rattle.gateway.proofs.Dispatching.{leaves-refused}
 use Rattle.gateway.proofs.Knowing.{agreed-is, queue-places, round_is, settings-are}
 
 module _ (m : List ℕ) (h : Header) (k : Known m h) where
@@ -48,28 +51,23 @@ module _ (m : List ℕ) (h : Header) (k : Known m h) where
   value-stopped e = rw (e, ← round_is m h k)
 
   module _ (output : List ℕ) (sender : ℕ) {idle : Bool} (i : idle ≡ is_idle h.round.phase) where
-    pub lvt-wrong-half : (hour : ℕ) {r : Answer} → idle ≡ true → (r.number ≡ 4) × (r.written ≡ 0) → record {
-      answer = r;
-      memory = m;
-      output = output;
-    } ≡ leaving (take_lvt (length output) sender hour (decode m)) m output
+    pub lvt-wrong-half : (hour : ℕ) → idle ≡ true → left (answer_of (Err OutOfTurn)) m output ≡ leaving (take_lvt (length output) sender hour (decode m)) m output
     unfolding take_lvt
-    lvt-wrong-half hour n four = out-of-turn m h k output four (decode m) ∙ rw (← round_is m h k, sym i ∙ n)
+    lvt-wrong-half hour n = leaves-refused m output (decode m) OutOfTurn ∙ rw (← round_is m h k, sym i ∙ n)
 
     module _ (among : AtMostTwo ℕ) {bit : ℕ} {there : Bool} (is : bit ≡ bit_of sender (listed among)) (test : there ≡ (leb 1 bit && not (stands bit
         h.round.arrived))) where
-      pub lvt-not-awaited : (hour : ℕ) {r : Answer} → idle ≡ false → listed among ≡ to h.settings.n h.settings.own → not there ≡
-          true → (r.number ≡ 4) × (r.written ≡ 0)
-          → record { answer = r; memory = m; output = output } ≡ leaving (take_lvt (length output) sender hour (decode m)) m output
+      pub lvt-not-awaited : (hour : ℕ) → idle ≡ false → listed among ≡ to h.settings.n h.settings.own → not there ≡ true
+          → left (answer_of (Err OutOfTurn)) m output ≡ leaving (take_lvt (length output) sender hour (decode m)) m output
       unfolding take_lvt
-      lvt-not-awaited hour n l t four =
-          out-of-turn m h k output four (decode m) ∙ rw (← round_is m h k, ← settings-are m h k, ← l, ← is, sym i ∙ n, sym test ∙ not-true there t)
+      lvt-not-awaited hour n l t =
+          leaves-refused m output (decode m) OutOfTurn ∙ rw (← round_is m h k, ← settings-are m h k, ← l, ← is, sym i ∙ n, sym test ∙ not-true there t)
 
-      pub lvt-awaited : (hour : ℕ) {all before value : ℕ} {left : CallResult Answer} → idle ≡ false → listed among ≡ to h.settings.n
+      pub lvt-awaited : (hour : ℕ) {all before value : ℕ} {l : CallResult Answer} → idle ≡ false → listed among ≡ to h.settings.n
           h.settings.own → not there ≡ false → all ≡ all_bits (listed among)
           → before ≡ value_in h.round.phase (decode m) → value ≡ min before hour
-          → left ≡ leaving (settled (length output) (decode m) (one_lvt all (h.round.arrived + bit) value (decode m))) m output → left ≡
+          → l ≡ leaving (settled (length output) (decode m) (one_lvt all (h.round.arrived + bit) value (decode m))) m output → l ≡
           leaving (take_lvt (length output) sender hour (decode m)) m output
       unfolding take_lvt one_lvt
-      lvt-awaited hour n l t a b v p =
-          p ∙ rw (v, b, a, ← round_is m h k, ← settings-are m h k, ← l, ← is, sym i ∙ n, sym test ∙ not-false there t)
+      lvt-awaited hour n s t a b v p =
+          p ∙ rw (v, b, a, ← round_is m h k, ← settings-are m h k, ← s, ← is, sym i ∙ n, sym test ∙ not-false there t)

@@ -10,11 +10,11 @@ ghost use Rattle.gateway.specs.Inside.Premises.{Known, Leaves};
 
 use announce::announce;
 use announce::receivers::{all_bits, bit_of, told};
-use gateway::{Answer, refused};
 use memory::{Header, Phase};
 use model::{Kind, Message};
 use phases::{awaited, changed, is_idle, stopped};
 use places::least::least_queued;
+use refusal::Refusal;
 use round::steps::finish;
 use routing::at_most_two::AtMostTwo;
 
@@ -24,18 +24,24 @@ pub fn take_timely_lvt(
     output: &mut [u8],
     header: Header,
     message: Message,
-) -> Answer
+) -> Result<usize, Refusal>
     requires { Known memory.old header }
     ensures { Leaves result memory output (λ room g. unless_below message.hour g (take_lvt room message.from message.hour g)) }
 {
     if message.hour < header.agreed {
-        return refused(9);
+        return Err(Refusal::BelowAgreedTime);
     }
     take_lvt(memory, output, header, message.from, message.hour)
 }
 
 // Taking an Lvt from gateway k: it lowers the value, which the first one fixes.
-fn take_lvt(memory: &mut [u8], output: &mut [u8], header: Header, k: u8, hour: u32) -> Answer
+fn take_lvt(
+    memory: &mut [u8],
+    output: &mut [u8],
+    header: Header,
+    k: u8,
+    hour: u32,
+) -> Result<usize, Refusal>
     requires { Known memory.old header }
     ensures { Leaves result memory output (λ room g. take_lvt room k hour g) }
 {
@@ -43,12 +49,12 @@ fn take_lvt(memory: &mut [u8], output: &mut [u8], header: Header, k: u8, hour: u
     let round = header.round;
     let phase = round.phase;
     if is_idle(phase) {
-        return refused(4);
+        return Err(Refusal::OutOfTurn);
     }
     let among = told(settings.n, settings.own);
     let bit = bit_of(k, among);
     if !awaited(bit, round.arrived) {
-        return refused(4);
+        return Err(Refusal::OutOfTurn);
     }
     let value = value_in(memory, header).min(hour);
     lvt_in(
@@ -69,7 +75,7 @@ fn lvt_in(
     all: u8,
     arrived: u8,
     value: u32,
-) -> Answer
+) -> Result<usize, Refusal>
     requires { Known memory.old header }
     ensures { Leaves result memory output (settling (one_lvt all arrived value)) }
 {

@@ -2,6 +2,8 @@
 use mathlib.Core.Path.{◌≡◌, refl, sym, ◌∙◌}
 use mathlib.Core.Bool.{Bool, true, false, not, ◌&&◌}
 use mathlib.Core.List.{List, [], ◌∷◌, ◌++◌, map, append-nil}
+use Rattle.std.specs.Prelude.{Err}
+use Rattle.refusal.specs.declared.Refusal.TheVariants.{NoRoom}
 use Prim.Native.Nat.{ℕ, ◌+◌, ◌-◌, ◌*◌, ◌≤◌, ◌<◌}
 use native.Mathlib.Omega.{arith}
 use lib.Dec.{leb, lit<}
@@ -26,10 +28,10 @@ use Rattle.memory.specs.declared.Header.{Header}
 use Rattle.gateway.specs.Effects.{Effect, bytes_of_frames, fits, settled, with_queue, frames_for}
 use Rattle.gateway.specs.Undoing.{processed_of, pending_entry, undone, sent_back, rolled_back}
 use Rattle.gateway.specs.Taking.{acknowledgment, is_cancel_of, take_plain, entered, is_later}
-use Rattle.gateway.specs.Calls.{CallResult, leaving}
+use Rattle.gateway.specs.Calls.{CallResult, left, leaving}
 use Rattle.gateway.specs.Inside.Premises.{Known}
 use Rattle.places.specs.Inside.Searching.{entries_in}
-use Rattle.gateway.specs.declared.Answer.{Answer}
+use Rattle.gateway.specs.Answers.{Answer, answer_of}
 use Rattle.lists.proofs.BoolLaws.{and_left, and_right}
 use Rattle.places.proofs.Changing.{length_without}
 use Rattle.effects.specs.Inside.Placed.{Placed}
@@ -109,13 +111,8 @@ module _ (m output : List ℕ) (h : Header) (known : Known m h) (k : ℕ) (below
             h.outstanding h.settings.u z.outstanding,
       )
 
-  pub met-without-room : length output < 28 → {a : Answer} → (a.number ≡ 5) × (a.written ≡ 0) → record {
-    answer = a;
-    memory = m;
-    output
-        = output;
-  } ≡ leaving (settled (length output) (decode m) met) m output
-  met-without-room l p = no_room m output (decode m) met (needs-met ∙ lt-leb 28 (length output) l) p
+  pub met-without-room : length output < 28 → left (answer_of (Err NoRoom)) m output ≡ leaving (settled (length output) (decode m) met) m output
+  met-without-room l = no_room m output (decode m) met (needs-met ∙ lt-leb 28 (length output) l)
 
   pub met-done : 28 ≤ length output → {reply : Frame} → reply ≡ acknowledgment false x → {out after : List ℕ} {next : ℕ}
       → Puts 0 (written reply) output out next → after ≡ encode met.gateway m
@@ -186,13 +183,8 @@ module _ (m output : List ℕ) (h : Header) (known : Known m h) (bytes : Bytes m
       (rw length-append (omega (arith, reply-size false x fits-x.lamp few, cancels)))
       ∙ rw (rolled-settings (processed_of (drop k g.queue)) g, ← settings-are m h known))
 
-  pub entered-without-room : {ok : Bool} → ok ≡ enough h (h.queued + 1) sent (length output) → not ok ≡ true → {a : Answer} → (a.number ≡ 5) × (a.written ≡ 0) → record {
-    answer
-        = a;
-    memory = m;
-    output = output;
-  } ≡ leaving (settled (length output) g (entered x g)) m output
-  entered-without-room {ok} p n q = no_room m output g (entered x g) (needs ∙ sym p ∙ not-true ok n) q
+  pub entered-without-room : {ok : Bool} → ok ≡ enough h (h.queued + 1) sent (length output) → not ok ≡ true → left (answer_of (Err NoRoom)) m output ≡ leaving (settled (length output) g (entered x g)) m output
+  entered-without-room {ok} p n = no_room m output g (entered x g) (needs ∙ sym p ∙ not-true ok n)
 
   module _ {ok : Bool} (p : ok ≡ enough h (h.queued + 1) sent (length output)) (n : not ok ≡ false) where
     room : enough h (h.queued + 1) sent (length output) ≡ true

@@ -13,21 +13,26 @@ ghost use Rattle.gateway.specs.Inside.Premises.{Known, Leaves};
 use effects::insert::unprocessed;
 use effects::send::{outstanding_at, put_frames};
 use frame::lamps::SENSE_LENGTH;
-use gateway::{Answer, refused};
 use memory::{Header, Mark};
 use model::Message;
 use places::changes::remove_entry;
 use places::search::{cancel_of, place_for};
+use refusal::Refusal;
 use rollback::room::{acknowledgment, count_sent, enter, has_room};
 use rollback::undo::undo;
 use writer::outgoing::put_frame;
 
-pub fn take_plain(memory: &mut [u8], output: &mut [u8], header: Header, message: Message) -> Answer
+pub fn take_plain(
+    memory: &mut [u8],
+    output: &mut [u8],
+    header: Header,
+    message: Message,
+) -> Result<usize, Refusal>
     requires { Known memory.old header × MessageFits message × (kind_number message.kind ≤ 2) }
     ensures { Leaves result memory output (λ room g. unless_below message.hour g (settled room g (take_plain message g))) }
 {
     if message.hour < header.agreed {
-        return refused(9);
+        return Err(Refusal::BelowAgreedTime);
     }
     match cancel_of(memory, header.queued as usize, message) {
         Some(k) => meet_cancel(memory, output, header, k, message),
@@ -42,20 +47,25 @@ fn meet_cancel(
     header: Header,
     k: usize,
     message: Message,
-) -> Answer
+) -> Result<usize, Refusal>
     requires { Known memory.old header × (k < header.queued) × (length message.lamp ≡ 18) × (kind_number message.kind ≤ 2) }
     ensures { Leaves result memory output (settling (λ g. vanished message (without k g.queue) g)) }
 {
     if output.len() < SENSE_LENGTH {
-        return refused(5);
+        return Err(Refusal::NoRoom);
     }
     let written = put_frame(output, 0, acknowledgment(false, message));
     remove_entry(memory, header, k);
-    Answer { number: 0, written }
+    Ok(written)
 }
 
 // The message enters the queue, and the processed messages behind it are undone.
-fn enter_plain(memory: &mut [u8], output: &mut [u8], header: Header, message: Message) -> Answer
+fn enter_plain(
+    memory: &mut [u8],
+    output: &mut [u8],
+    header: Header,
+    message: Message,
+) -> Result<usize, Refusal>
     requires { Known memory.old header × MessageFits message × (kind_number message.kind ≤ 2) }
     ensures { Leaves result memory output (settling (entered message)) }
 {
@@ -63,14 +73,11 @@ fn enter_plain(memory: &mut [u8], output: &mut [u8], header: Header, message: Me
     let k = place_for(memory, queued, message);
     let sent = count_sent(memory, header, k);
     if !has_room(header, queued + 1, sent, output.len()) {
-        return refused(5);
+        return Err(Refusal::NoRoom);
     }
     let next = undo(memory, header, k);
     let reply = acknowledgment(false, message);
     let end = put_frames(memory, output, reply, outstanding_at(header), sent);
     enter(memory, next, k, unprocessed(message, Mark::Pending));
-    Answer {
-        number: 0,
-        written: end,
-    }
+    Ok(end)
 }

@@ -2,6 +2,8 @@
 use mathlib.Core.Path.{◌≡◌, sym, ◌∙◌}
 use mathlib.Core.Bool.{Bool, true, false, not, ◌&&◌}
 use mathlib.Core.List.{List, []}
+use Rattle.std.specs.Prelude.{Err}
+use Rattle.refusal.specs.declared.Refusal.TheVariants.{OutOfTurn}
 use Prim.Native.Nat.{ℕ, ◌+◌}
 use lib.Dec.{leb}
 use lib.ListN.{length}
@@ -14,12 +16,13 @@ use Rattle.memory.specs.declared.Round.{Round}
 use Rattle.memory.specs.declared.Phase.TheVariants.{Idle}
 use Rattle.gateway.specs.Effects.{settled}
 use Rattle.gateway.specs.Rounds.{frames_in_round, begun, is_idle, bit_of, all_bits, stands, one_start, take_start}
-use Rattle.gateway.specs.Calls.{CallResult, leaving}
+use Rattle.gateway.specs.Calls.{CallResult, left, leaving}
 use Rattle.gateway.specs.Inside.Premises.{Known, with_header, changed_to}
 use Rattle.routing.specs.AtMostTwo.{listed}
 use Rattle.routing.specs.declared.at_most_two.AtMostTwo.{AtMostTwo}
-use Rattle.gateway.specs.declared.Answer.{Answer}
-use Rattle.phases.proofs.Changing.{gateway-is, out-of-turn}
+use Rattle.gateway.specs.Answers.{Answer, answer_of}
+use Rattle.phases.proofs.Changing.{gateway-is}
+use Rattle.gateway.proofs.Dispatching.{leaves-refused}
 use Rattle.gateway.proofs.Knowing.{agreed-is, round_is, settings-are}
 
 module _ (m : List ℕ) (h : Header) (k : Known m h) where
@@ -44,23 +47,17 @@ module _ (m : List ℕ) (h : Header) (k : Known m h) where
     )
 
   module _ (output : List ℕ) (sender : ℕ) {idle : Bool} (i : idle ≡ is_idle h.round.phase) where
-    pub start-wrong-half : {r : Answer} → not idle ≡ true → (r.number ≡ 4) × (r.written ≡ 0) → record {
-      answer = r;
-      memory = m;
-      output =
-          output;
-    } ≡ leaving (take_start (length output) sender (decode m)) m output
+    pub start-wrong-half : not idle ≡ true → left (answer_of (Err OutOfTurn)) m output ≡ leaving (take_start (length output) sender (decode m)) m output
     unfolding take_start
-    start-wrong-half n four = out-of-turn m h k output four (decode m) ∙ rw (← round_is m h k, sym i ∙ not-true idle n)
+    start-wrong-half n = leaves-refused m output (decode m) OutOfTurn ∙ rw (← round_is m h k, sym i ∙ not-true idle n)
 
     module _ (among : AtMostTwo ℕ) {bit : ℕ} {there : Bool} (is : bit ≡ bit_of sender (listed among)) (test : there ≡ (leb 1 bit && not (stands bit
         h.round.arrived))) where
-      pub start-not-awaited : {r : Answer} → not idle ≡ false → listed among ≡ from h.settings.n h.settings.own → not there ≡ true →
-          (r.number ≡ 4) × (r.written ≡ 0)
-          → record { answer = r; memory = m; output = output } ≡ leaving (take_start (length output) sender (decode m)) m output
+      pub start-not-awaited : not idle ≡ false → listed among ≡ from h.settings.n h.settings.own → not there ≡ true
+          → left (answer_of (Err OutOfTurn)) m output ≡ leaving (take_start (length output) sender (decode m)) m output
       unfolding take_start
-      start-not-awaited n l t four =
-          out-of-turn m h k output four (decode m) ∙ rw (
+      start-not-awaited n l t =
+          leaves-refused m output (decode m) OutOfTurn ∙ rw (
             ← round_is m h k,
             ← settings-are m h k,
             ← l,
@@ -70,10 +67,10 @@ module _ (m : List ℕ) (h : Header) (k : Known m h) where
                 test ∙ not-true there t,
           )
 
-      pub start-awaited : {all : ℕ} {left : CallResult Answer} → not idle ≡ false → listed among ≡ from h.settings.n h.settings.own
+      pub start-awaited : {all : ℕ} {l : CallResult Answer} → not idle ≡ false → listed among ≡ from h.settings.n h.settings.own
           → not there ≡ false → all ≡ all_bits (listed among)
-          → left ≡ leaving (settled (length output) (decode m) (one_start all (h.round.arrived + bit) (decode m))) m output → left ≡
+          → l ≡ leaving (settled (length output) (decode m) (one_start all (h.round.arrived + bit) (decode m))) m output → l ≡
           leaving (take_start (length output) sender (decode m)) m output
       unfolding take_start one_start
-      start-awaited n l t a p =
-          p ∙ rw (a, ← round_is m h k, ← settings-are m h k, ← l, ← is, sym i ∙ not-false idle n, sym test ∙ not-false there t)
+      start-awaited n s t a p =
+          p ∙ rw (a, ← round_is m h k, ← settings-are m h k, ← s, ← is, sym i ∙ not-false idle n, sym test ∙ not-false there t)

@@ -7,15 +7,20 @@ ghost use Rattle.gateway.specs.Inside.Premises.{Known, Leaves};
 
 use announce::announce;
 use announce::receivers::{all_bits, bit_of, heard};
-use gateway::{Answer, refused};
 use memory::Header;
 use model::Kind;
 use phases::{awaited, changed, is_idle, waiting};
+use refusal::Refusal;
 use round::steps::begin;
 use routing::at_most_two::AtMostTwo;
 
 // Taking a Start from gateway k.
-pub fn take_start(memory: &mut [u8], output: &mut [u8], header: Header, k: u8) -> Answer
+pub fn take_start(
+    memory: &mut [u8],
+    output: &mut [u8],
+    header: Header,
+    k: u8,
+) -> Result<usize, Refusal>
     requires { Known memory.old header }
     ensures { Leaves result memory output (λ room g. take_start room k g) }
 {
@@ -23,18 +28,24 @@ pub fn take_start(memory: &mut [u8], output: &mut [u8], header: Header, k: u8) -
     let round = header.round;
     let phase = round.phase;
     if !is_idle(phase) {
-        return refused(4);
+        return Err(Refusal::OutOfTurn);
     }
     let among = heard(settings.n, settings.own);
     let bit = bit_of(k, among);
     if !awaited(bit, round.arrived) {
-        return refused(4);
+        return Err(Refusal::OutOfTurn);
     }
     start_in(memory, output, header, all_bits(among), round.arrived + bit)
 }
 
 // One more Start is in; with all in the round begins here.
-fn start_in(memory: &mut [u8], output: &mut [u8], header: Header, all: u8, arrived: u8) -> Answer
+fn start_in(
+    memory: &mut [u8],
+    output: &mut [u8],
+    header: Header,
+    all: u8,
+    arrived: u8,
+) -> Result<usize, Refusal>
     requires { Known memory.old header }
     ensures { Leaves result memory output (settling (one_start all arrived)) }
 {

@@ -1,6 +1,8 @@
 -- A law for each branch of taking an Update.
 use mathlib.Core.Path.{◌≡◌, ◌∙◌}
 use mathlib.Core.List.{List}
+use Rattle.std.specs.Prelude.{Err}
+use Rattle.refusal.specs.declared.Refusal.TheVariants.{OutOfTurn}
 use Prim.Native.Nat.{ℕ, ◌-◌, ◌/◌, max}
 use native.Mathlib.Omega.{arith}
 use lib.ListN.{length}
@@ -11,26 +13,27 @@ use Rattle.memory.specs.Codec.{decode}
 use Rattle.memory.specs.declared.Header.{Header}
 use Rattle.gateway.specs.Effects.{settled}
 use Rattle.gateway.specs.Rounds.{frames_in_round, take_update}
-use Rattle.gateway.specs.Calls.{CallResult, leaving}
+use Rattle.gateway.specs.Calls.{CallResult, left, leaving}
 use Rattle.gateway.specs.Inside.Premises.{Known, with_header, changed_to}
 use Rattle.routing.specs.AtMostTwo.{listed}
 use Rattle.routing.specs.declared.at_most_two.AtMostTwo.{AtMostTwo}
-use Rattle.gateway.specs.declared.Answer.{Answer}
-use Rattle.phases.proofs.Changing.{gateway-is, out-of-turn}
+use Rattle.gateway.specs.Answers.{Answer, answer_of}
+use Rattle.phases.proofs.Changing.{gateway-is}
+use Rattle.gateway.proofs.Dispatching.{leaves-refused}
 use Rattle.gateway.proofs.Knowing.{agreed-is, round_is, settings-are}
 
 module _ (m : List ℕ) (h : Header) (k : Known m h) where
   -- a refusal with 4
-  module _ (output : List ℕ) {r : Answer} (four : (r.number ≡ 4) × (r.written ≡ 0)) where
-    pub update-at-root : (from' hour : ℕ) → h.settings.own ≡ 0 → record { answer = r; memory = m; output = output } ≡ leaving (take_update
+  module _ (output : List ℕ) where
+    pub update-at-root : (from' hour : ℕ) → h.settings.own ≡ 0 → left (answer_of (Err OutOfTurn)) m output ≡ leaving (take_update
         (length output) from' hour (decode m)) m output
     unfolding take_update
-    update-at-root from' hour o = out-of-turn m h k output four (decode m) ∙ rw (← settings-are m h k, lt-leb 1 h.settings.own (omega arith))
+    update-at-root from' hour o = leaves-refused m output (decode m) OutOfTurn ∙ rw (← settings-are m h k, lt-leb 1 h.settings.own (omega arith))
 
     pub update-elsewhere : (from' hour : ℕ) → (h.settings.own ≡ 0 → ⊥) → (from' ≡ (h.settings.own - 1) / 2 → ⊥)
-        → record { answer = r; memory = m; output = output } ≡ leaving (take_update (length output) from' hour (decode m)) m output
+        → left (answer_of (Err OutOfTurn)) m output ≡ leaving (take_update (length output) from' hour (decode m)) m output
     unfolding take_update
-    update-elsewhere from' hour o n = out-of-turn m h k output four (decode m) ∙ rw (
+    update-elsewhere from' hour o n = leaves-refused m output (decode m) OutOfTurn ∙ rw (
       ← settings-are m h k,
       le-leb 1 h.settings.own (omega arith),
       ne_eqb

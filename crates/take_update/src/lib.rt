@@ -7,23 +7,29 @@ ghost use Rattle.gateway.specs.Inside.Premises.{Known, Leaves};
 
 use announce::announce;
 use announce::receivers::children;
-use gateway::{Answer, refused};
 use memory::Header;
 use model::Kind;
 use phases::changed;
+use refusal::Refusal;
 
 // Taking an Update from gateway k: the larger time is kept.
-pub fn take_update(memory: &mut [u8], output: &mut [u8], header: Header, k: u8, hour: u32) -> Answer
+pub fn take_update(
+    memory: &mut [u8],
+    output: &mut [u8],
+    header: Header,
+    k: u8,
+    hour: u32,
+) -> Result<usize, Refusal>
     requires { Known memory.old header }
     ensures { Leaves result memory output (λ room g. take_update room k hour g) }
 {
     let settings = header.settings;
     let round = header.round;
     if settings.own == 0 {
-        return refused(4);
+        return Err(Refusal::OutOfTurn);
     }
     if k != (settings.own - 1) / 2 {
-        return refused(4);
+        return Err(Refusal::OutOfTurn);
     }
     let next = changed(header, larger(header.agreed, hour), round);
     announce(

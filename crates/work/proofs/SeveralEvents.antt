@@ -1,7 +1,9 @@
 -- Laws of several events of work: before the first, one more, and when work ends; and of work on memory that is not sound.
 use mathlib.Core.Path.{◌≡◌, refl, sym, ◌∙◌, ap, subst}
-use mathlib.Core.Bool.{true, not}
+use mathlib.Core.Bool.{true, false, true≢false, false≢true}
 use mathlib.Core.List.{List, map}
+use Rattle.std.specs.Prelude.{Option, Some, None, is_some, Err}
+use borrow.Author.Tests.{eqb-false}
 use Prim.Native.Nat.{ℕ, ◌+◌, ◌-◌, ◌*◌, ◌≤◌, ◌<◌}
 use native.Mathlib.Nat.{zero-add}
 use native.Mathlib.Omega.{arith}
@@ -15,14 +17,17 @@ use Rattle.memory.specs.Inside.Pieces.{header_written}
 use Rattle.memory.specs.Inside.Checking.{checked_as}
 use Rattle.memory.specs.Validity.{still_brings}
 use Rattle.memory.specs.declared.Header.{Header}
-use Rattle.memory.specs.declared.Checked.{Checked}
+use Rattle.refusal.specs.Numbers.{refusal_number, number_if}
+use Rattle.refusal.specs.declared.Refusal.{Refusal}
 use Rattle.memory.proofs.Validated.{valid-facts}
 use Rattle.memory.proofs.SoundMemory.{sound-facts, reading-laws}
 use Rattle.gateway.specs.Effects.{bytes_of_frames}
 use Rattle.gateway.specs.Working.{Progress, worked}
-use Rattle.gateway.specs.Calls.{worked_off}
+use Rattle.gateway.specs.Calls.{left, worked_off}
 use Rattle.gateway.specs.Inside.Premises.{Known}
-use Rattle.gateway.proofs.Calling.{unsound}
+use Rattle.gateway.proofs.Calling.{unsound, not_sound}
+use Rattle.gateway.proofs.Dispatching.{refusal-numbered}
+use Rattle.gateway.specs.Answers.{worked_as}
 use Rattle.gateway.specs.declared.Worked.{Worked}
 use Rattle.effects.specs.Inside.Placed.{Placed}
 use Rattle.effects.specs.Inside.Sending.{frame_of, stored_frames}
@@ -36,7 +41,7 @@ use Rattle.work.specs.Inside.Finishing.{bytes_between, MayFinish, Finishes}
 -- the memory after work from `before` on that came to w, for an output of so many bytes
 pub record Came (w : Progress) (before : List ℕ) (room : ℕ) (memory : List ℕ) (t : Turn) : Type 0 where
   pub reached : Reached before memory t w.gateway
-  pub why : t.why ≡ w.why
+  pub why : number_if t.why ≡ w.why
   pub written : t.written ≡ length w.output
   pub inside : length w.output ≤ room
 
@@ -44,7 +49,7 @@ pub record Came (w : Progress) (before : List ℕ) (room : ℕ) (memory : List �
 pub record Going (before output₀ : List ℕ) (h : Header) (room : ℕ) (memory output : List ℕ) (t : Turn) (budget count : ℕ) : Type 0 where
   pub found : Placed before before h (decode before)
   pub came : Came (worked count room (decode before)) before room memory t
-  pub on : t.why ≡ 0
+  pub on : t.why ≡ None
   pub within : count ≤ budget
   pub same : output ≡ output₀
   pub lent : room ≡ length output₀
@@ -55,7 +60,7 @@ pub at_first : {m : List ℕ} (output : List ℕ) {h : Header} → Known m h →
   written
       = 0;
   place = 0;
-  why = 0;
+  why = None;
 }) budget 0
 unfolding worked
 at_first {m} output {h} k bytes budget =
@@ -150,8 +155,17 @@ module _ {memory output : List ℕ} {first : Header} {place : ℕ} (at : place �
   pub finishes : {t : Turn} {memory' output' : List ℕ} {count behind : ℕ}
       → Puts 0 (bytes_of_frames (stored_frames memory place (t.header.outstanding - first.outstanding))) output output' behind
       → memory' ≡ header_written t.header memory
-      → Finishes memory output memory' output' first t count (record { count = count; why = t.why; written = behind })
+      → Finishes memory output memory' output' first t count (record { count = count; stopped = t.why; written = behind })
   finishes p e = record { answer = rw (p.position, at, zero-add); stored = e; put = rw at at p.output }
+
+-- work stops with the number of its refusal, and goes on where there is none
+not-zero : (w : Option Refusal) → is_some w ≡ true → number_if w ≡ 0 → ⊥
+not-zero (Some why) e = eqb-false (refusal_number why) 0 (refusal-numbered why)
+not-zero None e = absurd (false≢true e)
+
+goes-on : (w : Option Refusal) → is_some w ≡ false → w ≡ None
+goes-on (Some why) e = absurd (true≢false e)
+goes-on None e = refl
 
 -- the next event stopped work, and was not counted
 stopped-count : (room : ℕ) (g : Gateway) → ((worked 1 room g).why ≡ 0 → ⊥) → (worked 1 room g).count ≡ 0
@@ -166,7 +180,7 @@ stopped-count room g n = by-case (first room g)
 finished : (budget : ℕ) {m output memory after output' : List ℕ} {h : Header} {t : Turn} {r : Worked} {count : ℕ} → Known m h
     → Placed m m h (decode m) → Came (worked budget (length output) (decode m)) m (length output) memory t
     → count ≡ (worked budget (length output) (decode m)).count → Finishes memory output after output' h t count r
-    → record { answer = r; memory = after; output = output' } ≡ worked_off budget m output
+    → left (worked_as r) after output' ≡ worked_off budget m output
 unfolding worked_off
 finished budget {m} {output} k found came counted f =
     let bytes = bytes-are came found (worked-sent budget (length output) (decode m)) in
@@ -182,7 +196,7 @@ module _ {before output₀ : List ℕ} {h : Header} {room : ℕ} {memory output 
 
   done_all : w.why ≡ 0
   unfolding w
-  done_all = sym going.came.why ∙ going.on
+  done_all = sym going.came.why ∙ ap number_if going.on
 
   lent : room ≡ length output
   lent = going.lent ∙ ap length (sym going.same)
@@ -196,17 +210,17 @@ module _ {before output₀ : List ℕ} {h : Header} {room : ℕ} {memory output 
     unfolding w
     came-next = came-further going.came turns _ further
 
-    pub one_more : r.why ≡ 0 → Going before output₀ h room memory' output r budget (count + 1)
-    one_more z = record { found = going.found; came = came-next; on = z; within = omega arith; same = going.same; lent = going.lent }
+    pub one_more : is_some r.why ≡ false → Going before output₀ h room memory' output r budget (count + 1)
+    one_more z = record { found = going.found; came = came-next; on = goes-on r.why z; within = omega arith; same = going.same; lent = going.lent }
 
     pub may-stop : MayFinish memory' output h r.header
     may-stop = may-finish came-next going.found (worked-sent (count + 1) room (decode before)) lent
 
-    pub stops-early : {after output' : List ℕ} {answer : Worked} → Known before h → (r.why ≡ 0 → ⊥) → Finishes memory' output after output' h r count answer
-        → record { answer = answer; memory = after; output = output' } ≡ worked_off budget before output₀
+    pub stops-early : {after output' : List ℕ} {answer : Worked} → Known before h → is_some r.why ≡ true → Finishes memory' output after output' h r count answer
+        → left (worked_as answer) after output' ≡ worked_off budget before output₀
     unfolding w
-    stops-early k n f =
-        let ended : (worked (count + 1) room (decode before)).why ≡ 0 → ⊥ = λ z. n (came-next.why ∙ z) in
+    stops-early k s f =
+        let ended : (worked (count + 1) room (decode before)).why ≡ 0 → ⊥ = λ z. not-zero r.why s (came-next.why ∙ z) in
         let whole : worked budget room (decode before) ≡ worked (count + 1) room (decode before) =
         let b : budget ≡ count + 1 + (budget - (count + 1)) = omega arith in
         ap (λ (n : ℕ). worked n room (decode before)) b ∙ worked-stopped (count + 1) (budget - (count + 1)) room (decode before) ended
@@ -227,7 +241,7 @@ module _ {before output₀ : List ℕ} {h : Header} {room : ℕ} {memory output 
     may-end = may-finish going.came going.found (worked-sent count room (decode before)) lent
 
     pub ends : {after output' : List ℕ} {answer : Worked} → Known before h → Finishes memory output after output' h t count answer
-        → record { answer = answer; memory = after; output = output' } ≡ worked_off budget before output₀
+        → left (worked_as answer) after output' ≡ worked_off budget before output₀
     unfolding w
     ends k f =
         let e : budget ≡ count = omega (arith, going.within) in
@@ -237,7 +251,7 @@ module _ {before output₀ : List ℕ} {h : Header} {room : ℕ} {memory output 
         (rw going.same at f)
 
 -- work on memory that is not sound
-pub work-unsound : (budget : ℕ) (m output : List ℕ) {r : Checked} → r ≡ checked_as m → not r.sound ≡ true
-    → record { answer = record { count = 0; why = 10; written = 0 }; memory = m; output = output } ≡ worked_off budget m output
+pub work-unsound : (budget : ℕ) (m output : List ℕ) {why : Refusal} → Err why ≡ checked_as m
+    → left (worked_as (record { count = 0; stopped = Some why; written = 0 })) m output ≡ worked_off budget m output
 unfolding worked_off
-work-unsound budget m output found n = rw (unsound m found n)
+work-unsound budget m output found = rw (unsound m found, not_sound m found)

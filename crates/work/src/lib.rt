@@ -3,6 +3,7 @@
 #![tactic(auto)]
 
 ghost use Rattle.std.specs.Prelude.{◌≡◌};
+ghost use Rattle.gateway.specs.Answers.{worked_as};
 ghost use Rattle.gateway.specs.Calls.{left, worked_off};
 ghost use Rattle.gateway.specs.Inside.Premises.{Known};
 ghost use Rattle.work.specs.Inside.Finishing.{MayFinish, Finishes};
@@ -16,35 +17,34 @@ use replies::Turn;
 use soundness::checked;
 
 pub fn work(memory: &mut [u8], output: &mut [u8], budget: u32) -> Worked
-    ensures { left result memory.new output.new ≡ worked_off budget memory.old output.old }
+    ensures { left (worked_as result) memory.new output.new ≡ worked_off budget memory.old output.old }
 {
-    let found = checked(memory);
-    if !found.sound {
-        return Worked {
+    match checked(memory) {
+        Ok(header) => work_off(memory, output, budget, header),
+        Err(why) => Worked {
             count: 0,
-            why: 10,
+            stopped: Some(why),
             written: 0,
-        };
+        },
     }
-    work_off(memory, output, budget, found.header)
 }
 
 // Works off the events on sound memory. Each search for the next message begins behind the last event done.
 fn work_off(memory: &mut [u8], output: &mut [u8], budget: u32, header: Header) -> Worked
     requires { Known memory.old header }
-    ensures { left result memory.new output.new ≡ worked_off budget memory.old output.old }
+    ensures { left (worked_as result) memory.new output.new ≡ worked_off budget memory.old output.old }
 {
     let room = output.len();
     let mut turn = Turn {
         header,
         written: 0,
         place: 0,
-        why: 0,
+        why: None,
     };
     let mut count = 0;
     while count < budget {
         turn = work_one(memory, room, turn);
-        if turn.why != 0 {
+        if turn.why.is_some() {
             return finish(memory, output, header, turn, count);
         }
         count += 1;
@@ -63,7 +63,7 @@ fn finish(memory: &mut [u8], output: &mut [u8], first: Header, turn: Turn, count
     write_header(memory, header);
     Worked {
         count,
-        why: turn.why,
+        stopped: turn.why,
         written,
     }
 }

@@ -9,8 +9,7 @@ use work::work;
 
 // Whether the agreed time is nothing due.
 pub fn nothing_due(gateway: &Gateway) -> bool {
-    let agreed = agreed_time(&gateway.memory);
-    agreed.hour == u32::MAX
+    agreed_time(&gateway.memory).is_ok_and(|hour| hour == u32::MAX)
 }
 
 // Gateway 0 works, then gateway 1.
@@ -33,6 +32,7 @@ pub fn start_if_due<const N: usize>(gateway: &mut Gateway, line: &mut ArrayVec<u
         return;
     }
     let mut output = [0u8; 4096];
-    let answer = start(&mut gateway.memory, &mut output);
-    append(line, &output, answer.written);
+    if let Ok(written) = start(&mut gateway.memory, &mut output) {
+        append(line, &output, written);
+    }
 }

@@ -14,7 +14,7 @@ overflow_mul-written c =
 pub returns-then-output-written : goal.returns-then-output-written
 returns-then-output-written c =
     announce-none _ _ c.requires.0 (bytes-known c.args.memory.now c.slice_known-1.given) _ _ _ _ c.len.ensures.0
-    c.length_in_round.ensures c.if-output-written.true c.refused.ensures
+    c.length_in_round.ensures c.if-output-written.true
 
 pub write_header-requires : goal.write_header-requires
 write_header-requires c =

@@ -1,16 +1,15 @@
 -- `commit::commit` meets its contract.
 use mathlib.Core.Path.{◌∙◌}
+use Rattle.std.proofs.lemmas.Result.{err_from_is_err_and}
 use Rattle.gateway.specs.Committing.{commit}
-use Rattle.gateway.proofs.Calling.{known, call-unsound, call-sound}
+use Rattle.gateway.proofs.Calling.{call-unsound, call-sound}
 use Rattle.commit.proofs.Recording.{commit-call}
 use Rattle.commit.proofs.commit.Goals as goal
 
-pub returns-then-not-found : goal.returns-then-not-found
-returns-then-not-found c = call-unsound _ c.checked-found.ensures commit _ c.if-not-found.true c.refused.ensures ∙ commit-call _ _
-
-pub commit_oldest-requires : goal.commit_oldest-requires
-commit_oldest-requires c = known _ c.checked-found.ensures c.if-not-found.false
+pub returns-in_err-header : goal.returns-in_err-header
+returns-in_err-header c =
+    let p = err_from_is_err_and c.from_residual.result c.from_residual.ensures.1 in
+    rw (p.1, p.2) (call-unsound _ commit _ c.in_err-header.ensures ∙ commit-call _ _)
 
 pub returns : goal.returns
-returns c =
-    call-sound _ c.checked-found.ensures commit _ c.if-not-found.false c.commit_oldest.ensures ∙ commit-call _ _
+returns c = call-sound _ commit _ c.in_ok-header.ensures c.commit_oldest.ensures ∙ commit-call _ _

@@ -11,7 +11,7 @@ next_marked-requires c = let z = sizes _ _ c.requires in (omega arith, omega ari
 
 pub returns-in_default : goal.returns-in_default
 returns-in_default c =
-    nothing-to-commit _ _ c.requires _ refl _ (place-none _ _ c.in_default.ensures) c.refused.ensures
+    nothing-to-commit _ _ c.requires _ refl _ (place-none _ _ c.in_default.ensures)
 
 pub overflow_mul-k : goal.overflow_mul-k
 overflow_mul-k c =
@@ -31,7 +31,7 @@ read_entry-entry-requires c =
 pub returns-then-header-message : goal.returns-then-header-message
 returns-then-header-message c =
     not_yet _ _ c.requires _ (place-found _ _ c.in-Some.ensures) (place-inside _ _ c.in-Some.ensures) _ c.read_entry-entry.ensures _
-    c.if-header-message.true c.refused-then-header-message.ensures
+    c.if-header-message.true
 
 pub commit_place-requires : goal.commit_place-requires
 commit_place-requires c = (

@@ -11,7 +11,7 @@ overflow_add-size c =
 pub returns-then-output-size : goal.returns-then-output-size
 returns-then-output-size c =
     no_record c.args.entry c.requires.2 c.args.memory.now c.args.output.now c.args.k
-    c.event_length-size.ensures c.if-output-size.true c.refused.ensures
+    c.event_length-size.ensures c.if-output-size.true
 
 pub put_record-requires : goal.put_record-requires
 put_record-requires c = (

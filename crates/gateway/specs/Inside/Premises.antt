@@ -1,8 +1,9 @@
 -- What the functions inside a call are told of the memory, and promise.
-use Rattle.std.specs.Prelude.{◌≡◌, true, List, ℕ}
+use Rattle.std.specs.Prelude.{◌≡◌, true, List, ℕ, Result}
 use Rattle.std.specs.Borrow.{MutBor}
 use denote.Triple.Both.{Both}
 use Rattle.model.specs.declared.Kind.{Kind}
+use Rattle.refusal.specs.declared.Refusal.{Refusal}
 use Rattle.memory.specs.Records.{Gateway}
 use Rattle.memory.specs.Codec.{header_at, decode}
 use Rattle.memory.specs.Soundness.{sound}
@@ -11,7 +12,7 @@ use Rattle.memory.specs.declared.Round.{Round}
 use Rattle.gateway.specs.Effects.{Effect, Outcome}
 use Rattle.gateway.specs.Rounds.{frames_in_round}
 use Rattle.gateway.specs.Calls.{left, leaving, on_held}
-use Rattle.gateway.specs.declared.Answer.{Answer}
+use Rattle.gateway.specs.Answers.{answer_of}
 
 -- the memory is sound, and this is its header
 pub record Known (m : List ℕ) (h : Header) : Type 0 where
@@ -37,13 +38,13 @@ with_header h g = record {
 }
 
 -- what a call leaves of the lent memory and output, with its answer, is what `call` comes to on the gateway that it found in the memory
-abbrev pub Leaves : Answer → Both (MutBor (List ℕ)) (MutBor (List ℕ)) → Both (MutBor (List ℕ)) (MutBor (List ℕ)) → (ℕ → Gateway → Outcome) → Type 0
-Leaves r memory output call = left r memory.exit.now output.exit.now ≡ on_held call memory.entry.now output.entry.now
+abbrev pub Leaves : Result ℕ Refusal → Both (MutBor (List ℕ)) (MutBor (List ℕ)) → Both (MutBor (List ℕ)) (MutBor (List ℕ)) → (ℕ → Gateway → Outcome) → Type 0
+Leaves r memory output call = left (answer_of r) memory.exit.now output.exit.now ≡ on_held call memory.entry.now output.entry.now
 
 -- the same of a call that has nothing to do with an output
-abbrev pub LeavesMemory : Answer → Both (MutBor (List ℕ)) (MutBor (List ℕ)) → (Gateway → Outcome) → Type 0
+abbrev pub LeavesMemory : Result ℕ Refusal → Both (MutBor (List ℕ)) (MutBor (List ℕ)) → (Gateway → Outcome) → Type 0
 LeavesMemory r memory call =
-    (output : List ℕ) → left r memory.exit.now output ≡ leaving (call (decode memory.entry.now)) memory.entry.now output
+    (output : List ℕ) → left (answer_of r) memory.exit.now output ≡ leaving (call (decode memory.entry.now)) memory.entry.now output
 
 -- a header with another agreed time and round
 abbrev pub changed_to : Header → ℕ → Round → Header

@@ -2,5 +2,8 @@
 use Rattle.hurfaith.proofs.Packing.{answer-alone}
 use Rattle.hurfaith.proofs.hurfaith_set_up.Goals as goal
 
-pub returns : goal.returns
-returns c = search answer-alone
+pub returns-in-Ok : goal.returns-in-Ok
+returns-in-Ok c = answer-alone c.in-Ok.ensures
+
+pub returns-in-Err : goal.returns-in-Err
+returns-in-Err c = rw c.number.ensures (answer-alone c.in-Err.ensures)

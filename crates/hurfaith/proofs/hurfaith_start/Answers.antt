@@ -3,8 +3,8 @@ use Rattle.buffer.proofs.Lent.{bytes-known}
 use Rattle.hurfaith.proofs.Packing.{answer-packed, started-fits}
 use Rattle.hurfaith.proofs.hurfaith_start.Goals as goal
 
-pub packed-requires : goal.packed-requires
-packed-requires c = search (started-fits, bytes-known)
+pub packed_result-requires : goal.packed_result-requires
+packed_result-requires c = search (started-fits, bytes-known)
 
 pub returns : goal.returns
 returns c = search answer-packed

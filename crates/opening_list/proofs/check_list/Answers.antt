@@ -22,14 +22,13 @@ slice_bounds-opening_refusal-end c = let b = end-between whole_length whole-some
 
 pub returns-in-Err : goal.returns-in-Err
 returns-in-Err c =
-    let some : c.number.result ≡ 0 → ⊥ = λ z. refusal-some c.in-Err.refusal (sym c.number.ensures ∙ z) in
-    pass-refused _ _ _ _ c.loop-at.invariant c.loop-at-test.true c.frame_end-end.ensures (c.number.ensures ∙ c.in-Err.ensures) some
+    pass-refused _ _ _ _ c.loop-at.invariant c.loop-at-test.true c.frame_end-end.ensures c.in-Err.ensures (refusal-some c.in-Err.refusal)
 
 pub loop-at-smaller : goal.loop-at-smaller
 loop-at-smaller c = let b = end-between whole_length whole-some _ _ c.loop-at-test.true c.frame_end-end.ensures in search rules
 
 pub loop-at-preserved : goal.loop-at-preserved
-loop-at-preserved c = pass-turn _ _ _ _ c.loop-at.invariant c.loop-at-test.true c.frame_end-end.ensures c.in-Ok.ensures refl
+loop-at-preserved c = pass-turn _ _ _ _ c.loop-at.invariant c.loop-at-test.true c.frame_end-end.ensures c.in_default.ensures refl
 
 pub returns : goal.returns
 returns c = search pass-end

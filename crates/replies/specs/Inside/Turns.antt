@@ -1,9 +1,11 @@
 -- One event of work and several, on the memory: what the functions inside work are told and promise.
-use Rattle.std.specs.Prelude.{◌≡◌, ℕ, ◌+◌, ◌-◌, ◌≤◌, Bool, true, false, ◌&&◌, List, Option, leb, length, drop}
+use Rattle.std.specs.Prelude.{◌≡◌, ℕ, ◌+◌, ◌-◌, ◌≤◌, Bool, true, false, ◌&&◌, List, Option, Some, leb, length, drop}
 use Rattle.lists.specs.Lists.{tally}
 use Rattle.lists.specs.Inside.Positions.{first_where}
 use Rattle.model.specs.Doing.{most_stock, sent_by}
 use Rattle.model.specs.declared.Message.{Message}
+use Rattle.refusal.specs.Numbers.{number_if}
+use Rattle.refusal.specs.declared.Refusal.{Refusal}
 use Rattle.memory.specs.Records.{Gateway}
 use Rattle.memory.specs.Layout.{queue_size, queue_at, size_for}
 use Rattle.memory.specs.Codec.{entry_of, places_at}
@@ -39,7 +41,7 @@ pub record Reached (before memory : List ℕ) (t : Turn) (g : Gateway) : Type 0 
 -- work came to w, and the bytes that it will put out are counted
 pub record Turned (w : Progress) (before memory' : List ℕ) (t r : Turn) : Type 0 where
   pub reached : Reached before memory' r w.gateway
-  pub why : r.why ≡ w.why
+  pub why : number_if r.why ≡ w.why
   pub written : r.written ≡ t.written + length w.output
 
 -- one event was worked off, from every gateway that the memory may hold
@@ -53,9 +55,9 @@ TurnsAt k memory room memory' t r =
     (before : List ℕ) (g : Gateway) → Reached before memory t g → k ≡ first_where is_pending g.queue
     → Turned (worked 1 (room - t.written) g) before memory' t r
 
--- a turn that stops work, with that number
-abbrev pub stopped_with : ℕ → Turn → Turn
-stopped_with why t = record { header = t.header; written = t.written; place = t.place; why = why }
+-- a turn that stops work, for that reason
+abbrev pub stopped_with : Refusal → Turn → Turn
+stopped_with why t = record { header = t.header; written = t.written; place = t.place; why = Some why }
 
 -- the bytes of output that what doing a message sends takes
 abbrev pub reply_bytes : Option Message → ℕ

@@ -11,7 +11,7 @@ find_sent-requires c = let z = sizes _ _ c.requires in omega arith
 
 pub returns-in-None : goal.returns-in-None
 returns-in-None c =
-    acknowledgment-of-none _ _ c.requires _ _ _ refl (place-none _ _ c.in-None.ensures) c.refused.ensures
+    acknowledgment-of-none _ _ c.requires _ _ _ refl (place-none _ _ c.in-None.ensures)
 
 pub remove_sent-requires : goal.remove_sent-requires
 remove_sent-requires c = (c.requires, place-inside _ _ c.in-Some.ensures)

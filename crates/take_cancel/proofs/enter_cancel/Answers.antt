@@ -17,7 +17,7 @@ pub returns-then-not-has_room : goal.returns-then-not-has_room
 returns-then-not-has_room c =
     let b : Bytes c.args.memory.now = search bytes-known in
     waits-without-room c.args.memory.now c.args.output.now _ c.requires.0 b _ c.requires.1 c.requires.2 _ c.place_for-k.ensures
-    c.has_room.ensures (ap not c.if-not-has_room.true) c.refused.ensures
+    c.has_room.ensures (ap not c.if-not-has_room.true)
 
 pub put_frame-written-requires : goal.put_frame-written-requires
 put_frame-written-requires c =

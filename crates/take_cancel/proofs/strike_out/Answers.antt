@@ -20,7 +20,7 @@ pub returns-then-not-has_room : goal.returns-then-not-has_room
 returns-then-not-has_room c =
     let b : Bytes c.args.memory.now = search bytes-known in
     struck-without-room c.args.memory.now c.args.output.now _ c.requires.0 b _ c.requires.2 c.requires.3 _ c.requires.1 _
-    c.count_sent-sent.ensures.0 c.has_room.ensures (ap not c.if-not-has_room.true) c.refused.ensures
+    c.count_sent-sent.ensures.0 c.has_room.ensures (ap not c.if-not-has_room.true)
 
 pub take_out-next-requires : goal.take_out-next-requires
 take_out-next-requires c =

@@ -8,7 +8,7 @@ use Rattle.gateway.proofs.Knowing.{sizes}
 use Rattle.take_cancel.proofs.take_cancel.Goals as goal
 
 pub returns-then-message-header : goal.returns-then-message-header
-returns-then-message-header c = below _ _ _ c.requires.0 _ _ c.if-message-header.true c.refused.ensures
+returns-then-message-header c = below _ _ _ c.requires.0 _ _ c.if-message-header.true
 
 pub last_equal-requires : goal.last_equal-requires
 last_equal-requires c = let z = sizes _ _ c.requires.0 in omega (arith, z.long, z.queued)

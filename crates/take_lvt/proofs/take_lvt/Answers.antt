@@ -12,7 +12,7 @@ use Rattle.take_lvt.proofs.take_lvt.Goals as goal
 
 pub returns-then-is_idle : goal.returns-then-is_idle
 returns-then-is_idle c =
-    lvt-wrong-half _ _ c.requires _ _ c.is_idle.ensures _ c.if-is_idle.true c.refused.ensures
+    lvt-wrong-half _ _ c.requires _ _ c.is_idle.ensures _ c.if-is_idle.true
 
 pub told-among-requires : goal.told-among-requires
 told-among-requires c = let z = sizes _ _ c.requires in omega arith
@@ -20,7 +20,7 @@ told-among-requires c = let z = sizes _ _ c.requires in omega arith
 pub returns-then-not-awaited : goal.returns-then-not-awaited
 returns-then-not-awaited c =
     lvt-not-awaited _ _ c.requires _ _ c.is_idle.ensures c.told-among.result c.bit_of-bit.ensures.0
-    c.awaited.ensures _ c.if-is_idle.false c.told-among.ensures (ap not c.if-not-awaited.true) c.refused-then-not-awaited.ensures
+    c.awaited.ensures _ c.if-is_idle.false c.told-among.ensures (ap not c.if-not-awaited.true)
 
 pub overflow_add-round : goal.overflow_add-round
 overflow_add-round c =

@@ -24,7 +24,7 @@ returns-then-not-has_room c =
     let b : Bytes c.args.memory.now = search bytes-known in
     entered-without-room c.args.memory.now c.args.output.now _ c.requires.0 b _ c.requires.1 c.requires.2 _ c.place_for-k.ensures _
     c.count_sent-sent.ensures.0
-    c.has_room.ensures (ap not c.if-not-has_room.true) c.refused.ensures
+    c.has_room.ensures (ap not c.if-not-has_room.true)
 
 pub undo-next-requires : goal.undo-next-requires
 undo-next-requires c =

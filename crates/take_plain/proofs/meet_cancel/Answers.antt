@@ -6,7 +6,7 @@ use Rattle.take_plain.proofs.meet_cancel.Goals as goal
 
 pub returns-then-output-lt-SENSE_LENGTH : goal.returns-then-output-lt-SENSE_LENGTH
 returns-then-output-lt-SENSE_LENGTH c =
-    met-without-room _ _ _ c.requires.0 _ c.requires.1 _ c.requires.2 c.requires.3 (omega arith) c.refused.ensures
+    met-without-room _ _ _ c.requires.0 _ c.requires.1 _ c.requires.2 c.requires.3 (omega arith)
 
 pub put_frame-written-requires : goal.put_frame-written-requires
 put_frame-written-requires c =

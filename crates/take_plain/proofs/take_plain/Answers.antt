@@ -8,7 +8,7 @@ use Rattle.gateway.proofs.Knowing.{sizes}
 use Rattle.take_plain.proofs.take_plain.Goals as goal
 
 pub returns-then-message-header : goal.returns-then-message-header
-returns-then-message-header c = below _ _ _ c.requires.0 _ _ c.if-message-header.true c.refused.ensures
+returns-then-message-header c = below _ _ _ c.requires.0 _ _ c.if-message-header.true
 
 pub cancel_of-requires : goal.cancel_of-requires
 cancel_of-requires c = let z = sizes _ _ c.requires.0 in omega (arith, z.long, z.queued)

@@ -12,7 +12,7 @@ use Rattle.take_start.proofs.take_start.Goals as goal
 
 pub returns-then-not-is_idle : goal.returns-then-not-is_idle
 returns-then-not-is_idle c =
-    start-wrong-half _ _ c.requires _ _ c.is_idle.ensures (ap not c.if-not-is_idle.true) c.refused.ensures
+    start-wrong-half _ _ c.requires _ _ c.is_idle.ensures (ap not c.if-not-is_idle.true)
 
 pub heard-among-requires : goal.heard-among-requires
 heard-among-requires c = let z = sizes _ _ c.requires in omega arith
@@ -20,7 +20,7 @@ heard-among-requires c = let z = sizes _ _ c.requires in omega arith
 pub returns-then-not-awaited : goal.returns-then-not-awaited
 returns-then-not-awaited c =
     start-not-awaited _ _ c.requires _ _ c.is_idle.ensures c.heard-among.result c.bit_of-bit.ensures.0
-    c.awaited.ensures (ap not c.if-not-is_idle.false) c.heard-among.ensures (ap not c.if-not-awaited.true) c.refused-then-not-awaited.ensures
+    c.awaited.ensures (ap not c.if-not-is_idle.false) c.heard-among.ensures (ap not c.if-not-awaited.true)
 
 pub overflow_add-round : goal.overflow_add-round
 overflow_add-round c =

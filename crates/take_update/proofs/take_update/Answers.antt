@@ -5,11 +5,11 @@ use Rattle.take_update.proofs.Updating.{update-at-root, update-elsewhere, update
 use Rattle.take_update.proofs.take_update.Goals as goal
 
 pub returns-then-settings-eq0 : goal.returns-then-settings-eq0
-returns-then-settings-eq0 c = update-at-root _ _ c.requires _ c.refused.ensures _ _ (omega arith)
+returns-then-settings-eq0 c = update-at-root _ _ c.requires _ _ _ (omega arith)
 
 pub returns-then-k-settings : goal.returns-then-k-settings
 returns-then-k-settings c =
-    update-elsewhere _ _ c.requires _ c.refused-then-k-settings.ensures _ _ (omega arith) c.if-k-settings.true
+    update-elsewhere _ _ c.requires _ _ _ (omega arith) c.if-k-settings.true
 
 pub announce-requires : goal.announce-requires
 announce-requires c =

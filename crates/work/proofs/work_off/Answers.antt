@@ -1,5 +1,5 @@
 -- `work::work_off` meets its contract.
-use mathlib.Core.Path.{refl}
+use mathlib.Core.Path.{refl, sym, ◌∙◌}
 use native.Mathlib.Omega.{arith}
 use Rattle.buffer.proofs.Lent.{bytes-known}
 use Rattle.work.proofs.SeveralEvents.{at_first, ready, one_more, may-stop, stops-early, may-end, ends}
@@ -19,15 +19,10 @@ pub finish-requires : goal.finish-requires
 finish-requires c =
     may-stop c.loop-count.invariant.2 c.loop-count-test.true c.work_one-turn.ensures
 
-pub shape_of-memory-then-turn-ne0 : goal.shape_of-memory-then-turn-ne0
-shape_of-memory-then-turn-ne0 c = omega arith
-
-pub shape_of-output-then-turn-ne0 : goal.shape_of-output-then-turn-ne0
-shape_of-output-then-turn-ne0 c = omega arith
-
-pub returns-then-turn-ne0 : goal.returns-then-turn-ne0
-returns-then-turn-ne0 c =
-    stops-early c.loop-count.invariant.2 c.loop-count-test.true c.work_one-turn.ensures c.requires c.if-turn-ne0.true
+pub returns-then-is_some : goal.returns-then-is_some
+returns-then-is_some c =
+    stops-early c.loop-count.invariant.2 c.loop-count-test.true c.work_one-turn.ensures c.requires
+    (sym c.is_some.ensures ∙ c.if-is_some.true)
     c.finish.ensures
 
 pub loop-count-preserved : goal.loop-count-preserved
@@ -35,7 +30,7 @@ loop-count-preserved c = (
   omega arith,
   omega arith,
   one_more c.loop-count.invariant.2 c.loop-count-test.true c.work_one-turn.ensures
-      c.if-turn-ne0.false,
+      (sym c.is_some.ensures ∙ c.if-is_some.false),
 )
 
 pub finish-requires-2 : goal.finish-requires-2

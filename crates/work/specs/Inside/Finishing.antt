@@ -23,6 +23,6 @@ pub record MayFinish (memory output : List ℕ) (first last : Header) : Type 0 w
 
 -- the frames are put out, and the header is written
 pub record Finishes (memory output memory' output' : List ℕ) (first : Header) (t : Turn) (count : ℕ) (r : Worked) : Type 0 where
-  pub answer : r ≡ record { count = count; why = t.why; written = length (bytes_between memory first t.header) }
+  pub answer : r ≡ record { count = count; stopped = t.why; written = length (bytes_between memory first t.header) }
   pub stored : memory' ≡ header_written t.header memory
   pub put : output' ≡ write 0 (bytes_between memory first t.header) output

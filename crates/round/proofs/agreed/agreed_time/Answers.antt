@@ -1,9 +1,12 @@
 -- `round::agreed::agreed_time` meets its contract.
+use Rattle.std.proofs.lemmas.Result.{err_from_is_err_and}
 use Rattle.gateway.proofs.Calling.{time-unsound, time-sound}
 use Rattle.round.proofs.agreed.agreed_time.Goals as goal
 
-pub returns-then-not-found : goal.returns-then-not-found
-returns-then-not-found c = time-unsound _ c.checked-found.ensures c.if-not-found.true
+pub returns-in_err-header : goal.returns-in_err-header
+returns-in_err-header c =
+    let p = err_from_is_err_and c.from_residual.result c.from_residual.ensures.1 in
+    rw (p.1, p.2) (time-unsound _ c.in_err-header.ensures)
 
 pub returns : goal.returns
-returns c = search time-sound
+returns c = time-sound _ c.in_ok-header.ensures

@@ -1,15 +1,14 @@
 -- `round::start::start` meets its contract.
 use mathlib.Core.Path.{◌∙◌}
+use Rattle.std.proofs.lemmas.Result.{err_from_is_err_and}
 use Rattle.gateway.specs.Rounds.{start}
-use Rattle.gateway.proofs.Calling.{known, call-unsound, call-sound, start-call}
+use Rattle.gateway.proofs.Calling.{call-unsound, call-sound, start-call}
 use Rattle.round.proofs.start.start.Goals as goal
 
-pub returns-then-not-found : goal.returns-then-not-found
-returns-then-not-found c = call-unsound _ c.checked-found.ensures start _ c.if-not-found.true c.refused.ensures ∙ start-call _ _
-
-pub start_round-requires : goal.start_round-requires
-start_round-requires c = known _ c.checked-found.ensures c.if-not-found.false
+pub returns-in_err-header : goal.returns-in_err-header
+returns-in_err-header c =
+    let p = err_from_is_err_and c.from_residual.result c.from_residual.ensures.1 in
+    rw (p.1, p.2) (call-unsound _ start _ c.in_err-header.ensures ∙ start-call _ _)
 
 pub returns : goal.returns
-returns c =
-    call-sound _ c.checked-found.ensures start _ c.if-not-found.false c.start_round.ensures ∙ start-call _ _
+returns c = call-sound _ start _ c.in_ok-header.ensures c.start_round.ensures ∙ start-call _ _
