@@ -28,7 +28,7 @@ use Rattle.memory.proofs.FromBytes.{read_all, entry-fits}
 use Rattle.lists.proofs.ListLaws.{all-each, tally-most}
 use Rattle.memory.specs.Inside.Fits.{EntryFits}
 use Rattle.memory.proofs.EventLaws.{not-later-self}
-use Rattle.memory.proofs.Chains.{refuted, granted, told}
+use Rattle.memory.proofs.Chains.{told}
 
 -- tests regrouped
 swap : (a b c d : Bool) → ((a && b) && (c && d)) ≡ ((a && c) && (b && d))
@@ -226,16 +226,16 @@ module _ (s : Settings) (stock : ℕ) (m : List ℕ) (at left : ℕ) (p : Passed
     unfolding passed
     by_place = so_far ∙ rw (next_place (λ b. b) queue_size m at left some, read_as)
 
-    pub queue-place : not exact ≡ true → false ≡ whole
-    queue-place h = sym (by_place ∙ rw (refuted exact-as h))
+    pub queue-place : exact ≡ false → false ≡ whole
+    queue-place h = sym (by_place ∙ rw (told exact-as h))
 
-    module _ (h : not exact ≡ false) {fits : Bool} (f : fits ≡ entry_accepted s before p e) where
-      pub queue-entry : not fits ≡ true → false ≡ whole
-      queue-entry k = sym (by_place ∙ rw (granted exact-as h, refuted f k))
+    module _ (h : exact ≡ true) {fits : Bool} (f : fits ≡ entry_accepted s before p e) where
+      pub queue-entry : fits ≡ false → false ≡ whole
+      queue-entry k = sym (by_place ∙ rw (told exact-as h, told f k))
 
-      pub queue-turn : {next : Passed} → not fits ≡ false → next ≡ passed_on p e
+      pub queue-turn : {next : Passed} → fits ≡ true → next ≡ passed_on p e
           → whole ≡ passed s stock e next (places_at (λ b. b) queue_size m (at + queue_size) (left - 1))
-      queue-turn k n = by_place ∙ rw (granted exact-as h, granted f k, n)
+      queue-turn k n = by_place ∙ rw (told exact-as h, told f k, n)
 
 -- the outstanding places' pass
 unfoldable pub all_sent : Settings → List (List ℕ) → Bool
@@ -298,3 +298,21 @@ sent-next s m start count k less e =
     let at : start + outstanding_size * (k + 1) ≡ start + outstanding_size * k + outstanding_size = omega arith in
     let left : count - (k + 1) ≡ count - k - 1 = omega arith in
     rw (at, left) e
+
+-- the queue's position and number of places from the first on, and behind place k
+pub queue-first : (s : Settings) (stock : ℕ) (m : List ℕ) (count : ℕ) {e : Entry} → brought m header_size count ≤ most_brought
+    → e ≡ entry_of (take queue_size (drop header_size m))
+    → Bounded m (header_size + 0) (count - 0) none_passed × (queue_sound s stock m count ≡ passed s stock e none_passed (places_at (λ b. b) queue_size m (header_size + 0) (count - 0)))
+queue-first s stock m count few d =
+    let left : count - 0 ≡ count = omega arith in
+    rw (add-zero header_size, left) (bounded-start m count few, queue-start s stock m count few d)
+
+module _ (s : Settings) (stock : ℕ) (m : List ℕ) (count k : ℕ) (p : Passed) (e : Entry) where
+  pub queue-next : {whole : Bool} → k < count → Bounded m (header_size + queue_size * k + queue_size) (count - k - 1) p
+      → whole ≡ passed s stock e p (places_at (λ b. b) queue_size m (header_size + queue_size * k + queue_size) (count - k - 1))
+      → Bounded m (header_size + queue_size * (k + 1)) (count - (k + 1)) p
+      × (whole ≡ passed s stock e p (places_at (λ b. b) queue_size m (header_size + queue_size * (k + 1)) (count - (k + 1))))
+  queue-next less b w =
+      let at : header_size + queue_size * (k + 1) ≡ header_size + queue_size * k + queue_size = omega arith in
+      let left : count - (k + 1) ≡ count - k - 1 = omega arith in
+      rw (at, left) (b, w)

@@ -90,9 +90,8 @@ fn queue_sound(memory: &[u8], settings: Settings, stock: u32, count: usize) -> b
         still: 0,
         highest: 0,
     };
-    let mut at = HEADER_SIZE;
-    let mut left = count;
-    while left > 0 {
+    for k in 0..count {
+        let at = HEADER_SIZE + QUEUE_SIZE * k;
         let end = at + QUEUE_SIZE;
         let place = &memory[at..end];
         let entry = entry_of(place);
@@ -104,8 +103,6 @@ fn queue_sound(memory: &[u8], settings: Settings, stock: u32, count: usize) -> b
         }
         passed = pass(passed, entry);
         before = entry;
-        at += QUEUE_SIZE;
-        left -= 1;
     }
     stocks_fit(passed, stock)
 }
