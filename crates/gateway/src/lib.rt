@@ -1,7 +1,6 @@
 // The gateway's calls: what they are told and answer. Their code stands in the crates above.
 #![tactic(auto)]
 
-
 use model::LeadTimes;
 use refusal::Refusal;
 

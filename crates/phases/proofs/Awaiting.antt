@@ -1,11 +1,11 @@
 -- The bits of the gateways that are awaited.
 use mathlib.Core.Path.{◌≡◌}
-use mathlib.Core.Bool.{true, false, not, ◌&&◌}
+use mathlib.Core.Bool.{true, not, ◌&&◌}
 use mathlib.Core.List.{List}
 use Prim.Native.Nat.{ℕ, zero, suc, ◌+◌, ◌/◌, ◌%◌, ◌≤◌, ◌<◌}
 use native.Mathlib.Omega.{arith}
 use lib.Dec.{leb, eqb}
-use borrow.Author.Tests.{eqb-false, le-leb, lt-leb, not-true}
+use borrow.Author.Tests.{eqb-false, not-true}
 use Rattle.buffer.specs.Slice.{Bytes}
 use Rattle.memory.specs.declared.Header.{Header}
 use Rattle.lists.proofs.BoolLaws.{and_right}
@@ -22,13 +22,6 @@ awaited-fits (suc zero) arrived b h e = let n = eqb-false (arrived / 1 % 2) 1 (n
 awaited-fits (suc (suc zero)) arrived b h e = let n = eqb-false (arrived / 2 % 2) 1 (not-true (eqb (arrived / 2 % 2) 1) (and_right (leb 1 2)
     (not (stands 2 arrived)) e)) in omega arith
 awaited-fits (suc (suc (suc bit))) arrived b h e = absurd (omega arith)
-
-module _ (bit arrived : ℕ) where
-  pub no-bit : bit ≡ 0 → false ≡ (leb 1 bit && not (stands bit arrived))
-  no-bit e = rw (lt-leb 1 bit (omega arith))
-
-  pub bit-there : (bit ≡ 0 → ⊥) → not (eqb (arrived / bit % 2) 1) ≡ (leb 1 bit && not (stands bit arrived))
-  bit-there n = rw (le-leb 1 bit (omega arith))
 
 pub arrived-below : (m : List ℕ) (h : Header) → Known m h → Bytes m → h.round.arrived < 256
 arrived-below m h k bytes = rw (round_is m h k) (sound-fits m bytes (sound-facts m k.soundness)).header.round.arrived

@@ -11,15 +11,10 @@ use memory::{Header, Phase, Round};
 pub fn changed(header: Header, agreed: u32, round: Round) -> Header
     ensures { result ≡ changed_to header agreed round }
 {
-    let settings = header.settings;
-    let state = header.state;
     Header {
-        settings,
-        state,
         agreed,
         round,
-        queued: header.queued,
-        outstanding: header.outstanding,
+        ..header
     }
 }
 
@@ -71,19 +66,12 @@ pub fn stopped(arrived: u8, value: u32) -> Round
 pub fn is_idle(phase: Phase) -> bool
     ensures { result ≡ is_idle phase }
 {
-    match phase {
-        Phase::Idle => true,
-        Phase::Counting => false,
-        Phase::Stopped => false,
-    }
+    phase == Phase::Idle
 }
 
 // Whether a bit stands for a gateway, and has not yet arrived.
 pub fn awaited(bit: u8, arrived: u8) -> bool
     ensures { result ≡ (leb 1 bit && not (stands bit arrived)) }
 {
-    if bit == 0 {
-        return false;
-    }
-    arrived / bit % 2 != 1
+    bit != 0 && arrived / bit % 2 != 1
 }

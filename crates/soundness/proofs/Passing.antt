@@ -14,9 +14,9 @@ use Rattle.buffer.specs.Slice.{Bytes, part, same_bytes}
 use Rattle.memory.specs.Layout.{header_size, outstanding_size, queue_size, queue_at}
 use Rattle.memory.specs.Codec.{entry_bytes, entry_of, sent_bytes, sent_of, places_at}
 use Rattle.memory.specs.Validity.{is_pending, is_processed, is_waiting, equal, later, ordered, processed_first, meet, none_meet, entry_valid, sent_valid}
-use Rattle.memory.specs.Validity.{processed_mark, brings, still_brings, saved_stocks_bounded}
+use Rattle.memory.specs.Validity.{brings, still_brings, saved_stocks_bounded}
 use Rattle.memory.specs.Soundness.{entry_exact, sent_exact}
-use Rattle.soundness.specs.Inside.Passes.{most_brought, higher_with, passed_on, stocks_fit, entry_accepted, queue_sound, outstanding_sound}
+use Rattle.soundness.specs.Inside.Passes.{most_brought, passed_on, stocks_fit, entry_accepted, queue_sound, outstanding_sound}
 use Rattle.soundness.specs.declared.Passed.{Passed}
 use Rattle.memory.specs.declared.Settings.{Settings}
 use Rattle.memory.specs.declared.Entry.{Entry}
@@ -118,37 +118,6 @@ stocks-step stock p e es few = by-case (is_processed e)
         )
         (and_assoc a c (saved && held) ∙ ap (◌&&◌ a) (sym (and_assoc c saved held)))
     by-case false = rw (add_assoc p.brought (brings e) (tally brings es), add_assoc p.still (still_brings e) (tally still_brings es))
-
--- what the code adds up and compares, a place at a time and at the end
-module _ (more : Bool) (sum quantity : ℕ) where
-  pub one_more : more ≡ true → sum + quantity ≡ sum + cond more quantity 0
-  one_more h = rw h
-
-  pub none_more : more ≡ false → sum ≡ sum + cond more quantity 0
-  none_more h = rw (h, add-zero sum)
-
-module _ (p : Passed) (e : Entry) {processed : Bool} (q : processed ≡ processed_mark e.mark) where
-  pub none-saved : not processed ≡ true → p.highest ≡ higher_with p e
-  none-saved h = rw (refuted q h)
-
-  module _ (h : not processed ≡ false) where
-    pub now-highest : p.highest < e.before.stock + (most_brought - p.brought) → e.before.stock + (most_brought - p.brought) ≡ higher_with p e
-    now-highest l = rw (granted q h) (omega arith)
-
-    pub still-highest : e.before.stock + (most_brought - p.brought) ≤ p.highest → p.highest ≡ higher_with p e
-    still-highest l = rw (granted q h) (omega arith)
-
-module _ (p : Passed) (stock : ℕ) (few : p.brought ≤ most_brought) (fewer : p.still ≤ p.brought) where
-  pub saved-too-high : 67173375 - p.brought < p.highest → false ≡ stocks_fit p stock
-  saved-too-high l = rw (lt-leb (p.highest + p.brought) (most_stock + most_brought) (omega arith))
-
-  pub held-decides : p.highest ≤ 67173375 - p.brought → leb stock (most_stock - p.still) ≡ stocks_fit p stock
-  held-decides l =
-      rw (le-leb (p.highest + p.brought) (most_stock + most_brought) (omega arith))
-      (sym (ap (leb (stock + p.still)) whole ∙ leb-both (stock + p.still) stock (most_stock - p.still) p.still refl))
-    where
-      whole : most_stock ≡ most_stock - p.still + p.still
-      whole = omega arith
 
 -- the queue's pass, behind an entry
 unfoldable pub passed : Settings → ℕ → Entry → Passed → List (List ℕ) → Bool

@@ -57,40 +57,24 @@ fn all_sound(memory: &[u8], header: Header) -> bool
     ensures { result ≡ sound memory.now }
 {
     let settings = header.settings;
-    let round = header.round;
-    if !header_sound(memory, header) {
-        return false;
-    }
-    if !round_possible(settings, round) {
-        return false;
-    }
-    let state = header.state;
-    if !queue_sound(memory, settings, state.stock, header.queued as usize) {
-        return false;
-    }
-    let at = HEADER_SIZE + QUEUE_SIZE * (settings.q as usize);
-    outstanding_sound(memory, settings, at, header.outstanding as usize)
+    let start = HEADER_SIZE + QUEUE_SIZE * (settings.q as usize);
+    header_sound(memory, header)
+        && round_possible(settings, header.round)
+        && queue_sound(memory, settings, header.state.stock, header.queued as usize)
+        && outstanding_sound(memory, settings, start, header.outstanding as usize)
 }
 
 // Whether settings, the memory's length for them, phase and counts are possible.
+#[tactic(auto, unfolding(crate::specs::Inside::Passes::header_sound))]
 fn header_sound(memory: &[u8], header: Header) -> bool
     requires { (header_size ≤ length memory.now) × (header ≡ header_at memory.now) }
     ensures { result ≡ header_sound memory.now }
 {
-    let settings = header.settings;
-    if !settings_valid(settings) {
-        return false;
-    }
-    if memory.len() < size_for(settings) {
-        return false;
-    }
-    if memory[3] > 2 {
-        return false;
-    }
-    if header.queued > settings.q {
-        return false;
-    }
-    header.outstanding <= settings.u
+    settings_valid(header.settings)
+        && memory.len() >= size_for(header.settings)
+        && memory[3] <= 2
+        && header.queued <= header.settings.q
+        && header.outstanding <= header.settings.u
 }
 
 // One pass: each place in its one form, and its entry valid and rightly placed behind the one before it. The first entry has
@@ -131,27 +115,17 @@ fn pass(passed: Passed, entry: Entry) -> Passed
     requires { (passed.brought + brings entry ≤ most_brought) × (passed.still ≤ passed.brought) }
     ensures { result ≡ passed_on passed entry }
 {
-    let mark = entry.mark;
-    let message = entry.message;
-    let kind = message.kind;
-    let quantity = quantity_of(kind) as u32;
+    let quantity = quantity_of(entry.message.kind) as u32;
     Passed {
-        pending: pending_seen(passed.pending, mark),
+        pending: pending_seen(passed.pending, entry.mark),
         brought: passed.brought + quantity,
-        still: added_if(is_pending(mark), passed.still, quantity),
+        still: if is_pending(entry.mark) {
+            passed.still + quantity
+        } else {
+            passed.still
+        },
         highest: higher(passed, entry),
     }
-}
-
-// A sum with a quantity more, or as it was.
-fn added_if(more: bool, sum: u32, quantity: u32) -> u32
-    requires { sum + quantity ≤ most_brought }
-    ensures { result ≡ sum + cond more quantity 0 }
-{
-    if more {
-        return sum + quantity;
-    }
-    sum
 }
 
 // The highest of the stocks saved, this entry's included.
@@ -159,16 +133,12 @@ fn higher(passed: Passed, entry: Entry) -> u64
     requires { passed.brought ≤ most_brought }
     ensures { result ≡ higher_with passed entry }
 {
-    let mark = entry.mark;
-    let before = entry.before;
-    let saved = (before.stock as u64) + ((MOST_BROUGHT - passed.brought) as u64);
-    if !is_processed(mark) {
-        return passed.highest;
+    let saved = (entry.before.stock as u64) + ((MOST_BROUGHT - passed.brought) as u64);
+    if is_processed(entry.mark) {
+        passed.highest.max(saved)
+    } else {
+        passed.highest
     }
-    if passed.highest < saved {
-        return saved;
-    }
-    passed.highest
 }
 
 // Whether every stock, saved and held, leaves room for the Restocks still to be done from it.
@@ -176,10 +146,7 @@ fn stocks_fit(passed: Passed, stock: u32) -> bool
     requires { (passed.brought ≤ most_brought) × (passed.still ≤ passed.brought) }
     ensures { result ≡ stocks_fit passed stock }
 {
-    if passed.highest > MOST_TOGETHER - (passed.brought as u64) {
-        return false;
-    }
-    stock <= MOST_STOCK - passed.still
+    passed.highest <= MOST_TOGETHER - (passed.brought as u64) && stock <= MOST_STOCK - passed.still
 }
 
 // One pass: each place in its one form, and what it holds valid.
@@ -206,15 +173,11 @@ fn outstanding_sound(memory: &[u8], settings: Settings, start: usize, count: usi
 }
 
 // Whether an entry is valid and may stand behind another.
+#[tactic(auto, unfolding(crate::specs::Inside::Passes::entry_accepted))]
 fn entry_fits(settings: Settings, before: Entry, passed: Passed, entry: Entry) -> bool
     ensures { result ≡ entry_accepted settings before passed entry }
 {
-    let mark = entry.mark;
-    if !entry_valid(settings, entry) {
-        return false;
-    }
-    if processed_behind(passed.pending, mark) {
-        return false;
-    }
-    follows(before, entry)
+    entry_valid(settings, entry)
+        && !processed_behind(passed.pending, entry.mark)
+        && follows(before, entry)
 }

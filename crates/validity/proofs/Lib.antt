@@ -1,2 +1,0 @@
--- Laws of the tests of validity.
-pub mod Deciding
