@@ -6,18 +6,12 @@ use Rattle.std.specs.Prelude.{Result, Ok, Err}
 use Rattle.refusal.specs.Numbers.{refusal_number}
 use Rattle.refusal.proofs.Numbers.{refusal-some}
 use Rattle.refusal.specs.declared.Refusal.{Refusal}
-use Rattle.refusal.specs.declared.Refusal.TheVariants.{NoFrame, BelowAgreedTime}
+use Rattle.refusal.specs.declared.Refusal.TheVariants.{BelowAgreedTime}
 use Prim.Native.Nat.{ℕ, ◌≤◌, ◌<◌}
-use native.Mathlib.Omega.{arith}
 use lib.Dec.{eqb}
 use lib.ListN.{length}
 use borrow.Author.Tests.{ne_eqb, lt-ltb, le-ltb}
 use Rattle.buffer.specs.Slice.{Bytes}
-use Rattle.model.specs.Messages.{kind_number, kind_of, origin_of, quantity_of}
-use Rattle.model.specs.declared.Message.{Message}
-use Rattle.model.proofs.Ordered.{kind-again}
-use Rattle.model.specs.declared.Kind.{Kind}
-use Rattle.model.specs.declared.Kind.TheVariants.{Failure, Request, Delivery, Restock, Start, Lvt, Update}
 use Rattle.frame.specs.Writing.{well_formed}
 use Rattle.frame.specs.Reasons.{reading, form_number, read_in}
 use Rattle.frame.specs.declared.Frame.{Frame}
@@ -30,8 +24,7 @@ use Rattle.memory.specs.Inside.Fits.{MessageFits}
 use Rattle.memory.specs.Records.{Gateway}
 use Rattle.memory.specs.declared.Header.{Header}
 use Rattle.gateway.specs.Effects.{Outcome, refused, settled}
-use Rattle.gateway.specs.Taking.{take_plain, take_cancel, take_acknowledgment}
-use Rattle.gateway.specs.Rounds.{take_start, take_lvt, take_update}
+use Rattle.gateway.specs.Taking.{take_cancel, take_acknowledgment}
 use Rattle.gateway.specs.Calls.{CallResult, left, leaving, unless_below, by_carrier, take_by_kind, take_for, take_frame, take_bytes, taken, on_sound}
 use Rattle.gateway.specs.Inside.Premises.{Known}
 use Rattle.gateway.specs.Answers.{Answer, answer_of}
