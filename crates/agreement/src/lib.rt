@@ -3,17 +3,11 @@
 
 use lines::Gateway;
 use single_queue::run;
-use std::alloc::Global;
 use std::io;
 
 // Prints that the single queue's records are the gateways', if they are.
-pub fn compare(
-    rt: &impl Print,
-    alloc: Global,
-    list: &[u8],
-    gateways: &[Gateway; 2],
-) -> io::Result<()> {
-    let [first, second] = run(alloc, list)?;
+pub fn compare(rt: &impl Print, list: &[u8], gateways: &[Gateway; 2]) -> io::Result<()> {
+    let [first, second] = run(list);
     if gateways[0].events == first && gateways[1].events == second {
         println!(rt; "single queue agrees")?;
     }

@@ -3,32 +3,31 @@
 
 ghost use Rattle.std.specs.Prelude.{◌≤◌};
 
+use arrayvec::ArrayVec;
 use limits::addressed_to;
-use lines::{Frames, Gateway, append};
+use lines::{Frames, Gateway, append, put};
 use reader::read;
-use std::alloc::{AllocError, Global};
 use take::take;
 
 // Brings every frame of a line once, the oldest first, and answers the frames that are then under way.
-pub fn bring_all(
-    alloc: Global,
+pub fn bring_all<const N: usize>(
     gateways: &mut [Gateway; 2],
-    line: &[u8],
-) -> Result<Vec<u8>, AllocError> {
-    let mut behind = Vec::new(alloc);
+    line: &ArrayVec<u8, N>,
+) -> ArrayVec<u8, N> {
+    let mut behind = ArrayVec::new();
     for frame in Frames(line) {
-        bring(gateways, frame, &mut behind)?;
+        bring(gateways, frame, &mut behind);
     }
-    Ok(behind)
+    behind
 }
 
 // Brings a frame. What its gateway puts out goes to the end of the line; refused, the frame itself does.
-fn bring(gateways: &mut [Gateway; 2], frame: &[u8], line: &mut Vec<u8>) -> Result<(), AllocError> {
+fn bring<const N: usize>(gateways: &mut [Gateway; 2], frame: &[u8], line: &mut ArrayVec<u8, N>) {
     let mut output = [0u8; 4096];
     let gateway = &mut gateways[receiver_of(frame)];
     match take(&mut gateway.memory, frame, &mut output) {
         Ok(written) => append(line, &output, written),
-        Err(_) => line.extend_from_slice(frame),
+        Err(_) => put(line, frame),
     }
 }
 

@@ -3,24 +3,21 @@
 
 use commit::commit;
 use lines::{Gateway, append};
-use std::alloc::AllocError;
 
 // The last step of a turn: gateway 0 commits what it can, then gateway 1.
-pub fn commit_both(gateways: &mut [Gateway; 2]) -> Result<(), AllocError> {
+pub fn commit_both(gateways: &mut [Gateway; 2]) {
     for gateway in gateways.iter_mut() {
-        commit_all(gateway)?;
+        commit_all(gateway);
     }
-    Ok(())
 }
 
 // A gateway commits until a commit is refused, at most 1000 events.
-fn commit_all(gateway: &mut Gateway) -> Result<(), AllocError> {
+fn commit_all(gateway: &mut Gateway) {
     let mut output = [0u8; 4096];
     for _ in 0..1000 {
         let Ok(written) = commit(&mut gateway.memory, &mut output) else {
             break;
         };
-        append(&mut gateway.events, &output, written)?;
+        append(&mut gateway.events, &output, written);
     }
-    Ok(())
 }

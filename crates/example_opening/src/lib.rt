@@ -5,16 +5,16 @@ ghost use Rattle.std.specs.Prelude.{◌≡◌, []};
 ghost use Rattle.gateway.specs.Calls.{set_up};
 ghost use Rattle.example_opening.specs.Inside.Settings.{example_opening};
 
+use arrayvec::ArrayVec;
 use gateway::Opening;
 use lines::{Gateway, push_plain, town_hours};
 use model::{Kind, Message};
 use opening::set_up::set_up;
-use std::alloc::{AllocError, Global};
 
 // Sets both gateways up, gateway 0 with the list.
 pub fn set_up_both(first: &mut Gateway, second: &mut Gateway, list: &[u8])
-    ensures first { first.new.memory.items ≡ (set_up (example_opening 0 0) list.now first.old.memory.items).memory }
-    ensures second { second.new.memory.items ≡ (set_up (example_opening 1 1) [] second.old.memory.items).memory }
+    ensures first { first.new.memory ≡ (set_up (example_opening 0 0) list.now first.old.memory).memory }
+    ensures second { second.new.memory ≡ (set_up (example_opening 1 1) [] second.old.memory).memory }
 {
     let _ = set_up(&mut first.memory, opening(0, 0), list);
     let _ = set_up(&mut second.memory, opening(1, 1), b"");
@@ -37,12 +37,12 @@ fn opening(own: u32, stock: u32) -> Opening
 }
 
 // Gateway 0's opening list: at hour 10, Failures of L00000000000000001 and L00000000000000002, each of 27 bytes.
-pub fn opening_list(alloc: Global) -> Result<Vec<u8>, AllocError> {
-    let mut list = Vec::new(alloc);
+pub fn opening_list() -> ArrayVec<u8, 54> {
+    let mut list = ArrayVec::new();
     for digit in [b'1', b'2'] {
-        push_plain(&mut list, failure(digit))?;
+        push_plain(&mut list, failure(digit));
     }
-    Ok(list)
+    list
 }
 
 // The Failure of the lamp that ends in that digit.

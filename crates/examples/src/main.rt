@@ -9,14 +9,13 @@ use example_opening::{opening_list, set_up_both};
 use lines::Gateway;
 use neighbours::middles::Middles;
 use printing::print_record;
-use std::alloc::Global;
 use std::io;
 use turns::take_turns;
 
 fn main(rt: HostRuntime) -> io::Result<()> {
     print_sharing(&rt, 22)?;
     print_sharing(&rt, 23)?;
-    print_example(&rt, rt.alloc())
+    print_example(&rt)
 }
 
 // Prints whether the two trees of n gateways share a bottom row, as Figure 2's row says.
@@ -31,15 +30,15 @@ fn print_sharing(rt: &impl Print, n: u32) -> io::Result<()>
 }
 
 // Prints the records that the gateways commit, with a carrier between them, then whether the single queue gives the same.
-fn print_example(rt: &impl Print, alloc: Global) -> io::Result<()> {
-    let list = opening_list(alloc)?;
-    let mut first = Gateway::new(alloc)?;
-    let mut second = Gateway::new(alloc)?;
+fn print_example(rt: &impl Print) -> io::Result<()> {
+    let list = opening_list();
+    let mut first = Gateway::new();
+    let mut second = Gateway::new();
     set_up_both(&mut first, &mut second, &list);
     let mut gateways = [first, second];
-    take_turns(alloc, &mut gateways)?;
+    take_turns(&mut gateways);
     for (own, gateway) in gateways.iter().enumerate() {
         print_record(rt, own, &gateway.events)?;
     }
-    compare(rt, alloc, &list, &gateways)
+    compare(rt, &list, &gateways)
 }

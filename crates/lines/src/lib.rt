@@ -1,34 +1,36 @@
-// The two gateways of the last example, and frames one behind the other.
+// The two gateways of the last example, and frames one behind the other in fixed memory: what a buffer has no room for is left out, and
+// the program's buffers have room for all.
 #![tactic(auto)]
 
-ghost use Rattle.std.specs.Prelude.{◌≡◌, [], ◌++◌, ◌<◌, length, take, drop, OnOk, OnErr, IfOk, vec_len};
+ghost use Rattle.std.specs.Prelude.{◌≡◌, [], ◌<◌, length, take, drop, replicate};
 ghost use Rattle.std.specs.Iterator.{at_most};
 ghost use Rattle.gateway.specs.Examples.{town_hours};
 ghost use Rattle.lines.specs.Inside.Frames.{first_size, plain_frame};
+ghost use Rattle.lines.specs.Inside.Putting.{put, appended};
 
+use arrayvec::ArrayVec;
 use entries::frame_if;
 use frame::tables::whole_length;
 use model::{LeadTimes, Message};
-use std::alloc::{AllocError, Global};
 use writer::write;
 
 // A gateway: its memory, and the record of the events that it has committed.
 #[derive(Drop)]
 pub struct Gateway {
-    pub memory: Vec<u8>,
-    pub events: Vec<u8>,
+    pub memory: [u8; 65536],
+    pub events: ArrayVec<u8, 4096>,
 }
 
 impl Gateway {
     // A gateway before it is set up. A memory with 512 places of each kind has 49,408 bytes.
-    pub fn new(alloc: Global) -> Result<Gateway, AllocError>
-        ensures memory { IfOk result (λ g. vec_len g.memory ≡ 65536) }
-        ensures events { IfOk result (λ g. g.events.items ≡ []) }
+    pub fn new() -> Gateway
+        ensures memory { result.memory ≡ replicate 65536 0 }
+        ensures events { result.events.items ≡ [] }
     {
-        Ok(Gateway {
-            memory: vec![in alloc; 0u8; 65536]?,
-            events: Vec::new(alloc),
-        })
+        Gateway {
+            memory: [0; 65536],
+            events: ArrayVec::new(),
+        }
     }
 }
 
@@ -73,22 +75,28 @@ impl<'a> Iterator for Frames<'a> {
     }
 }
 
-// Puts the first so many bytes of an output behind the frames that there are.
-pub fn append(frames: &mut Vec<u8>, output: &[u8], count: usize) -> Result<(), AllocError>
-    ensures ok { OnOk result (frames.new.items ≡ frames.old.items ++ take count output.now) }
-    ensures err { OnErr result (frames.new.items ≡ frames.old.items) }
+// Puts bytes behind those of a buffer. Where there is no room for them it stays as it is.
+pub fn put<const N: usize>(buffer: &mut ArrayVec<u8, N>, bytes: &[u8])
+    ensures { buffer.new.items ≡ put N buffer.old.items bytes.now }
 {
-    frames.extend_from_slice(&output[..count.min(output.len())])
+    let _ = buffer.try_extend_from_slice(bytes);
 }
 
-// Puts a plain message's frame behind the frames that there are. A message that is no frame is left out.
-pub fn push_plain(frames: &mut Vec<u8>, message: Message) -> Result<(), AllocError>
-    ensures ok { OnOk result (frames.new.items ≡ frames.old.items ++ plain_frame message) }
-    ensures err { OnErr result (frames.new.items ≡ frames.old.items) }
+// Puts the first so many bytes of an output behind those of a buffer. Where the output has fewer the buffer stays as it is.
+pub fn append<const N: usize>(buffer: &mut ArrayVec<u8, N>, output: &[u8], count: usize)
+    ensures { buffer.new.items ≡ appended N buffer.old.items output.now count }
+{
+    if count <= output.len() {
+        put(buffer, &output[..count]);
+    }
+}
+
+// Puts a plain message's frame behind the bytes of a buffer. A message that is no frame is left out.
+pub fn push_plain<const N: usize>(buffer: &mut ArrayVec<u8, N>, message: Message)
+    ensures { buffer.new.items ≡ put N buffer.old.items (plain_frame message) }
 {
     let mut frame = [0u8; 28];
-    match write(&mut frame, frame_if(false, message)) {
-        Ok(count) => append(frames, &frame, count),
-        Err(_) => Ok(()),
+    if let Ok(count) = write(&mut frame, frame_if(false, message)) {
+        put(buffer, &frame[..count]);
     }
 }

@@ -7,19 +7,20 @@ ghost use Rattle.model.specs.Doing.{hours_in_range, lead_times_valid};
 
 // A message's kind, with the kind's own fields. The first four are events of the forecast. The last three are the
 // round's: no queue holds them, and doing one would change nothing.
-#[derive(Clone, Copy, PartialEq, Eq)]
+#[derive(Clone, Copy, PartialEq, Eq, Default)]
 pub enum Kind {
     Failure { origin: u8 },
     Request { origin: u8 },
     Delivery { origin: u8 },
     Restock { quantity: u16 },
+    #[default]
     Start,
     Lvt,
     Update,
 }
 
 // A message: its hour, its two gateways, its kind, and beside the kind the lamp. What a kind lacks is zero.
-#[derive(Clone, Copy, PartialEq, Eq)]
+#[derive(Clone, Copy, PartialEq, Eq, Default)]
 pub struct Message {
     pub hour: u32,
     pub from: u8,

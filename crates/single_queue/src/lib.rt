@@ -2,47 +2,47 @@
 // one behind it.
 #![tactic(auto)]
 
-ghost use Rattle.std.specs.Prelude.{◌≡◌, ◌+◌, ◌*◌, ◌≤◌, length, OnOk, OnErr};
+ghost use Rattle.std.specs.Prelude.{◌≡◌, ◌+◌, ◌*◌, ◌≤◌, length};
 ghost use Rattle.model.specs.Doing.{most_stock};
 ghost use Rattle.single_queue.specs.Inside.Queue.{place_of, entered};
 
+use arrayvec::ArrayVec;
 use doing::{reply_to, state_after};
 use encoding::write_state;
 use entries::later;
-use lines::{Frames, push_plain, town_hours};
+use lines::{Frames, push_plain, put, town_hours};
 use memory::STATE_SIZE;
 use model::{Message, Site, State};
 use reader::read;
-use std::alloc::{AllocError, Global};
 
 // One of the two gateways: its state, and the record of the events that it has done.
 #[derive(Drop)]
 struct Shelf {
     state: State,
-    events: Vec<u8>,
+    events: ArrayVec<u8, 4096>,
 }
 
 // Feeds the queue the opening list, and does its messages, at most 512. Answers the records of the two gateways.
-pub fn run(alloc: Global, list: &[u8]) -> Result<[Vec<u8>; 2], AllocError> {
-    let mut queue = Vec::new(alloc);
-    enter_list(&mut queue, list)?;
-    let mut first = shelf_with(alloc, 0);
-    let mut second = shelf_with(alloc, 1);
+pub fn run(list: &[u8]) -> [ArrayVec<u8, 4096>; 2] {
+    let mut queue = ArrayVec::<Message, 1020>::new();
+    enter_list(&mut queue, list);
+    let mut first = shelf_with(0);
+    let mut second = shelf_with(1);
     for k in 0..512 {
         let Some(&message) = queue.get(k) else {
             break;
         };
         if message.to == 0 {
-            do_message(&mut queue, &mut first, message)?;
+            do_message(&mut queue, &mut first, message);
         } else {
-            do_message(&mut queue, &mut second, message)?;
+            do_message(&mut queue, &mut second, message);
         }
     }
-    Ok([first.events, second.events])
+    [first.events, second.events]
 }
 
 // A gateway as it is set up, with so much stock.
-fn shelf_with(alloc: Global, stock: u32) -> Shelf
+fn shelf_with(stock: u32) -> Shelf
     ensures { result.state.stock ≡ stock }
 {
     Shelf {
@@ -50,27 +50,24 @@ fn shelf_with(alloc: Global, stock: u32) -> Shelf
             stock,
             ..State::default()
         },
-        events: Vec::new(alloc),
+        events: ArrayVec::new(),
     }
 }
 
 // Enters each message of the list.
-fn enter_list(queue: &mut Vec<Message>, list: &[u8]) -> Result<(), AllocError> {
+fn enter_list<const N: usize>(queue: &mut ArrayVec<Message, N>, list: &[u8]) {
     for bytes in Frames(list) {
         if let Ok(frame) = read(bytes) {
-            enter(queue, frame.message)?;
+            enter(queue, frame.message);
         }
     }
-    Ok(())
 }
 
-// Enters a message behind those that are not later.
-fn enter(queue: &mut Vec<Message>, message: Message) -> Result<(), AllocError>
-    ensures ok { OnOk result (queue.new.items ≡ entered queue.old.items message) }
-    ensures err { OnErr result (queue.new.items ≡ queue.old.items) }
+// Enters a message behind those that are not later. Where there is no place for it the queue stays as it is.
+fn enter<const N: usize>(queue: &mut ArrayVec<Message, N>, message: Message)
+    ensures { queue.new.items ≡ entered N queue.old.items message }
 {
-    queue.insert(place_of(queue, message), message)?;
-    Ok(())
+    let _ = queue.try_insert(place_of(queue, message), message);
 }
 
 // Where the first later message stands, or the end of the queue.
@@ -83,20 +80,15 @@ fn place_of(queue: &[Message], message: Message) -> usize
 }
 
 // The gateway that a message is to does it: what it sends is entered, and its frame and the state after it end the record.
-fn do_message(
-    queue: &mut Vec<Message>,
-    shelf: &mut Shelf,
-    message: Message,
-) -> Result<(), AllocError>
+fn do_message<const N: usize>(queue: &mut ArrayVec<Message, N>, shelf: &mut Shelf, message: Message)
     requires { shelf.old.state.stock + 65535 ≤ most_stock }
-    ensures { OnOk result (shelf.new.state.stock ≤ shelf.old.state.stock + 65535) }
+    ensures { shelf.new.state.stock ≤ shelf.old.state.stock + 65535 }
 {
     if let Some(sent) = reply_to(site(message.to), shelf.state, message) {
-        enter(queue, sent)?;
+        enter(queue, sent);
     }
     shelf.state = state_after(shelf.state, message.kind);
-    push_plain(&mut shelf.events, message)?;
-    push_state(&mut shelf.events, shelf.state)
+    push_event(&mut shelf.events, message, shelf.state);
 }
 
 // Where a gateway does its messages. Supplier of both is gateway 1, and the last hour is 100.
@@ -109,9 +101,12 @@ fn site(own: u8) -> Site {
     }
 }
 
-// Puts a state at the end of a record.
-fn push_state(events: &mut Vec<u8>, state: State) -> Result<(), AllocError> {
+// Puts a message's frame and the state after it at the end of a record, which stays as it is where there is no room for both.
+fn push_event<const N: usize>(events: &mut ArrayVec<u8, N>, message: Message, state: State) {
+    let mut event = ArrayVec::<u8, 44>::new();
+    push_plain(&mut event, message);
     let mut bytes = [0u8; STATE_SIZE];
     write_state(&mut bytes, 0, state);
-    events.extend_from_slice(&bytes)
+    put(&mut event, &bytes);
+    put(events, &event);
 }

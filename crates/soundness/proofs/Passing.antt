@@ -1,6 +1,6 @@
 -- The two passes over the used places: one test after the other at each place is the same as each test at all places.
 use mathlib.Core.Path.{◌≡◌, refl, sym, ◌∙◌, ap}
-use Prim.Native.Nat.{ℕ, zero, suc, ◌+◌, ◌-◌, ◌<◌, ◌≤◌, max}
+use Prim.Native.Nat.{ℕ, zero, suc, ◌+◌, ◌-◌, ◌*◌, ◌<◌, ◌≤◌, max}
 use native.Mathlib.Nat.{add-zero, zero-add, add_assoc}
 use native.Mathlib.Omega.{arith}
 use mathlib.Core.Bool.{Bool, true, false, not, cond, ◌&&◌, ◌||◌, and_assoc, and-false}
@@ -28,7 +28,7 @@ use Rattle.memory.proofs.FromBytes.{read_all, entry-fits}
 use Rattle.lists.proofs.ListLaws.{all-each, tally-most}
 use Rattle.memory.specs.Inside.Fits.{EntryFits}
 use Rattle.memory.proofs.EventLaws.{not-later-self}
-use Rattle.memory.proofs.Chains.{refuted, granted}
+use Rattle.memory.proofs.Chains.{refuted, granted, told}
 
 -- tests regrouped
 swap : (a b c d : Bool) → ((a && b) && (c && d)) ≡ ((a && c) && (b && d))
@@ -274,12 +274,27 @@ module _ (s : Settings) (m : List ℕ) (at left : ℕ) {whole : Bool}
     unfolding all_sent
     by-sent = so_far ∙ rw (next_place (λ b. b) outstanding_size m at left some, sent-read)
 
-    pub sent-place : not exact ≡ true → false ≡ whole
-    sent-place h = sym (by-sent ∙ rw (refuted sent-same h))
+    pub sent-place : exact ≡ false → false ≡ whole
+    sent-place h = sym (by-sent ∙ rw (told sent-same h))
 
-    module _ (h : not exact ≡ false) {ok : Bool} (f : ok ≡ sent_valid s x) where
-      pub sent-refused : not ok ≡ true → false ≡ whole
-      sent-refused k = sym (by-sent ∙ rw (granted sent-same h, refuted f k))
+    module _ (h : exact ≡ true) {ok : Bool} (f : ok ≡ sent_valid s x) where
+      pub sent-refused : ok ≡ false → false ≡ whole
+      sent-refused k = sym (by-sent ∙ rw (told sent-same h, told f k))
 
-      pub sent-turn : not ok ≡ false → whole ≡ all_sent s (places_at (λ b. b) outstanding_size m (at + outstanding_size) (left - 1))
-      sent-turn k = by-sent ∙ rw (granted sent-same h, granted f k)
+      pub sent-turn : ok ≡ true → whole ≡ all_sent s (places_at (λ b. b) outstanding_size m (at + outstanding_size) (left - 1))
+      sent-turn k = by-sent ∙ rw (told sent-same h, told f k)
+
+-- the position and the number of the places from the first on, and behind place k
+pub sent-first : (s : Settings) (m : List ℕ) (start count : ℕ)
+    → outstanding_sound s m start count ≡ all_sent s (places_at (λ b. b) outstanding_size m (start + 0) (count - 0))
+sent-first s m start count =
+    let left : count - 0 ≡ count = omega arith in
+    rw (add-zero start, left) (outstanding-passed s m start count)
+
+pub sent-next : (s : Settings) (m : List ℕ) (start count k : ℕ) {whole : Bool} → k < count
+    → whole ≡ all_sent s (places_at (λ b. b) outstanding_size m (start + outstanding_size * k + outstanding_size) (count - k - 1))
+    → whole ≡ all_sent s (places_at (λ b. b) outstanding_size m (start + outstanding_size * (k + 1)) (count - (k + 1)))
+sent-next s m start count k less e =
+    let at : start + outstanding_size * (k + 1) ≡ start + outstanding_size * k + outstanding_size = omega arith in
+    let left : count - (k + 1) ≡ count - k - 1 = omega arith in
+    rw (at, left) e

@@ -154,9 +154,8 @@ fn outstanding_sound(memory: &[u8], settings: Settings, start: usize, count: usi
     requires { start + outstanding_size * count ≤ length memory.now }
     ensures { result ≡ outstanding_sound settings memory.now start count }
 {
-    let mut at = start;
-    let mut left = count;
-    while left > 0 {
+    for k in 0..count {
+        let at = start + OUTSTANDING_SIZE * k;
         let end = at + OUTSTANDING_SIZE;
         let place = &memory[at..end];
         let sent = sent_of(place);
@@ -166,8 +165,6 @@ fn outstanding_sound(memory: &[u8], settings: Settings, start: usize, count: usi
         if !sent_valid(settings, sent) {
             return false;
         }
-        at += OUTSTANDING_SIZE;
-        left -= 1;
     }
     true
 }

@@ -1,7 +1,7 @@
 // Taking an Update: the larger agreed time is kept, and the children are told.
 #![tactic(auto)]
 
-ghost use Rattle.std.specs.Prelude.{◌≡◌, max};
+ghost use Rattle.std.specs.Prelude.{◌≡◌};
 ghost use Rattle.gateway.specs.Rounds.{take_update};
 ghost use Rattle.gateway.specs.Inside.Premises.{Known, Leaves};
 
@@ -24,14 +24,10 @@ pub fn take_update(
     ensures { Leaves result memory output (λ room g. take_update room k hour g) }
 {
     let settings = header.settings;
-    let round = header.round;
-    if settings.own == 0 {
+    if settings.own == 0 || k != (settings.own - 1) / 2 {
         return Err(Refusal::OutOfTurn);
     }
-    if k != (settings.own - 1) / 2 {
-        return Err(Refusal::OutOfTurn);
-    }
-    let next = changed(header, larger(header.agreed, hour), round);
+    let next = changed(header, header.agreed.max(hour), header.round);
     announce(
         memory,
         output,
@@ -40,13 +36,4 @@ pub fn take_update(
         hour,
         children(settings.n, settings.own),
     )
-}
-
-fn larger(a: u32, b: u32) -> u32
-    ensures { result ≡ max a b }
-{
-    if a < b {
-        return b;
-    }
-    a
 }

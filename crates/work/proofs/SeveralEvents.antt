@@ -240,14 +240,14 @@ module _ {before output₀ : List ℕ} {h : Header} {room : ℕ} {memory output 
     pub may-end : MayFinish memory output h t.header
     may-end = may-finish going.came going.found (worked-sent count room (decode before)) lent
 
-    pub ends : {after output' : List ℕ} {answer : Worked} → Known before h → Finishes memory output after output' h t count answer
+    pub ends : {after output' : List ℕ} {answer : Worked} → Known before h → Finishes memory output after output' h t budget answer
         → left (worked_as answer) after output' ≡ worked_off budget before output₀
     unfolding w
     ends k f =
         let e : budget ≡ count = omega (arith, going.within) in
         finished budget k going.found
         (rw (← going.lent, e) going.came)
-        (rw (← going.lent, e) (sym (worked-all count room (decode before) done_all)))
+        (e ∙ rw (← going.lent, e) (sym (worked-all count room (decode before) done_all)))
         (rw going.same at f)
 
 -- work on memory that is not sound

@@ -41,15 +41,13 @@ fn work_off(memory: &mut [u8], output: &mut [u8], budget: u32, header: Header) -
         place: 0,
         why: None,
     };
-    let mut count = 0;
-    while count < budget {
+    for count in 0..budget {
         turn = work_one(memory, room, turn);
         if turn.why.is_some() {
             return finish(memory, output, header, turn, count);
         }
-        count += 1;
     }
-    finish(memory, output, header, turn, count)
+    finish(memory, output, header, turn, budget)
 }
 
 // Puts the frames of what was sent out, from the first place that was free, writes the header, and answers.

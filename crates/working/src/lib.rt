@@ -1,10 +1,10 @@
 // The two gateways of the last example work, and gateway 0 starts a round unless the agreed time is nothing due.
 #![tactic(auto)]
 
+use arrayvec::ArrayVec;
 use lines::{Gateway, append};
 use round::agreed::agreed_time;
 use round::start::start;
-use std::alloc::AllocError;
 use work::work;
 
 // Whether the agreed time is nothing due.
@@ -13,28 +13,26 @@ pub fn nothing_due(gateway: &Gateway) -> bool {
 }
 
 // Gateway 0 works, then gateway 1.
-pub fn work_both(gateways: &mut [Gateway; 2], line: &mut Vec<u8>) -> Result<(), AllocError> {
+pub fn work_both<const N: usize>(gateways: &mut [Gateway; 2], line: &mut ArrayVec<u8, N>) {
     for gateway in gateways.iter_mut() {
-        work_off(gateway, line)?;
+        work_off(gateway, line);
     }
-    Ok(())
 }
 
 // A gateway works with B = 4.
-fn work_off(gateway: &mut Gateway, line: &mut Vec<u8>) -> Result<(), AllocError> {
+fn work_off<const N: usize>(gateway: &mut Gateway, line: &mut ArrayVec<u8, N>) {
     let mut output = [0u8; 4096];
     let worked = work(&mut gateway.memory, &mut output, 4);
-    append(line, &output, worked.written)
+    append(line, &output, worked.written);
 }
 
 // The start call, unless the agreed time is nothing due. It is refused while a round is open.
-pub fn start_if_due(gateway: &mut Gateway, line: &mut Vec<u8>) -> Result<(), AllocError> {
+pub fn start_if_due<const N: usize>(gateway: &mut Gateway, line: &mut ArrayVec<u8, N>) {
     if nothing_due(gateway) {
-        return Ok(());
+        return;
     }
     let mut output = [0u8; 4096];
-    match start(&mut gateway.memory, &mut output) {
-        Ok(written) => append(line, &output, written),
-        Err(_) => Ok(()),
+    if let Ok(written) = start(&mut gateway.memory, &mut output) {
+        append(line, &output, written);
     }
 }

@@ -1,5 +1,4 @@
 -- `work::work` meets its contract.
-use Rattle.gateway.proofs.Calling.{known}
 use Rattle.work.proofs.SeveralEvents.{work-unsound}
 use Rattle.work.proofs.work.Goals as goal
 

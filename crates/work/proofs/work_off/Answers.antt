@@ -1,47 +1,32 @@
 -- `work::work_off` meets its contract.
-use mathlib.Core.Path.{refl, sym, ◌∙◌}
-use native.Mathlib.Omega.{arith}
+use mathlib.Core.Path.{sym, ◌∙◌}
 use Rattle.buffer.proofs.Lent.{bytes-known}
 use Rattle.work.proofs.SeveralEvents.{at_first, ready, one_more, may-stop, stops-early, may-end, ends}
 use Rattle.work.proofs.work_off.Goals as goal
 
 pub loop-count-init : goal.loop-count-init
-loop-count-init c = (
-  refl,
-  refl,
-  at_first c.args.output.now c.requires (bytes-known c.args.memory.now c.type_inv.memory) c.args.budget,
-)
+loop-count-init c = at_first c.args.output.now c.requires (bytes-known c.args.memory.now c.type_inv.memory) c.args.budget
 
 pub work_one-turn-requires : goal.work_one-turn-requires
-work_one-turn-requires c = ready c.loop-count.invariant.2
+work_one-turn-requires c = ready c.loop-count.invariant
 
 pub finish-requires : goal.finish-requires
 finish-requires c =
-    may-stop c.loop-count.invariant.2 c.loop-count-test.true c.work_one-turn.ensures
+    may-stop c.loop-count.invariant c.loop-count-test.true c.work_one-turn.ensures
 
 pub returns-then-is_some : goal.returns-then-is_some
 returns-then-is_some c =
-    stops-early c.loop-count.invariant.2 c.loop-count-test.true c.work_one-turn.ensures c.requires
+    stops-early c.loop-count.invariant c.loop-count-test.true c.work_one-turn.ensures c.requires
     (sym c.is_some.ensures ∙ c.if-is_some.true)
     c.finish.ensures
 
 pub loop-count-preserved : goal.loop-count-preserved
-loop-count-preserved c = (
-  omega arith,
-  omega arith,
-  one_more c.loop-count.invariant.2 c.loop-count-test.true c.work_one-turn.ensures
-      (sym c.is_some.ensures ∙ c.if-is_some.false),
-)
+loop-count-preserved c =
+    one_more c.loop-count.invariant c.loop-count-test.true c.work_one-turn.ensures (sym c.is_some.ensures ∙ c.if-is_some.false)
 
 pub finish-requires-2 : goal.finish-requires-2
-finish-requires-2 c = may-end c.loop-count.invariant.2 c.loop-count-test.false
-
-pub shape_of-memory : goal.shape_of-memory
-shape_of-memory c = omega arith
-
-pub shape_of-output : goal.shape_of-output
-shape_of-output c = omega arith
+finish-requires-2 c = may-end c.loop-count.invariant c.loop-count-test.false
 
 pub returns : goal.returns
 returns c =
-    ends c.loop-count.invariant.2 c.loop-count-test.false c.requires c.finish-2.ensures
+    ends c.loop-count.invariant c.loop-count-test.false c.requires c.finish-2.ensures

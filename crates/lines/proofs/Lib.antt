@@ -1,0 +1,2 @@
+-- Laws of the example's buffers.
+pub mod Written
