@@ -14,6 +14,7 @@ use Rattle.buffer.specs.Slice.{Bytes, write, Puts}
 use Rattle.buffer.proofs.Writes.{write-nil}
 use Rattle.model.specs.Messages.{kind_number}
 use Rattle.model.specs.declared.Kind.{Kind}
+use Rattle.model.specs.declared.Kind.TheVariants.{Failure, Request, Delivery, Restock, Start, Lvt, Update}
 use Rattle.frame.specs.Layout.{whole_length}
 use Rattle.frame.specs.Kinds.{map_of, map_of_kind}
 use Rattle.frame.specs.Writing.{written}
@@ -37,17 +38,19 @@ use Rattle.routing.specs.AtMostTwo.{listed}
 use Rattle.routing.specs.declared.at_most_two.AtMostTwo.{AtMostTwo}
 use Rattle.routing.specs.declared.at_most_two.AtMostTwo.TheVariants.{None, One, Two}
 use Rattle.gateway.specs.Answers.{answer_of}
-use Rattle.frame.proofs.Sizes.{start-length, lvt-length, kind-small}
+use Rattle.frame.proofs.Sizes.{lvt-length, kind-small}
+
+-- in the round what is not a Start is an Lvt or an Update
+pub length-of-others : (kind : Kind) → 3 < kind_number kind → (kind ≡ Start → ⊥) → 8 ≡ whole_length (map_of_kind (kind_number kind))
+length-of-others (Failure origin) h o = absurd (omega arith)
+length-of-others (Request origin) h o = absurd (omega arith)
+length-of-others (Delivery origin) h o = absurd (omega arith)
+length-of-others (Restock quantity) h o = absurd (omega arith)
+length-of-others Start h o = absurd (o refl)
+length-of-others Lvt h o = sym (lvt-length Lvt (omega arith))
+length-of-others Update h o = sym (lvt-length Update (omega arith))
 
 module _ (kind : Kind) where
-  -- a Start, or else an Lvt or an Update
-  module _ {n : ℕ} (is : n ≡ kind_number kind) where
-    pub length-of-start : n ≡ 4 → 4 ≡ whole_length (map_of_kind (kind_number kind))
-    length-of-start e = sym (start-length kind (sym is ∙ e))
-
-    pub length-of-others : 3 < kind_number kind → (n ≡ 4 → ⊥) → 8 ≡ whole_length (map_of_kind (kind_number kind))
-    length-of-others h o = sym (lvt-length kind (omega (arith, h)))
-
   pub two-small : (count : ℕ) {one : ℕ} → count ≤ 2 → one ≡ whole_length (map_of_kind (kind_number kind)) → count * one < 2 ^ 64
   two-small count {one} h e = omega (arith, mul-le-mul_right one h, kind-small kind)
 

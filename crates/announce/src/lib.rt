@@ -17,7 +17,7 @@ use frame::tables::{LVT_LENGTH, START_LENGTH};
 use frame::{Frame, Sense};
 use header::write_header;
 use memory::Header;
-use model::{Kind, Message, kind_number};
+use model::{Kind, Message};
 use refusal::Refusal;
 use routing::at_most_two::AtMostTwo;
 use writer::outgoing::{put_frame, put_two};
@@ -50,10 +50,10 @@ fn length_in_round(kind: Kind) -> usize
     requires { 3 < kind_number kind }
     ensures { result ≡ whole_length (map_of_kind (kind_number kind)) }
 {
-    if kind_number(kind) == 4 {
-        return START_LENGTH;
+    match kind {
+        Kind::Start => START_LENGTH,
+        _ => LVT_LENGTH,
     }
-    LVT_LENGTH
 }
 
 // Puts a frame to each of these gateways, one behind the other.

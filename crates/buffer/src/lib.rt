@@ -108,31 +108,3 @@ pub fn move_within(bytes: &mut [u8], from: usize, at: usize, count: usize)
 {
     bytes.copy_within(from..from + count, at);
 }
-
-pub fn read16(bytes: &[u8], at: usize) -> u16
-    requires { at + 2 ≤ length bytes.now }
-    ensures { result ≡ number_of (part bytes.now at 2) }
-{
-    u16::read(bytes, at)
-}
-
-pub fn read32(bytes: &[u8], at: usize) -> u32
-    requires { at + 4 ≤ length bytes.now }
-    ensures { result ≡ number_of (part bytes.now at 4) }
-{
-    u32::read(bytes, at)
-}
-
-pub fn write16(bytes: &mut [u8], at: usize, number: u16)
-    requires { at + 2 ≤ length bytes.old }
-    ensures { bytes.new ≡ write at (bytes_of 2 number) bytes.old }
-{
-    number.write(bytes, at);
-}
-
-pub fn write32(bytes: &mut [u8], at: usize, number: u32)
-    requires { at + 4 ≤ length bytes.old }
-    ensures { bytes.new ≡ write at (bytes_of 4 number) bytes.old }
-{
-    number.write(bytes, at);
-}

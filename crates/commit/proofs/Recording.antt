@@ -18,6 +18,7 @@ use Rattle.lists.specs.Lists.{◌∈◌, tally}
 use Rattle.model.specs.Messages.{kind_number, quantity_of}
 use Rattle.model.specs.Doing.{most_stock, after}
 use Rattle.model.specs.declared.Kind.{Kind}
+use Rattle.model.specs.declared.Kind.TheVariants.{Failure, Request, Delivery, Restock, Start, Lvt, Update}
 use Rattle.model.specs.declared.State.{State}
 use Rattle.frame.specs.Layout.{whole_length}
 use Rattle.frame.specs.Kinds.{map_of, map_of_kind}
@@ -40,7 +41,7 @@ use Rattle.gateway.specs.Calls.{left, CallResult, leaving, on_sound, committed}
 use Rattle.gateway.specs.Inside.Premises.{Known}
 use Rattle.places.specs.Inside.Searching.{has_mark}
 use Rattle.gateway.specs.Answers.{Answer, answer_of}
-use Rattle.frame.proofs.Sizes.{plain-length, restock-length}
+use Rattle.frame.proofs.Sizes.{plain-length}
 use Rattle.memory.proofs.Places.{place_at}
 use Rattle.gateway.proofs.Searches.{processed-member}
 use Rattle.gateway.proofs.Knowing.{queue-count, queue-places, sizes}
@@ -138,13 +139,15 @@ module _ (m : List ℕ) (h : Header) (known : Known m h) (k : ℕ)
     commits output t p =
         p ∙ rw (oldest.1, ← agreed-here, lt-ltb entry.message.hour h.agreed t, without-first is_processed (decode m).queue, ← position)
 
--- the length of an event's frame: a Restock's, or else that of a message with a lamp
-module _ (kind : Kind) {n : ℕ} (is : n ≡ kind_number kind) where
-  pub length-of-restock : n ≡ 3 → 10 ≡ whole_length (map_of_kind (kind_number kind))
-  length-of-restock e = sym (restock-length kind (sym is ∙ e))
-
-  pub length-of-others : kind_number kind ≤ 3 → (n ≡ 3 → ⊥) → 27 ≡ whole_length (map_of_kind (kind_number kind))
-  length-of-others h o = sym (plain-length kind (omega (arith, h)))
+-- an event that is no Restock has a lamp
+pub length-of-others : (kind : Kind) → kind_number kind ≤ 3 → ((quantity : ℕ) → kind ≡ Restock quantity → ⊥) → 27 ≡ whole_length (map_of_kind (kind_number kind))
+length-of-others (Failure origin) h o = sym (plain-length (Failure origin) (omega arith))
+length-of-others (Request origin) h o = sym (plain-length (Request origin) (omega arith))
+length-of-others (Delivery origin) h o = sym (plain-length (Delivery origin) (omega arith))
+length-of-others (Restock quantity) h o = absurd (o quantity refl)
+length-of-others Start h o = absurd (omega arith)
+length-of-others Lvt h o = absurd (omega arith)
+length-of-others Update h o = absurd (omega arith)
 
 -- the record of an event
 module _ (e : Entry) (lamp : length e.message.lamp ≡ 18) (m output : List ℕ) (k : ℕ) {one : ℕ}

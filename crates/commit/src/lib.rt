@@ -20,7 +20,7 @@ use entries::frame_if;
 use frame::lamps::PLAIN_LENGTH;
 use frame::tables::RESTOCK_LENGTH;
 use memory::{Entry, HEADER_SIZE, Header, Mark, QUEUE_SIZE, STATE_SIZE};
-use model::{Kind, kind_number};
+use model::Kind;
 use places::changes::remove_entry;
 use places::search::next_marked;
 use refusal::Refusal;
@@ -81,10 +81,10 @@ fn event_length(kind: Kind) -> usize
     requires { kind_number kind ≤ 3 }
     ensures { result ≡ whole_length (map_of_kind (kind_number kind)) }
 {
-    if kind_number(kind) == 3 {
-        return RESTOCK_LENGTH;
+    match kind {
+        Kind::Restock { .. } => RESTOCK_LENGTH,
+        _ => PLAIN_LENGTH,
     }
-    PLAIN_LENGTH
 }
 
 // Puts an event's record: its frame, then the state after it.

@@ -13,7 +13,7 @@ use Rattle.model.specs.Messages.{kind_number, kind_of}
 use Rattle.frame.specs.Layout.{odd, whole_length}
 use Rattle.frame.specs.Writing.{lamp_fits, gateways_agree, unless}
 use Rattle.std.specs.Prelude.{Result, Ok, Err, is_ok}
-use Rattle.frame.specs.Reasons.{fields_of, frame_of, map_fits, sense_fits, fields_reading, reading, frame_in, frame_read, read_number}
+use Rattle.frame.specs.Reasons.{fields_of, frame_of, map_fits, sense_fits, fields_reading, reading, frame_in, frame_read}
 use Rattle.buffer.proofs.Readings.{read_one}
 use Rattle.frame.specs.Lamps.{lamp_form, carries_lamp, lamp_refusal}
 use Rattle.frame.proofs.Presence.{lamp-kinds}

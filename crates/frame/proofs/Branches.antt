@@ -1,14 +1,14 @@
 -- The reader's tests, a law for each branch of the code that makes them.
 use mathlib.Core.Path.{◌≡◌, refl, sym, ◌∙◌, ap}
-use Prim.Native.Nat.{ℕ, zero, suc, ◌+◌, ◌/◌, ◌<◌, ◌≤◌}
+use Prim.Native.Nat.{ℕ, zero, suc, ◌<◌, ◌≤◌}
 use mathlib.Core.Bool.{Bool, true, false, not}
 use native.Mathlib.Omega.{arith}
-use lib.Dec.{leb, eqb}
+use lib.Dec.{eqb}
 use lib.ListN.{length, get_or}
 use mathlib.Core.List.{List}
-use borrow.Author.Tests.{le-leb, lt-leb, lt-ltb, le-ltb, eq-eqb, ne_eqb, not-true, not-false}
-use Rattle.frame.specs.Layout.{odd, whole_length}
-use Rattle.frame.specs.Kinds.{map_of_kind, has_lamp, sense_of}
+use borrow.Author.Tests.{le-leb, lt-leb, eq-eqb, ne_eqb, not-true, not-false}
+use Rattle.frame.specs.Layout.{whole_length}
+use Rattle.frame.specs.Kinds.{map_of_kind, sense_of}
 use Rattle.frame.specs.Writing.{lamp_fits, gateways_agree}
 use Rattle.std.specs.Prelude.{Result, Ok, Err}
 use Rattle.frame.specs.Reasons.{map_fits, sense_fits, fields_of, frame_of, fields_reading, reading}
@@ -28,39 +28,6 @@ lamp-map zero h = refl
 lamp-map (suc zero) h = refl
 lamp-map (suc (suc zero)) h = refl
 lamp-map (suc (suc (suc kind))) h = absurd (omega arith)
-
-module _ (map kind : ℕ) where
-  pub map-past : 7 ≤ kind → false ≡ map_fits map kind
-  unfolding map_fits
-  map-past h = rw (le-ltb kind 7 h)
-
-  module _ {plain : ℕ} (e : plain ≡ map_of_kind kind) (h : kind < 7) where
-    pub map-plain : map ≡ plain → true ≡ map_fits map kind
-    unfolding map_fits
-    map-plain p = rw (lt-ltb kind 7 h, eq-eqb map (map_of_kind kind) (p ∙ e))
-
-    module _ (p : map ≡ plain → ⊥) {lamp : Bool} (l : lamp ≡ odd (plain / 32)) where
-      lamp-is : has_lamp kind ≡ lamp
-      unfolding has_lamp
-      lamp-is = rw (← e) (sym l)
-
-      pub map_other : not lamp ≡ true → false ≡ map_fits map kind
-      unfolding map_fits
-      map_other k = rw (lt-ltb kind 7 h, ne_eqb map (map_of_kind kind) (λ q. p (q ∙ sym e)), lamp-is ∙ not-true lamp k)
-
-      pub map-sense : not lamp ≡ false → eqb map (plain + 128) ≡ map_fits map kind
-      unfolding map_fits
-      map-sense k = rw (lt-ltb kind 7 h, ne_eqb map (map_of_kind kind) (λ q. p (q ∙ sym e)), lamp-is ∙ not-false lamp k, e)
-
-module _ (map sense : ℕ) where
-  pub sense-none : map < 128 → true ≡ sense_fits map sense
-  sense-none h = rw (lt-leb 128 map h)
-
-  pub sense-zero : 128 ≤ map → sense < 1 → false ≡ sense_fits map sense
-  sense-zero h k = rw (le-leb 128 map h, lt-leb 1 sense k)
-
-  pub sense-some : 128 ≤ map → 1 ≤ sense → leb sense 3 ≡ sense_fits map sense
-  sense-some h k = rw (le-leb 128 map h, le-leb 1 sense k)
 
 -- the last three reasons, each with the tests before it passed
 module _ (map : ℕ) (v : Fields) {ok : Bool} (e : ok ≡ sense_fits map v.sense) where

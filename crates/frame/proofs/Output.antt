@@ -23,8 +23,8 @@ use Rattle.frame.specs.Writing.{contents, written, value_refusal, outcome_of, wr
 use Rattle.frame.specs.Inside.Steps.{head_bytes, field_bytes, body_bytes}
 use Rattle.frame.proofs.Presence.{HasHead, head-stands}
 use Rattle.frame.specs.declared.Frame.{Frame}
-use Rattle.std.specs.Prelude.{Result, Ok, Err}
-use Rattle.refusal.specs.Numbers.{refusal_number, number_in}
+use Rattle.std.specs.Prelude.{Ok, Err}
+use Rattle.refusal.specs.Numbers.{refusal_number}
 use Rattle.refusal.specs.declared.Refusal.{Refusal}
 use Rattle.refusal.specs.declared.Refusal.TheVariants.{NoRoom}
 use Rattle.refusal.proofs.Numbers.{refusal-some}
@@ -82,16 +82,6 @@ module _ (map bit : ℕ) {there : Bool} (e : there ≡ odd (map / bit)) (at : �
 
       pub field_put : {after : List ℕ} → after ≡ write at bytes m → Puts at (field_bytes map bit bytes) m after (at + n)
       field_put q = puts-as (record { position = rw size; output = q }) (sym field-present)
-
--- a field of one byte
-module _ (map bit : ℕ) {there : Bool} (e : there ≡ odd (map / bit)) (at : ℕ) (m : List ℕ) (byte : ℕ) (h : not there ≡ false) where
-  pub byte-room : at + length (field_bytes map bit (bytes_of 1 byte)) ≤ length m → at < length m
-  byte-room room = let enough = field_room map bit e at m (bytes_of 1 byte) h (length-bytes_of 1 byte) room in omega arith
-
-  pub byte_put : at + length (field_bytes map bit (bytes_of 1 byte)) ≤ length m → byte < 256
-      → Puts at (field_bytes map bit (bytes_of 1 byte)) m (set m at byte) (at + 1)
-  byte_put room small =
-      field_put map bit e at m (bytes_of 1 byte) h (length-bytes_of 1 byte) (set-write m at byte (byte-room room) ∙ rw (one_byte byte small))
 
 -- hour, origin, lamp and quantity
 module _ (map : ℕ) (message : Message) (at : ℕ) (m : List ℕ) (room : at + length (body_bytes map message) ≤ length m) where

@@ -1,5 +1,5 @@
 -- What a byte string is: a frame, or refused for the first reason that holds.
-use Rattle.std.specs.Prelude.{ℕ, ◌+◌, Bool, true, false, cond, ◌&&◌, ◌||◌, Result, Ok, Err, List, [], ◌∷◌, leb, ltb, eqb, length, get_or, replicate}
+use Rattle.std.specs.Prelude.{ℕ, ◌+◌, Bool, true, cond, ◌&&◌, ◌||◌, Result, Ok, Err, List, [], ◌∷◌, leb, ltb, eqb, length, get_or, replicate}
 use Rattle.buffer.specs.Number.{number_of}
 use Rattle.model.specs.Messages.{kind_of}
 use Rattle.model.specs.declared.Kind.TheVariants.{Start}

@@ -55,10 +55,7 @@ pub const RESTOCK_LENGTH: usize = QUANTITY_END;
 pub fn map_of_kind(kind: u8) -> u8
     ensures { result ≡ map_of_kind kind }
 {
-    if kind > 6 {
-        return 0;
-    }
-    MAPS[kind as usize]
+    MAPS.get(kind as usize).copied().unwrap_or(0)
 }
 
 // The bits of the fields that not every kind has, by their values in a map.
@@ -111,13 +108,11 @@ pub fn whole_length(map: u8) -> usize
 {
     let mut size: u32 = 1;
     let mut rest = map;
-    let mut bit = 0;
-    while bit < 8 {
+    for bit in 0..8 {
         if rest % 2 == 1 {
             size += width_of(bit) as u32;
         }
         rest = rest / 2;
-        bit += 1;
     }
     size as usize
 }

@@ -6,18 +6,12 @@ use Rattle.std.specs.Prelude.{Result, Ok, Err}
 use Rattle.refusal.specs.Numbers.{refusal_number}
 use Rattle.refusal.proofs.Numbers.{refusal-some}
 use Rattle.refusal.specs.declared.Refusal.{Refusal}
-use Rattle.refusal.specs.declared.Refusal.TheVariants.{NoFrame, BelowAgreedTime}
+use Rattle.refusal.specs.declared.Refusal.TheVariants.{BelowAgreedTime}
 use Prim.Native.Nat.{ℕ, ◌≤◌, ◌<◌}
-use native.Mathlib.Omega.{arith}
 use lib.Dec.{eqb}
 use lib.ListN.{length}
 use borrow.Author.Tests.{ne_eqb, lt-ltb, le-ltb}
 use Rattle.buffer.specs.Slice.{Bytes}
-use Rattle.model.specs.Messages.{kind_number, kind_of, origin_of, quantity_of}
-use Rattle.model.specs.declared.Message.{Message}
-use Rattle.model.proofs.Ordered.{kind-again}
-use Rattle.model.specs.declared.Kind.{Kind}
-use Rattle.model.specs.declared.Kind.TheVariants.{Failure, Request, Delivery, Restock, Start, Lvt, Update}
 use Rattle.frame.specs.Writing.{well_formed}
 use Rattle.frame.specs.Reasons.{reading, form_number, read_in}
 use Rattle.frame.specs.declared.Frame.{Frame}
@@ -30,8 +24,7 @@ use Rattle.memory.specs.Inside.Fits.{MessageFits}
 use Rattle.memory.specs.Records.{Gateway}
 use Rattle.memory.specs.declared.Header.{Header}
 use Rattle.gateway.specs.Effects.{Outcome, refused, settled}
-use Rattle.gateway.specs.Taking.{take_plain, take_cancel, take_acknowledgment}
-use Rattle.gateway.specs.Rounds.{take_start, take_lvt, take_update}
+use Rattle.gateway.specs.Taking.{take_cancel, take_acknowledgment}
 use Rattle.gateway.specs.Calls.{CallResult, left, leaving, unless_below, by_carrier, take_by_kind, take_for, take_frame, take_bytes, taken, on_sound}
 use Rattle.gateway.specs.Inside.Premises.{Known}
 use Rattle.gateway.specs.Answers.{Answer, answer_of}
@@ -79,50 +72,6 @@ module _ (m after output : List ℕ) (room : ℕ) (f : Frame) (g : Gateway) (r :
       → left (answer_of r) after output ≡ leaving (take_frame room f g) m output
   unfolding take_frame
   sense-cancel-acknowledgment e p = p output ∙ rw e
-
--- a plain frame by its kind
-module _ (room : ℕ) (x : Message) (g : Gateway) where
-  event-kind : (k : Kind) → kind_number k ≤ 2 → take_by_kind room x g k ≡ unless_below x.hour g (settled room g (take_plain x g))
-  event-kind (Failure origin) h = refl
-  event-kind (Request origin) h = refl
-  event-kind (Delivery origin) h = refl
-  event-kind (Restock quantity) h = absurd (omega (arith, h))
-  event-kind Start h = absurd (omega (arith, h))
-  event-kind Lvt h = absurd (omega (arith, h))
-  event-kind Update h = absurd (omega (arith, h))
-
-  restock-kind : (k : Kind) → 2 < kind_number k → (kind_number k ≡ 4 → ⊥) → (kind_number k ≡ 5 → ⊥) → (kind_number k ≡ 6 → ⊥) → take_by_kind room x g k ≡ refused 1 g
-  restock-kind (Failure origin) h a b c = absurd (omega (arith, h))
-  restock-kind (Request origin) h a b c = absurd (omega (arith, h))
-  restock-kind (Delivery origin) h a b c = absurd (omega (arith, h))
-  restock-kind (Restock quantity) h a b c = refl
-  restock-kind Start h a b c = absurd (a refl)
-  restock-kind Lvt h a b c = absurd (b refl)
-  restock-kind Update h a b c = absurd (c refl)
-
-module _ (m output : List ℕ) (room : ℕ) (x : Message) (g : Gateway) {n : ℕ} (is : n ≡ kind_number x.kind) where
-  pub kind-restock : 2 < kind_number x.kind → (n ≡ 4 → ⊥) → (n ≡ 5 → ⊥) → (n ≡ 6 → ⊥)
-      → left (answer_of (Err NoFrame)) m output ≡ leaving (take_by_kind room x g x.kind) m output
-  kind-restock h a b c = leaves-refused m output g NoFrame ∙ rw (restock-kind room x g x.kind h (λ e. a (is ∙ e)) (λ e. b (is ∙ e)) (λ e. c (is ∙ e)))
-
-  -- the kind with that number
-  named : {k : ℕ} → n ≡ k → x.kind ≡ kind_of k (origin_of x.kind) (quantity_of x.kind)
-  named e = sym (kind-again x.kind) ∙ rw (sym is ∙ e)
-
-  module _ {l : CallResult Answer} where
-    pub kind-event : n ≤ 2 → l ≡ leaving (unless_below x.hour g (settled room g (take_plain x g))) m output → l ≡ leaving (take_by_kind room
-        x g x.kind) m output
-    kind-event h p = p ∙ rw (event-kind room x g x.kind (rw (← is) h))
-
-    pub kind-start : n ≡ 4 → l ≡ leaving (take_start room x.from g) m output → l ≡ leaving (take_by_kind room x g x.kind) m output
-    kind-start e p = p ∙ rw (named e)
-
-    pub kind-lvt : n ≡ 5 → l ≡ leaving (unless_below x.hour g (take_lvt room x.from x.hour g)) m output → l ≡ leaving (take_by_kind
-        room x g x.kind) m output
-    kind-lvt e p = p ∙ rw (named e)
-
-    pub kind-update : n ≡ 6 → l ≡ leaving (take_update room x.from x.hour g) m output → l ≡ leaving (take_by_kind room x g x.kind) m output
-    kind-update e p = p ∙ rw (named e)
 
 -- the number of the checks before
 module _ (m output : List ℕ) (x : Outcome) (g : Gateway) {wanted : ℕ} where

@@ -3,14 +3,12 @@
 
 ghost use Rattle.std.specs.Prelude.{◌≡◌, Bool, ◌+◌, ◌<◌, ◌≤◌, length, get_or};
 ghost use Rattle.buffer.specs.Slice.{part};
-ghost use Rattle.buffer.specs.Number.{number_of};
 ghost use Rattle.frame.specs.Layout.{widths, whole_length};
 ghost use Rattle.frame.specs.Reasons.{reading, read_in, fields_reading, fields_of, frame_of};
 ghost use Rattle.frame.specs.Inside.Steps.{stored, no_fields};
 
-use buffer::{read16, read32};
+use buffer::{Number, array_at};
 use frame::forms::FormError;
-use frame::lamps::read_lamp;
 use frame::tables::{sense_of, whole_length, width_of};
 use frame::{Fields, Frame};
 use model::{Message, kind_of};
@@ -67,7 +65,8 @@ fn judge(map: u8, fields: Fields) -> Result<Frame, FormError>
     Ok(frame)
 }
 
-// Reads as many fields as the map has one bits, in bit order.
+// Reads as many fields as the map has one bits, in bit order. The one bits are counted first, and the loop ends behind the last of them:
+// so the number of fields follows from the count, as the layout says, and not from the number of bits.
 fn walk(bytes: &[u8], map: u8) -> Fields
     requires { (map ≡ get_or bytes.now 0 0) × (length bytes.now ≡ whole_length map) }
     ensures { result ≡ fields_of bytes.now }
@@ -111,27 +110,16 @@ fn store(bytes: &[u8], at: usize, bit: usize, fields: Fields) -> Fields
 {
     let mut next = fields;
     match bit {
-        0 => next.kind = read8(bytes, at),
-        1 => next.from = read8(bytes, at),
-        2 => next.to = read8(bytes, at),
-        3 => next.hour = read32(bytes, at),
-        4 => next.origin = read8(bytes, at),
-        5 => {
-            let lamp = read_lamp(bytes, at);
-            next.lamp = lamp;
-        }
-        6 => next.quantity = read16(bytes, at),
-        _ => next.sense = read8(bytes, at),
+        0 => next.kind = u8::read(bytes, at),
+        1 => next.from = u8::read(bytes, at),
+        2 => next.to = u8::read(bytes, at),
+        3 => next.hour = u32::read(bytes, at),
+        4 => next.origin = u8::read(bytes, at),
+        5 => next.lamp = array_at(bytes, at),
+        6 => next.quantity = u16::read(bytes, at),
+        _ => next.sense = u8::read(bytes, at),
     }
     next
-}
-
-// The number in the byte at a position.
-fn read8(bytes: &[u8], at: usize) -> u8
-    requires { at + 1 ≤ length bytes.now }
-    ensures { result ≡ number_of (part bytes.now at 1) }
-{
-    bytes[at]
 }
 
 fn frame_of(fields: Fields) -> Frame

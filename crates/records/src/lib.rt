@@ -12,8 +12,8 @@ ghost use Rattle.records.specs.Events.{state_size_of, is_event, frame_refusal, e
 ghost use Rattle.records.specs.declared.StockField.TheVariants.{Present, Old};
 ghost use Rattle.records.specs.Inside.Finding.{event_at, Finds, length_of_kind, weight_of, numbered, passed_in, passed_as, good_with_lamp, good_restock, good_gateways};
 
-use buffer::Number;
-use frame::lamps::{LAMP_END, LAMP_PLACE, read_lamp};
+use buffer::{Number, array_at};
+use frame::lamps::{LAMP_END, LAMP_PLACE};
 use frame::pieces::frame_end;
 use frame::tables::{HOUR_PLACE, ORIGIN_PLACE, QUANTITY_END};
 use frame::{Frame, Sense};
@@ -227,7 +227,7 @@ fn good_with_lamp(frame: &[u8]) -> bool
             kind_of(frame[1], frame[ORIGIN_PLACE], 0),
         )
         && u32::read(frame, HOUR_PLACE) <= LATEST_HOUR
-        && all_between(read_lamp(frame, LAMP_PLACE), 33, 126)
+        && all_between(array_at(frame, LAMP_PLACE), 33, 126)
 }
 
 #[tactic(auto, unfolding(crate::specs::Inside::Finding::good_restock))]

@@ -9,7 +9,7 @@ ghost use Rattle.buffer.specs.Number.{bytes_of};
 ghost use Rattle.frame.specs.Writing.{outcome_of, writing, written};
 ghost use Rattle.frame.specs.Inside.Steps.{head_bytes, field_bytes, body_bytes};
 
-use buffer::{copy, write16, write32};
+use buffer::{Number, copy};
 use frame::Frame;
 use frame::tables::{
     HOUR, LAMP, ORIGIN, QUANTITY, SENSE, WIDTHS, map_of, sense_number, stands, whole_length,
@@ -38,7 +38,7 @@ pub fn put(out: &mut [u8], at: usize, frame: Frame) -> usize
     let map = map_of(frame);
     let behind_head = put_head(out, at, map, frame.message);
     let behind_body = put_body(out, behind_head, map, frame.message);
-    put_byte(out, behind_body, SENSE, map, sense_number(frame.sense))
+    put_number(out, behind_body, SENSE, map, sense_number(frame.sense))
 }
 
 // Map, kind, from and to.
@@ -61,34 +61,22 @@ fn put_body(out: &mut [u8], at: usize, map: u8, message: Message) -> usize
     requires { at + length (body_bytes map message) ≤ length out.old }
     ensures { Puts at (body_bytes map message) out.old out.new result }
 {
-    let behind_hour = put_hour(out, at, map, message.hour);
-    let behind_origin = put_byte(out, behind_hour, ORIGIN, map, origin_of(message.kind));
+    let behind_hour = put_number(out, at, HOUR, map, message.hour);
+    let behind_origin = put_number(out, behind_hour, ORIGIN, map, origin_of(message.kind));
     let behind_lamp = put_lamp(out, behind_origin, map, message.lamp);
-    put_quantity(out, behind_lamp, map, quantity_of(message.kind))
+    put_number(out, behind_lamp, QUANTITY, map, quantity_of(message.kind))
 }
 
-// The hour, where it stands in the map.
-fn put_hour(out: &mut [u8], at: usize, map: u8, hour: u32) -> usize
-    requires { at + length (field_bytes map 8 (bytes_of 4 hour)) ≤ length out.old }
-    ensures { Puts at (field_bytes map 8 (bytes_of 4 hour)) out.old out.new result }
-{
-    if !stands(HOUR, map) {
-        return at;
-    }
-    write32(out, at, hour);
-    at + WIDTHS.hour
-}
-
-// A field of one byte, where its bit stands in the map.
-fn put_byte(out: &mut [u8], at: usize, bit: u8, map: u8, byte: u8) -> usize
-    requires { (0 < bit) × (at + length (field_bytes map bit (bytes_of 1 byte)) ≤ length out.old) }
-    ensures { Puts at (field_bytes map bit (bytes_of 1 byte)) out.old out.new result }
+// A field that is a number, where its bit stands in the map.
+fn put_number<T: Number>(out: &mut [u8], at: usize, bit: u8, map: u8, number: T) -> usize
+    requires { (0 < bit) × (at + length (field_bytes map bit (bytes_of T.WIDTH (T.value number))) ≤ length out.old) }
+    ensures { Puts at (field_bytes map bit (bytes_of T.WIDTH (T.value number))) out.old out.new result }
 {
     if !stands(bit, map) {
         return at;
     }
-    out[at] = byte;
-    at + 1
+    number.write(out, at);
+    at + T::WIDTH
 }
 
 // The lamp, where it stands in the map.
@@ -101,16 +89,4 @@ fn put_lamp(out: &mut [u8], at: usize, map: u8, lamp: [u8; 18]) -> usize
     }
     copy(out, at, &lamp);
     at + WIDTHS.lamp
-}
-
-// The quantity, where it stands in the map.
-fn put_quantity(out: &mut [u8], at: usize, map: u8, quantity: u16) -> usize
-    requires { at + length (field_bytes map 64 (bytes_of 2 quantity)) ≤ length out.old }
-    ensures { Puts at (field_bytes map 64 (bytes_of 2 quantity)) out.old out.new result }
-{
-    if !stands(QUANTITY, map) {
-        return at;
-    }
-    write16(out, at, quantity);
-    at + WIDTHS.quantity
 }

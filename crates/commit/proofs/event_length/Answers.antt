@@ -1,9 +1,12 @@
 -- `commit::event_length` meets its contract.
-use Rattle.commit.proofs.Recording.{length-of-restock, length-of-others}
+use mathlib.Core.Path.{refl, sym}
+use Rattle.model.specs.declared.Kind.TheVariants.{Restock}
+use Rattle.frame.proofs.Sizes.{restock-length}
+use Rattle.commit.proofs.Recording.{length-of-others}
 use Rattle.commit.proofs.event_length.Goals as goal
 
-pub returns-then-kind_number-eq3 : goal.returns-then-kind_number-eq3
-returns-then-kind_number-eq3 c = search length-of-restock
+pub returns-in-Restock : goal.returns-in-Restock
+returns-in-Restock c = rw c.in-Restock.is (sym (restock-length (Restock c.in-Restock.quantity) refl))
 
-pub returns : goal.returns
-returns c = search length-of-others
+pub returns-in_default : goal.returns-in_default
+returns-in_default c = length-of-others c.args.kind c.requires c.in_default.not-Restock

@@ -4,8 +4,8 @@ use Rattle.std.proofs.Common.{rules}
 use Rattle.frame.proofs.Walking.{last_bit, lamp-bytes}
 use Rattle.reader.proofs.store.Goals as goal
 
-pub read8-requires-in_default : goal.read8-requires-in_default
-read8-requires-in_default c =
+pub read-requires-in_default : goal.read-requires-in_default
+read-requires-in_default c =
     let last : c.args.bit ≡ 7 = search last_bit in
     rw last at c.requires.1
 

@@ -9,8 +9,8 @@ put_head-behind_head-requires c = search head-room
 pub put_body-behind_body-requires : goal.put_body-behind_body-requires
 put_body-behind_body-requires c = search body-room
 
-pub put_byte-requires : goal.put_byte-requires
-put_byte-requires c = (
+pub put_number-requires : goal.put_number-requires
+put_number-requires c = (
   omega arith,
   tail-room c.args.frame _ _ c.requires c.map_of-map.ensures c.put_head-behind_head.ensures c.put_head-behind_head.auto.out
       c.put_body-behind_body.ensures c.put_body-behind_body.auto.out c.sense_number.ensures,
@@ -19,4 +19,4 @@ put_byte-requires c = (
 pub returns : goal.returns
 returns c =
     frame-put c.args.frame _ _ c.requires c.map_of-map.ensures c.put_head-behind_head.ensures c.put_head-behind_head.auto.out
-    c.put_body-behind_body.ensures c.put_body-behind_body.auto.out c.sense_number.ensures c.put_byte.ensures
+    c.put_body-behind_body.ensures c.put_body-behind_body.auto.out c.sense_number.ensures c.put_number.ensures
