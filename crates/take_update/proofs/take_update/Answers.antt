@@ -7,7 +7,7 @@ use Rattle.take_update.proofs.take_update.Goals as goal
 
 pub returns-then-settings-eq0 : goal.returns-then-settings-eq0
 returns-then-settings-eq0 c = elim c.then-settings-eq0.branch [
-  then-settings-eq0-via-then-settings-eq0 w ↦ update-at-root _ _ c.requires _ _ _ (omega (arith, w.if-settings-eq0.true))
+  | then-settings-eq0-via-then-settings-eq0 w ↦ update-at-root _ _ c.requires _ _ _ (omega (arith, w.if-settings-eq0.true))
   | then-settings-eq0-via-else-settings-eq0+then-k-settings w ↦
       let own = w.if-settings-eq0.false in update-elsewhere _ _ c.requires _ _ _ (omega arith) w.if-k-settings.true
 ]
