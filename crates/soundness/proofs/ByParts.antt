@@ -2,10 +2,11 @@
 use mathlib.Core.Path.{◌≡◌, refl, sym, ◌∙◌}
 use Prim.Native.Nat.{ℕ, ◌<◌, ◌≤◌}
 use native.Mathlib.Nat.{add-zero}
-use mathlib.Core.Bool.{Bool, true, false, ◌&&◌, and-false}
+use mathlib.Core.Bool.{Bool, true, false, not, ◌&&◌, and-false}
 use mathlib.Core.List.{List}
 use Rattle.std.specs.Prelude.{Err}
 use Rattle.refusal.specs.declared.Refusal.TheVariants.{NotSound}
+use lib.Dec.{leb}
 use lib.ListN.{length, get_or}
 use borrow.Author.Tests.{leb-true, le-leb, lt-leb}
 use Rattle.lists.specs.Lists.{every}
@@ -18,7 +19,7 @@ use Rattle.memory.specs.Soundness.{entry_exact, sent_exact, sound}
 use Rattle.soundness.specs.Inside.Passes.{header_sound, queue_sound, outstanding_sound}
 use Rattle.memory.specs.declared.Header.{Header}
 use Rattle.memory.specs.Inside.Checking.{checked_as}
-use Rattle.memory.proofs.Chains.{told}
+use Rattle.memory.proofs.Chains.{refuted, granted, above, within}
 use Rattle.memory.proofs.Validated.{ValidSettings, settings-facts, facts-settings}
 use Rattle.lists.proofs.BoolLaws.{and_left, and_right}
 use Rattle.memory.proofs.SoundMemory.{Sound, sound-facts}
@@ -63,8 +64,8 @@ header_of m s =
     )
     (le-leb h.outstanding h.settings.u s.sent)
 
-pub header-facts : (m : List ℕ) {h : Header} {ok : Bool} → h ≡ header_at m → ok ≡ header_sound m → ok ≡ true → HeaderFacts h (length m)
-header-facts m e p k = rw e (facts_at m (told p k))
+pub header-facts : (m : List ℕ) {h : Header} {ok : Bool} → h ≡ header_at m → ok ≡ header_sound m → not ok ≡ false → HeaderFacts h (length m)
+header-facts m e p k = rw e (facts_at m (granted p k))
 
 regrouped : (ee se r ev o pf nm sv hd ss : Bool)
     → ((ee && se) && (((((((r && ev) && o) && pf) && nm) && sv) && hd) && ss))
@@ -136,25 +137,66 @@ module _ (m : List ℕ) where
   checked-short l = rw (← sound-short l)
 
   module _ {h : Header} {ok : Bool} (e : h ≡ header_at m) (p : ok ≡ header_sound m) where
-    pub sound-header : ok ≡ false → false ≡ sound m
+    pub sound-header : not ok ≡ true → false ≡ sound m
     sound-header k = by-case (sound m) refl
       where
         by-case : (b : Bool) → sound m ≡ b → false ≡ b
-        by-case true h = sym (told p k) ∙ header_of m (sound-facts m h)
+        by-case true h = sym (refuted p k) ∙ header_of m (sound-facts m h)
         by-case false h = refl
 
-    module _ (k : ok ≡ true) {round : Bool} (r : round ≡ round_possible h.settings h.round) where
+    module _ (k : not ok ≡ false) {round : Bool} (r : round ≡ round_possible h.settings h.round) where
       whole : sound m
           ≡ (round_possible h.settings h.round
           && (queue_sound h.settings h.state.stock m h.queued && outstanding_sound h.settings m (queue_at h.settings.q) h.outstanding))
-      whole = rw (← add-zero (queue_at h.settings.q), e) (by_parts m (told p k))
+      whole = rw (← add-zero (queue_at h.settings.q), e) (by_parts m (granted p k))
 
-      pub sound-round : round ≡ false → false ≡ sound m
-      sound-round f = sym (whole ∙ rw (told r f))
+      pub sound-round : not round ≡ true → false ≡ sound m
+      sound-round f = sym (whole ∙ rw (refuted r f))
 
-      module _ (f : round ≡ true) {queue : Bool} (q : queue ≡ queue_sound h.settings h.state.stock m h.queued) where
-        pub sound-queue : queue ≡ false → false ≡ sound m
-        sound-queue g = sym (whole ∙ rw (told r f, told q g))
+      module _ (f : not round ≡ false) {queue : Bool} (q : queue ≡ queue_sound h.settings h.state.stock m h.queued) where
+        pub sound-queue : not queue ≡ true → false ≡ sound m
+        sound-queue g = sym (whole ∙ rw (granted r f, refuted q g))
 
-        pub sound-decided : {x : Bool} → queue ≡ true → x ≡ outstanding_sound h.settings m (queue_at h.settings.q) h.outstanding → x ≡ sound m
-        sound-decided g o = o ∙ sym (whole ∙ rw (told r f, told q g))
+        pub sound-decided : {x : Bool} → not queue ≡ false → x ≡ outstanding_sound h.settings m (queue_at h.settings.q) h.outstanding → x ≡ sound m
+        sound-decided g o = o ∙ sym (whole ∙ rw (granted r f, granted q g))
+
+-- the header's tests, each with those before it passed
+module _ (m : List ℕ) {h : Header} (long : header_size ≤ length m) (e : h ≡ header_at m) {ok : Bool} (p : ok ≡ settings_valid h.settings) where
+  pub settings-refused : not ok ≡ true → false ≡ header_sound m
+  unfolding header_sound
+  settings-refused k = rw (← e, le-leb header_size (length m) long, refuted p k)
+
+  module _ (k : not ok ≡ false) {size : ℕ} (z : size ≡ size_for h.settings.q h.settings.u) where
+    pub too_short : length m < size → false ≡ header_sound m
+    unfolding header_sound
+    too_short l = rw (← e, le-leb header_size (length m) long, granted p k, above (length m) z l)
+
+    module _ (l : size ≤ length m) where
+      pub no-phase : 2 < get_or m 3 0 → false ≡ header_sound m
+      unfolding header_sound
+      no-phase f = rw (← e, le-leb header_size (length m) long, granted p k, within (length m) z l, lt-leb (get_or m 3 0) 2 f)
+
+      module _ (f : get_or m 3 0 ≤ 2) where
+        pub too-many-queued : h.settings.q < h.queued → false ≡ header_sound m
+        unfolding header_sound
+        too-many-queued q = rw (
+          ← e,
+          le-leb header_size (length m) long,
+          granted p k,
+          within (length m) z l,
+          le-leb (get_or m 3 0) 2 f,
+          lt-leb
+              h.queued h.settings.q q,
+        )
+
+        pub header-decided : h.queued ≤ h.settings.q → leb h.outstanding h.settings.u ≡ header_sound m
+        unfolding header_sound
+        header-decided q = rw (
+          ← e,
+          le-leb header_size (length m) long,
+          granted p k,
+          within (length m) z l,
+          le-leb (get_or m 3 0) 2 f,
+          le-leb
+              h.queued h.settings.q q,
+        )

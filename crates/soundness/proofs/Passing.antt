@@ -1,6 +1,6 @@
 -- The two passes over the used places: one test after the other at each place is the same as each test at all places.
 use mathlib.Core.Path.{◌≡◌, refl, sym, ◌∙◌, ap}
-use Prim.Native.Nat.{ℕ, zero, suc, ◌+◌, ◌-◌, ◌*◌, ◌<◌, ◌≤◌, max}
+use Prim.Native.Nat.{ℕ, zero, suc, ◌+◌, ◌-◌, ◌<◌, ◌≤◌, max}
 use native.Mathlib.Nat.{add-zero, zero-add, add_assoc}
 use native.Mathlib.Omega.{arith}
 use mathlib.Core.Bool.{Bool, true, false, not, cond, ◌&&◌, ◌||◌, and_assoc, and-false}
@@ -14,9 +14,9 @@ use Rattle.buffer.specs.Slice.{Bytes, part, same_bytes}
 use Rattle.memory.specs.Layout.{header_size, outstanding_size, queue_size, queue_at}
 use Rattle.memory.specs.Codec.{entry_bytes, entry_of, sent_bytes, sent_of, places_at}
 use Rattle.memory.specs.Validity.{is_pending, is_processed, is_waiting, equal, later, ordered, processed_first, meet, none_meet, entry_valid, sent_valid}
-use Rattle.memory.specs.Validity.{brings, still_brings, saved_stocks_bounded}
+use Rattle.memory.specs.Validity.{processed_mark, brings, still_brings, saved_stocks_bounded}
 use Rattle.memory.specs.Soundness.{entry_exact, sent_exact}
-use Rattle.soundness.specs.Inside.Passes.{most_brought, passed_on, stocks_fit, entry_accepted, queue_sound, outstanding_sound}
+use Rattle.soundness.specs.Inside.Passes.{most_brought, higher_with, passed_on, stocks_fit, entry_accepted, queue_sound, outstanding_sound}
 use Rattle.soundness.specs.declared.Passed.{Passed}
 use Rattle.memory.specs.declared.Settings.{Settings}
 use Rattle.memory.specs.declared.Entry.{Entry}
@@ -28,7 +28,7 @@ use Rattle.memory.proofs.FromBytes.{read_all, entry-fits}
 use Rattle.lists.proofs.ListLaws.{all-each, tally-most}
 use Rattle.memory.specs.Inside.Fits.{EntryFits}
 use Rattle.memory.proofs.EventLaws.{not-later-self}
-use Rattle.memory.proofs.Chains.{told}
+use Rattle.memory.proofs.Chains.{refuted, granted}
 
 -- tests regrouped
 swap : (a b c d : Bool) → ((a && b) && (c && d)) ≡ ((a && c) && (b && d))
@@ -118,6 +118,37 @@ stocks-step stock p e es few = by-case (is_processed e)
         )
         (and_assoc a c (saved && held) ∙ ap (◌&&◌ a) (sym (and_assoc c saved held)))
     by-case false = rw (add_assoc p.brought (brings e) (tally brings es), add_assoc p.still (still_brings e) (tally still_brings es))
+
+-- what the code adds up and compares, a place at a time and at the end
+module _ (more : Bool) (sum quantity : ℕ) where
+  pub one_more : more ≡ true → sum + quantity ≡ sum + cond more quantity 0
+  one_more h = rw h
+
+  pub none_more : more ≡ false → sum ≡ sum + cond more quantity 0
+  none_more h = rw (h, add-zero sum)
+
+module _ (p : Passed) (e : Entry) {processed : Bool} (q : processed ≡ processed_mark e.mark) where
+  pub none-saved : not processed ≡ true → p.highest ≡ higher_with p e
+  none-saved h = rw (refuted q h)
+
+  module _ (h : not processed ≡ false) where
+    pub now-highest : p.highest < e.before.stock + (most_brought - p.brought) → e.before.stock + (most_brought - p.brought) ≡ higher_with p e
+    now-highest l = rw (granted q h) (omega arith)
+
+    pub still-highest : e.before.stock + (most_brought - p.brought) ≤ p.highest → p.highest ≡ higher_with p e
+    still-highest l = rw (granted q h) (omega arith)
+
+module _ (p : Passed) (stock : ℕ) (few : p.brought ≤ most_brought) (fewer : p.still ≤ p.brought) where
+  pub saved-too-high : 67173375 - p.brought < p.highest → false ≡ stocks_fit p stock
+  saved-too-high l = rw (lt-leb (p.highest + p.brought) (most_stock + most_brought) (omega arith))
+
+  pub held-decides : p.highest ≤ 67173375 - p.brought → leb stock (most_stock - p.still) ≡ stocks_fit p stock
+  held-decides l =
+      rw (le-leb (p.highest + p.brought) (most_stock + most_brought) (omega arith))
+      (sym (ap (leb (stock + p.still)) whole ∙ leb-both (stock + p.still) stock (most_stock - p.still) p.still refl))
+    where
+      whole : most_stock ≡ most_stock - p.still + p.still
+      whole = omega arith
 
 -- the queue's pass, behind an entry
 unfoldable pub passed : Settings → ℕ → Entry → Passed → List (List ℕ) → Bool
@@ -226,16 +257,16 @@ module _ (s : Settings) (stock : ℕ) (m : List ℕ) (at left : ℕ) (p : Passed
     unfolding passed
     by_place = so_far ∙ rw (next_place (λ b. b) queue_size m at left some, read_as)
 
-    pub queue-place : exact ≡ false → false ≡ whole
-    queue-place h = sym (by_place ∙ rw (told exact-as h))
+    pub queue-place : not exact ≡ true → false ≡ whole
+    queue-place h = sym (by_place ∙ rw (refuted exact-as h))
 
-    module _ (h : exact ≡ true) {fits : Bool} (f : fits ≡ entry_accepted s before p e) where
-      pub queue-entry : fits ≡ false → false ≡ whole
-      queue-entry k = sym (by_place ∙ rw (told exact-as h, told f k))
+    module _ (h : not exact ≡ false) {fits : Bool} (f : fits ≡ entry_accepted s before p e) where
+      pub queue-entry : not fits ≡ true → false ≡ whole
+      queue-entry k = sym (by_place ∙ rw (granted exact-as h, refuted f k))
 
-      pub queue-turn : {next : Passed} → fits ≡ true → next ≡ passed_on p e
+      pub queue-turn : {next : Passed} → not fits ≡ false → next ≡ passed_on p e
           → whole ≡ passed s stock e next (places_at (λ b. b) queue_size m (at + queue_size) (left - 1))
-      queue-turn k n = by_place ∙ rw (told exact-as h, told f k, n)
+      queue-turn k n = by_place ∙ rw (granted exact-as h, granted f k, n)
 
 -- the outstanding places' pass
 unfoldable pub all_sent : Settings → List (List ℕ) → Bool
@@ -274,45 +305,12 @@ module _ (s : Settings) (m : List ℕ) (at left : ℕ) {whole : Bool}
     unfolding all_sent
     by-sent = so_far ∙ rw (next_place (λ b. b) outstanding_size m at left some, sent-read)
 
-    pub sent-place : exact ≡ false → false ≡ whole
-    sent-place h = sym (by-sent ∙ rw (told sent-same h))
+    pub sent-place : not exact ≡ true → false ≡ whole
+    sent-place h = sym (by-sent ∙ rw (refuted sent-same h))
 
-    module _ (h : exact ≡ true) {ok : Bool} (f : ok ≡ sent_valid s x) where
-      pub sent-refused : ok ≡ false → false ≡ whole
-      sent-refused k = sym (by-sent ∙ rw (told sent-same h, told f k))
+    module _ (h : not exact ≡ false) {ok : Bool} (f : ok ≡ sent_valid s x) where
+      pub sent-refused : not ok ≡ true → false ≡ whole
+      sent-refused k = sym (by-sent ∙ rw (granted sent-same h, refuted f k))
 
-      pub sent-turn : ok ≡ true → whole ≡ all_sent s (places_at (λ b. b) outstanding_size m (at + outstanding_size) (left - 1))
-      sent-turn k = by-sent ∙ rw (told sent-same h, told f k)
-
--- the position and the number of the places from the first on, and behind place k
-pub sent-first : (s : Settings) (m : List ℕ) (start count : ℕ)
-    → outstanding_sound s m start count ≡ all_sent s (places_at (λ b. b) outstanding_size m (start + 0) (count - 0))
-sent-first s m start count =
-    let left : count - 0 ≡ count = omega arith in
-    rw (add-zero start, left) (outstanding-passed s m start count)
-
-pub sent-next : (s : Settings) (m : List ℕ) (start count k : ℕ) {whole : Bool} → k < count
-    → whole ≡ all_sent s (places_at (λ b. b) outstanding_size m (start + outstanding_size * k + outstanding_size) (count - k - 1))
-    → whole ≡ all_sent s (places_at (λ b. b) outstanding_size m (start + outstanding_size * (k + 1)) (count - (k + 1)))
-sent-next s m start count k less e =
-    let at : start + outstanding_size * (k + 1) ≡ start + outstanding_size * k + outstanding_size = omega arith in
-    let left : count - (k + 1) ≡ count - k - 1 = omega arith in
-    rw (at, left) e
-
--- the queue's position and number of places from the first on, and behind place k
-pub queue-first : (s : Settings) (stock : ℕ) (m : List ℕ) (count : ℕ) {e : Entry} → brought m header_size count ≤ most_brought
-    → e ≡ entry_of (take queue_size (drop header_size m))
-    → Bounded m (header_size + 0) (count - 0) none_passed × (queue_sound s stock m count ≡ passed s stock e none_passed (places_at (λ b. b) queue_size m (header_size + 0) (count - 0)))
-queue-first s stock m count few d =
-    let left : count - 0 ≡ count = omega arith in
-    rw (add-zero header_size, left) (bounded-start m count few, queue-start s stock m count few d)
-
-module _ (s : Settings) (stock : ℕ) (m : List ℕ) (count k : ℕ) (p : Passed) (e : Entry) where
-  pub queue-next : {whole : Bool} → k < count → Bounded m (header_size + queue_size * k + queue_size) (count - k - 1) p
-      → whole ≡ passed s stock e p (places_at (λ b. b) queue_size m (header_size + queue_size * k + queue_size) (count - k - 1))
-      → Bounded m (header_size + queue_size * (k + 1)) (count - (k + 1)) p
-      × (whole ≡ passed s stock e p (places_at (λ b. b) queue_size m (header_size + queue_size * (k + 1)) (count - (k + 1))))
-  queue-next less b w =
-      let at : header_size + queue_size * (k + 1) ≡ header_size + queue_size * k + queue_size = omega arith in
-      let left : count - (k + 1) ≡ count - k - 1 = omega arith in
-      rw (at, left) (b, w)
+      pub sent-turn : not ok ≡ false → whole ≡ all_sent s (places_at (λ b. b) outstanding_size m (at + outstanding_size) (left - 1))
+      sent-turn k = by-sent ∙ rw (granted sent-same h, granted f k)

@@ -57,24 +57,40 @@ fn all_sound(memory: &[u8], header: Header) -> bool
     ensures { result ≡ sound memory.now }
 {
     let settings = header.settings;
-    let start = HEADER_SIZE + QUEUE_SIZE * (settings.q as usize);
-    header_sound(memory, header)
-        && round_possible(settings, header.round)
-        && queue_sound(memory, settings, header.state.stock, header.queued as usize)
-        && outstanding_sound(memory, settings, start, header.outstanding as usize)
+    let round = header.round;
+    if !header_sound(memory, header) {
+        return false;
+    }
+    if !round_possible(settings, round) {
+        return false;
+    }
+    let state = header.state;
+    if !queue_sound(memory, settings, state.stock, header.queued as usize) {
+        return false;
+    }
+    let at = HEADER_SIZE + QUEUE_SIZE * (settings.q as usize);
+    outstanding_sound(memory, settings, at, header.outstanding as usize)
 }
 
 // Whether settings, the memory's length for them, phase and counts are possible.
-#[tactic(auto, unfolding(crate::specs::Inside::Passes::header_sound))]
 fn header_sound(memory: &[u8], header: Header) -> bool
     requires { (header_size ≤ length memory.now) × (header ≡ header_at memory.now) }
     ensures { result ≡ header_sound memory.now }
 {
-    settings_valid(header.settings)
-        && memory.len() >= size_for(header.settings)
-        && memory[3] <= 2
-        && header.queued <= header.settings.q
-        && header.outstanding <= header.settings.u
+    let settings = header.settings;
+    if !settings_valid(settings) {
+        return false;
+    }
+    if memory.len() < size_for(settings) {
+        return false;
+    }
+    if memory[3] > 2 {
+        return false;
+    }
+    if header.queued > settings.q {
+        return false;
+    }
+    header.outstanding <= settings.u
 }
 
 // One pass: each place in its one form, and its entry valid and rightly placed behind the one before it. The first entry has
@@ -90,8 +106,9 @@ fn queue_sound(memory: &[u8], settings: Settings, stock: u32, count: usize) -> b
         still: 0,
         highest: 0,
     };
-    for k in 0..count {
-        let at = HEADER_SIZE + QUEUE_SIZE * k;
+    let mut at = HEADER_SIZE;
+    let mut left = count;
+    while left > 0 {
         let end = at + QUEUE_SIZE;
         let place = &memory[at..end];
         let entry = entry_of(place);
@@ -103,6 +120,8 @@ fn queue_sound(memory: &[u8], settings: Settings, stock: u32, count: usize) -> b
         }
         passed = pass(passed, entry);
         before = entry;
+        at += QUEUE_SIZE;
+        left -= 1;
     }
     stocks_fit(passed, stock)
 }
@@ -112,17 +131,27 @@ fn pass(passed: Passed, entry: Entry) -> Passed
     requires { (passed.brought + brings entry ≤ most_brought) × (passed.still ≤ passed.brought) }
     ensures { result ≡ passed_on passed entry }
 {
-    let quantity = quantity_of(entry.message.kind) as u32;
+    let mark = entry.mark;
+    let message = entry.message;
+    let kind = message.kind;
+    let quantity = quantity_of(kind) as u32;
     Passed {
-        pending: pending_seen(passed.pending, entry.mark),
+        pending: pending_seen(passed.pending, mark),
         brought: passed.brought + quantity,
-        still: if is_pending(entry.mark) {
-            passed.still + quantity
-        } else {
-            passed.still
-        },
+        still: added_if(is_pending(mark), passed.still, quantity),
         highest: higher(passed, entry),
     }
+}
+
+// A sum with a quantity more, or as it was.
+fn added_if(more: bool, sum: u32, quantity: u32) -> u32
+    requires { sum + quantity ≤ most_brought }
+    ensures { result ≡ sum + cond more quantity 0 }
+{
+    if more {
+        return sum + quantity;
+    }
+    sum
 }
 
 // The highest of the stocks saved, this entry's included.
@@ -130,12 +159,16 @@ fn higher(passed: Passed, entry: Entry) -> u64
     requires { passed.brought ≤ most_brought }
     ensures { result ≡ higher_with passed entry }
 {
-    let saved = (entry.before.stock as u64) + ((MOST_BROUGHT - passed.brought) as u64);
-    if is_processed(entry.mark) {
-        passed.highest.max(saved)
-    } else {
-        passed.highest
+    let mark = entry.mark;
+    let before = entry.before;
+    let saved = (before.stock as u64) + ((MOST_BROUGHT - passed.brought) as u64);
+    if !is_processed(mark) {
+        return passed.highest;
     }
+    if passed.highest < saved {
+        return saved;
+    }
+    passed.highest
 }
 
 // Whether every stock, saved and held, leaves room for the Restocks still to be done from it.
@@ -143,7 +176,10 @@ fn stocks_fit(passed: Passed, stock: u32) -> bool
     requires { (passed.brought ≤ most_brought) × (passed.still ≤ passed.brought) }
     ensures { result ≡ stocks_fit passed stock }
 {
-    passed.highest <= MOST_TOGETHER - (passed.brought as u64) && stock <= MOST_STOCK - passed.still
+    if passed.highest > MOST_TOGETHER - (passed.brought as u64) {
+        return false;
+    }
+    stock <= MOST_STOCK - passed.still
 }
 
 // One pass: each place in its one form, and what it holds valid.
@@ -151,8 +187,9 @@ fn outstanding_sound(memory: &[u8], settings: Settings, start: usize, count: usi
     requires { start + outstanding_size * count ≤ length memory.now }
     ensures { result ≡ outstanding_sound settings memory.now start count }
 {
-    for k in 0..count {
-        let at = start + OUTSTANDING_SIZE * k;
+    let mut at = start;
+    let mut left = count;
+    while left > 0 {
         let end = at + OUTSTANDING_SIZE;
         let place = &memory[at..end];
         let sent = sent_of(place);
@@ -162,16 +199,22 @@ fn outstanding_sound(memory: &[u8], settings: Settings, start: usize, count: usi
         if !sent_valid(settings, sent) {
             return false;
         }
+        at += OUTSTANDING_SIZE;
+        left -= 1;
     }
     true
 }
 
 // Whether an entry is valid and may stand behind another.
-#[tactic(auto, unfolding(crate::specs::Inside::Passes::entry_accepted))]
 fn entry_fits(settings: Settings, before: Entry, passed: Passed, entry: Entry) -> bool
     ensures { result ≡ entry_accepted settings before passed entry }
 {
-    entry_valid(settings, entry)
-        && !processed_behind(passed.pending, entry.mark)
-        && follows(before, entry)
+    let mark = entry.mark;
+    if !entry_valid(settings, entry) {
+        return false;
+    }
+    if processed_behind(passed.pending, mark) {
+        return false;
+    }
+    follows(before, entry)
 }

@@ -10,7 +10,7 @@ use entries::{frame_if, is_processed, is_waiting};
 use frame::tables::has_lamp;
 use limits::numbers_below;
 use memory::{Entry, HEADER_SIZE, OUTSTANDING_SIZE, Phase, QUEUE_SIZE, Round, Sent, Settings};
-use model::{Kind, Message, State, kind_number, lead_times_valid};
+use model::{Message, State, kind_number, lead_times_valid};
 use neighbours::middles::Middles;
 use rules::well_formed;
 
@@ -22,23 +22,38 @@ pub fn size_for(settings: Settings) -> usize
 }
 
 // N 1 to 255, own number and supplier below N, H below nothing due, Q and U 1 to 512, lead times in their range. N has one byte.
-#[tactic(auto, unfolding(memory::specs::Validity::settings_valid))]
 pub fn settings_valid(settings: Settings) -> bool
     ensures { result ≡ settings_valid settings }
 {
-    settings.n >= 1
-        && settings.own < settings.n
-        && settings.supplier < settings.n
-        && settings.last < 4294967295
-        && settings.q >= 1
-        && settings.q <= 512
-        && settings.u >= 1
-        && settings.u <= 512
-        && lead_times_valid(settings.hours)
+    if settings.n < 1 {
+        return false;
+    }
+    if settings.own >= settings.n {
+        return false;
+    }
+    if settings.supplier >= settings.n {
+        return false;
+    }
+    if settings.last >= 4294967295 {
+        return false;
+    }
+    if settings.q < 1 {
+        return false;
+    }
+    if settings.q > 512 {
+        return false;
+    }
+    if settings.u < 1 {
+        return false;
+    }
+    if settings.u > 512 {
+        return false;
+    }
+    let hours = settings.hours;
+    lead_times_valid(hours)
 }
 
 // Whether the arrivals can be those of the phase, by the number of arcs from and to.
-#[tactic(auto, unfolding(memory::specs::Validity::round_possible))]
 pub fn round_possible(settings: Settings, round: Round) -> bool
     requires { settings.own < settings.n }
     ensures { result ≡ round_possible settings round }
@@ -57,9 +72,27 @@ fn arrivals_possible(arrived: u8, froms: usize, tos: usize, phase: Phase) -> boo
     ensures { result ≡ arrivals_possible arrived froms tos phase }
 {
     match phase {
-        Phase::Idle => arrived == 0 || (froms == 2 && one_of_two(arrived)),
-        Phase::Counting => arrived == 0 && tos >= 1,
-        Phase::Stopped => tos == 2 && one_of_two(arrived),
+        Phase::Idle => {
+            if arrived == 0 {
+                return true;
+            }
+            if froms != 2 {
+                return false;
+            }
+            one_of_two(arrived)
+        }
+        Phase::Counting => {
+            if arrived != 0 {
+                return false;
+            }
+            1 <= tos
+        }
+        Phase::Stopped => {
+            if tos != 2 {
+                return false;
+            }
+            one_of_two(arrived)
+        }
     }
 }
 
@@ -67,42 +100,74 @@ fn arrivals_possible(arrived: u8, froms: usize, tos: usize, phase: Phase) -> boo
 fn one_of_two(arrived: u8) -> bool
     ensures { result ≡ one_of_two arrived }
 {
-    1 <= arrived && arrived <= 2
+    if arrived < 1 {
+        return false;
+    }
+    arrived <= 2
 }
 
 // Whether a message is of a form, numbers and hour that a place can hold.
-#[tactic(auto, unfolding(memory::specs::Validity::storable))]
 pub fn storable(settings: Settings, cancel: bool, message: Message) -> bool
     ensures { result ≡ storable settings cancel message }
 {
-    !matches!(message.kind, Kind::Start | Kind::Lvt | Kind::Update)
-        && well_formed(frame_if(cancel, message))
-        && numbers_below(settings.n as u16, message)
-        && message.hour <= settings.last
+    let kind = message.kind;
+    if kind_number(kind) > 3 {
+        return false;
+    }
+    if !well_formed(frame_if(cancel, message)) {
+        return false;
+    }
+    if !numbers_below(settings.n as u16, message) {
+        return false;
+    }
+    message.hour <= settings.last
 }
 
 // Whether a queued message can be stored, is addressed here, and has a state saved only if it is processed.
-#[tactic(auto, unfolding(memory::specs::Validity::entry_valid))]
 pub fn entry_valid(settings: Settings, entry: Entry) -> bool
     ensures { result ≡ entry_valid settings entry }
 {
-    storable(settings, is_waiting(entry.mark), entry.message)
-        && entry.message.to == settings.own
-        && (is_processed(entry.mark) || is_no_state(entry.before))
+    let message = entry.message;
+    let mark = entry.mark;
+    let before = entry.before;
+    if !storable(settings, is_waiting(mark), message) {
+        return false;
+    }
+    if message.to != settings.own {
+        return false;
+    }
+    if is_processed(mark) {
+        return true;
+    }
+    is_no_state(before)
 }
 
 fn is_no_state(state: State) -> bool
     ensures { result ≡ is_no_state state }
 {
-    state == State::default()
+    if state.stock != 0 {
+        return false;
+    }
+    if state.failed != 0 {
+        return false;
+    }
+    if state.fitted != 0 {
+        return false;
+    }
+    state.short == 0
 }
 
 // Whether an outstanding message can be stored, is no Restock and was sent from here.
-#[tactic(auto, unfolding(memory::specs::Validity::sent_valid))]
 pub fn sent_valid(settings: Settings, sent: Sent) -> bool
     ensures { result ≡ sent_valid settings sent }
 {
-    storable(settings, sent.cancel, sent.message)
-        && has_lamp(kind_number(sent.message.kind))
-        && sent.message.from == settings.own
+    let message = sent.message;
+    let kind = message.kind;
+    if !storable(settings, sent.cancel, message) {
+        return false;
+    }
+    if !has_lamp(kind_number(kind)) {
+        return false;
+    }
+    message.from == settings.own
 }

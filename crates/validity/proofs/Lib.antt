@@ -1,0 +1,2 @@
+-- Laws of the tests of validity.
+pub mod Deciding
