@@ -1,4 +1,6 @@
 // Whether lent memory is sound: its header, then one pass over the used queue places and one over the used outstanding places.
+// The tests return one by one, and the loops carry their position on: as one expression each, with `for k in 0..count`, the test of a place
+// takes 1.4 of the time.
 #![tactic(auto)]
 
 ghost use Rattle.std.specs.Prelude.{◌≡◌, ◌+◌, ◌*◌, ◌≤◌, length, cond};

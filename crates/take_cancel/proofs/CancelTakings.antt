@@ -123,7 +123,8 @@ module _ (m output : List ℕ) (h : Header) (known : Known m h) (bytes : Bytes m
       (rw append-nil (reply-size true x fits-x.lamp few))
       ∙ rw (← settings-are m h known))
 
-  pub waits-without-room : {ok : Bool} → ok ≡ enough h (h.queued + 1) 0 (length output) → not ok ≡ true → left (answer_of (Err NoRoom)) m output ≡ leaving (settled (length output) g (waits x g)) m output
+  pub waits-without-room : {ok : Bool} → ok ≡ enough h (h.queued + 1) 0 (length output) → not ok ≡ true
+      → left (answer_of (Err NoRoom)) m output ≡ leaving (settled (length output) g (waits x g)) m output
   waits-without-room {ok} p n = no_room m output g (waits x g) (needs ∙ sym p ∙ not-true ok n)
 
   module _ {ok : Bool} (p : ok ≡ enough h (h.queued + 1) 0 (length output)) (n : not ok ≡ false) where
@@ -211,7 +212,8 @@ module _ (m output : List ℕ) (h : Header) (known : Known m h) (bytes : Bytes m
         le-leb 0 h.settings.q (omega arith),
       )
 
-  pub struck-without-room : {ok : Bool} → ok ≡ enough h 0 sent (length output) → not ok ≡ true → left (answer_of (Err NoRoom)) m output ≡ leaving (settled (length output) held (struck_out k x held)) m output
+  pub struck-without-room : {ok : Bool} → ok ≡ enough h 0 sent (length output) → not ok ≡ true
+      → left (answer_of (Err NoRoom)) m output ≡ leaving (settled (length output) held (struck_out k x held)) m output
   struck-without-room {ok} p n = no_room m output held (struck_out k x held) (needs-struck ∙ sym p ∙ not-true ok n)
 
   module _ {ok : Bool} (p : ok ≡ enough h 0 sent (length output)) (n : not ok ≡ false) where

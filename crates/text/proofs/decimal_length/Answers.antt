@@ -4,4 +4,7 @@ use Rattle.text.proofs.Putting.{digits-counted}
 use Rattle.text.proofs.decimal_length.Goals as goal
 
 pub returns : goal.returns
-returns c = let e = c.unwrap_or.ensures in rw e (digits-counted _ c.checked_ilog10.result (omega arith) c.checked_ilog10.ensures.none c.checked_ilog10.ensures.power_le c.checked_ilog10.ensures.next_power_gt)
+returns c =
+    let e = c.unwrap_or.ensures in
+    let log = c.checked_ilog10.ensures in
+    rw e (digits-counted _ c.checked_ilog10.result (omega arith) log.none log.power_le log.next_power_gt)
