@@ -70,10 +70,15 @@ def own_enums():
                 yield f"{crate}: enum {name}"
 
 
-def refusals_by_number():
+def answering(answer, name):
+    """The functions that answer this type and whose names have one of these words."""
     for f in functions():
-        if re.search(r"-> u8\s*$", f.signature.strip()) and re.search(r"refus|check|number_where|form_number|lamp_number", f.name):
+        if f.signature.strip().endswith(f"-> {answer}") and re.search(name, f.name):
             yield f.place
+
+
+def refusals_by_number():
+    yield from answering("u8", r"refus|check|number_where|form_number|lamp_number")
     yield from lines_that(r"refused\(\d+\)|stopped\(turn, \d\)|\.(number|answer|why) != 0|(number|refusal) != 0|refusal == 12")
 
 
@@ -82,9 +87,7 @@ def kinds_by_number():
 
 
 def places_as_numbers():
-    for f in functions():
-        if re.search(r"-> usize\s*$", f.signature.strip()) and re.search(r"^find|^next_marked|past_last", f.name):
-            yield f.place
+    yield from answering("usize", r"^find|^next_marked|past_last")
     yield from lines_that(r"\b(k|past) (==|<) (queued|outstanding|0)\b")
 
 
