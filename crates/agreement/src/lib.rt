@@ -6,8 +6,12 @@ use single_queue::run;
 use std::io;
 
 // Prints that the single queue's records are the gateways', if they are.
-pub fn compare(rt: &impl Print, list: &[u8], gateways: &[Gateway; 2]) -> io::Result<()> {
-    let [first, second] = run(list);
+pub fn compare<const M: usize, const R: usize>(
+    rt: &impl Print,
+    list: &[u8],
+    gateways: &[Gateway<M, R>; 2],
+) -> io::Result<()> {
+    let [first, second] = run::<R>(list);
     if gateways[0].events == first && gateways[1].events == second {
         println!(rt; "single queue agrees")?;
     }

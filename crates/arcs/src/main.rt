@@ -5,6 +5,7 @@ ghost use Rattle.std.specs.Prelude.{◌≡◌};
 ghost use Rattle.buffer.specs.Slice.{write};
 ghost use Rattle.listing.specs.Output.{printed, rendering};
 
+use arrayvec::ArrayVec;
 use std::io;
 use std::io::Read;
 
@@ -26,10 +27,13 @@ fn print_by(rt: &impl Print, input: &[u8], out: &mut [u8; 1100000]) -> io::Resul
     print(rt, input, out)
 }
 
-// No input of more than six bytes gives an N, so sixteen bytes tell as much as all. 1,100,000 bytes hold every listing.
+// No input of more than six bytes gives an N, so sixteen bytes tell as much as all, and they are read one by one, without a buffer.
+// 1,100,000 bytes hold every listing.
 fn main(rt: HostRuntime) -> io::Result<()> {
-    let mut input = Vec::new(rt.alloc());
+    let mut input = ArrayVec::<u8, 16>::new();
     let mut out = [0u8; 1100000];
-    rt.stdin().take(16).read_to_end(&mut input)?;
+    for byte in rt.stdin().take(16).bytes() {
+        let _ = input.try_push(byte?);
+    }
     print_by(&rt, &input, &mut out)
 }

@@ -1,7 +1,7 @@
 // A carrier between the two gateways of the last example that brings the oldest frame first.
 #![tactic(auto)]
 
-ghost use Rattle.std.specs.Prelude.{◌≤◌};
+ghost use Rattle.std.specs.Prelude.{◌≤◌, length};
 
 use arrayvec::ArrayVec;
 use limits::addressed_to;
@@ -10,8 +10,8 @@ use reader::read;
 use take::take;
 
 // Brings every frame of a line once, the oldest first, and answers the frames that are then under way.
-pub fn bring_all<const N: usize>(
-    gateways: &mut [Gateway; 2],
+pub fn bring_all<const M: usize, const R: usize, const N: usize>(
+    gateways: &mut [Gateway<M, R>; 2],
     line: &ArrayVec<u8, N>,
 ) -> ArrayVec<u8, N> {
     let mut behind = ArrayVec::new();
@@ -22,7 +22,13 @@ pub fn bring_all<const N: usize>(
 }
 
 // Brings a frame. What its gateway puts out goes to the end of the line; refused, the frame itself does.
-fn bring<const N: usize>(gateways: &mut [Gateway; 2], frame: &[u8], line: &mut ArrayVec<u8, N>) {
+fn bring<const M: usize, const R: usize, const N: usize>(
+    gateways: &mut [Gateway<M, R>; 2],
+    frame: &[u8],
+    line: &mut ArrayVec<u8, N>,
+)
+    ensures { length line.old.items ≤ length line.new.items }
+{
     let mut output = [0u8; 4096];
     let gateway = &mut gateways[receiver_of(frame)];
     match take(&mut gateway.memory, frame, &mut output) {

@@ -7,17 +7,17 @@ ghost use Rattle.example_opening.specs.Inside.Settings.{example_opening};
 
 use arrayvec::ArrayVec;
 use gateway::Opening;
-use lines::{Gateway, push_plain, town_hours};
+use lines::{push_plain, town_hours};
 use model::{Kind, Message};
 use opening::set_up::set_up;
 
-// Sets both gateways up, gateway 0 with the list.
-pub fn set_up_both(first: &mut Gateway, second: &mut Gateway, list: &[u8])
-    ensures first { first.new.memory ≡ (set_up (example_opening 0 0) list.now first.old.memory).memory }
-    ensures second { second.new.memory ≡ (set_up (example_opening 1 1) [] second.old.memory).memory }
+// Sets the memories of both gateways up, gateway 0 with the list.
+pub fn set_up_both(first: &mut [u8], second: &mut [u8], list: &[u8])
+    ensures first { first.new ≡ (set_up (example_opening 0 0) list.now first.old).memory }
+    ensures second { second.new ≡ (set_up (example_opening 1 1) [] second.old).memory }
 {
-    let _ = set_up(&mut first.memory, opening(0, 0), list);
-    let _ = set_up(&mut second.memory, opening(1, 1), b"");
+    let _ = set_up(first, opening(0, 0), list);
+    let _ = set_up(second, opening(1, 1), b"");
 }
 
 // The settings of the example. Supplier of both is gateway 1.

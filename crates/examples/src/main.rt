@@ -5,6 +5,7 @@
 ghost use Rattle.std.specs.Prelude.{◌≤◌};
 
 use agreement::compare;
+use arrayvec::ArrayVec;
 use example_opening::{opening_list, set_up_both};
 use lines::Gateway;
 use neighbours::middles::Middles;
@@ -29,14 +30,16 @@ fn print_sharing(rt: &impl Print, n: u32) -> io::Result<()>
     }
 }
 
-// Prints the records that the gateways commit, with a carrier between them, then whether the single queue gives the same.
+// Prints the records that the gateways commit, with a carrier between them, then whether the single queue gives the same. What is under
+// way at once has at most 16,384 bytes.
 fn print_example(rt: &impl Print) -> io::Result<()> {
     let list = opening_list();
-    let mut first = Gateway::new();
+    let mut line = ArrayVec::<u8, 16384>::new();
+    let mut first = Gateway::<49408, 4096>::new();
     let mut second = Gateway::new();
-    set_up_both(&mut first, &mut second, &list);
+    set_up_both(&mut first.memory, &mut second.memory, &list);
     let mut gateways = [first, second];
-    take_turns(&mut gateways);
+    take_turns(&mut gateways, &mut line);
     for (own, gateway) in gateways.iter().enumerate() {
         print_record(rt, own, &gateway.events)?;
     }

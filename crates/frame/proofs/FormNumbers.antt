@@ -2,7 +2,7 @@
 use mathlib.Core.Path.{◌≡◌, refl, sym, ◌∙◌, ap}
 use Prim.Native.Nat.{ℕ, ◌<◌}
 use native.Mathlib.Omega.{arith}
-use mathlib.Core.Bool.{Bool, true, false, ◌&&◌, false≢true}
+use mathlib.Core.Bool.{Bool, true, false, not, ◌&&◌, false≢true}
 use mathlib.Core.List.{List}
 use lib.Dec.{eqb}
 use borrow.Author.Tests.{eq-eqb}
@@ -75,6 +75,12 @@ number_small NotTaken = omega arith
 pub read-small : (r : Result Frame FormError) → read_number r < 256
 read-small (Ok f) = omega arith
 read-small (Err reason) = number_small reason
+
+-- what is refused for its form keeps its number, whatever a call takes
+pub form-kept : (taken : Frame → Bool) (r : Result Frame FormError) {number : ℕ} → not (is_ok r) ≡ true → number ≡ read_number r
+    → number ≡ read_number (read_in taken r)
+form-kept taken (Ok f) h n = absurd (false≢true h)
+form-kept taken (Err reason) h n = n
 
 -- what was read passes a call just where it is a frame and taken there
 pub ok-passes : (taken : Frame → Bool) (r : Result Frame FormError) → is_ok (read_in taken r) ≡ (is_ok r && taken (frame_in r))

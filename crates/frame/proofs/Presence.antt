@@ -4,13 +4,14 @@ use Prim.Native.Nat.{ℕ, zero, suc, ◌+◌, ◌/◌, ◌≤◌, ◌<◌}
 use native.Mathlib.Omega.{arith}
 use mathlib.Core.Bool.{Bool, true, false, cond, not}
 use lib.Dec.{leb}
+use lib.ListN.{get_or-eq_default}
 use borrow.Author.Tests.{lt-leb}
 use Rattle.model.specs.Messages.{kind_number, origin_of, quantity_of, kind_of}
 use Rattle.model.proofs.KindNumbers.{kind-last}
 use Rattle.model.specs.declared.Kind.{Kind}
 use Rattle.model.specs.declared.Kind.TheVariants.{Failure, Request, Delivery, Restock, Start, Lvt, Update}
 use Rattle.frame.specs.Layout.{odd}
-use Rattle.frame.specs.Kinds.{map_of_kind, has_hour, has_origin, has_lamp, has_quantity}
+use Rattle.frame.specs.Kinds.{maps, map_of_kind, has_hour, has_origin, has_lamp, has_quantity}
 use Rattle.frame.specs.Claims.{OwnFields}
 
 -- no kind's own map has the bit of the sense
@@ -24,6 +25,11 @@ map-small (suc (suc (suc (suc zero)))) = omega arith
 map-small (suc (suc (suc (suc (suc zero))))) = omega arith
 map-small (suc (suc (suc (suc (suc (suc zero)))))) = omega arith
 map-small (suc (suc (suc (suc (suc (suc (suc kind))))))) = omega arith
+
+-- past the table there is no map
+pub no-map : (kind : ℕ) → 6 < kind → 0 ≡ map_of_kind kind
+unfolding map_of_kind
+no-map kind h = sym (get_or-eq_default maps 0 {n = kind} (omega arith))
 
 -- kinds 0 to 2 have a lamp
 pub lamp-kinds : (kind : ℕ) → has_lamp kind ≡ leb kind 2

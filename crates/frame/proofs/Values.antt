@@ -37,6 +37,16 @@ number-lamp true false some true false h = refl
 number-lamp true false some false agree h = refl
 number-lamp false false some none agree h = refl
 
+number-few : (header there some none agree : Bool) → (number header there some none agree ≡ 0 → ⊥) → (number header there some none agree ≡ 12 → ⊥)
+    → number header there some none agree ≡ 1
+number-few false there some none agree h k = refl
+number-few true true false none agree h k = absurd (k refl)
+number-few true true true none true h k = absurd (h refl)
+number-few true true true none false h k = refl
+number-few true false some false agree h k = refl
+number-few true false some true true h k = absurd (h refl)
+number-few true false some true false h k = refl
+
 -- a kind with a lamp has an hour, and may have a sense
 lamp-header : (kind hour sense : ℕ) → has_lamp kind ≡ true → (sense_allowed kind sense && hour_fits kind hour) ≡ true
 lamp-header kind hour sense e = rw (e, (lamp-fields kind (leb-true kind 2 (sym (lamp-kinds kind) ∙ e))).hour)
@@ -58,6 +68,11 @@ module _ (f : Frame) where
   value-lamp : eqb (value_refusal f) 12 ≡ (has_lamp kind && not (all_between 33 126 f.message.lamp))
   unfolding value_refusal lamp_fits
   value-lamp = of-value number-lamp (lamp-header kind f.message.hour (sense_number f.sense))
+
+  -- a value that is refused, and not for its lamp, is refused with 1
+  pub refused-with-1 : (value_refusal f ≡ 0 → ⊥) → (value_refusal f ≡ 12 → ⊥) → value_refusal f ≡ 1
+  unfolding value_refusal lamp_fits
+  refused-with-1 = of-value number-few
 
 pub value-numbers : ValueNumbers
 value-numbers = record { formed = value-formed; lamp = value-lamp }

@@ -2,8 +2,12 @@
 // for each: the fields of the frame that it is, or the number with which it is refused and why. An item that the input cuts is refused with 11.
 #![tactic(auto)]
 
+ghost use Rattle.std.specs.Prelude.{◌≤◌, length, IfOk, IfSome};
+ghost use Rattle.frames.specs.Inside.Items.{bytes_of};
+
+use arrayvec::ArrayVec;
 use std::io;
-use std::io::{BufReader, BufWriter, ErrorKind, Read, Write};
+use std::io::{ErrorKind, Read, Write};
 
 // One item of the input: its bytes, or that the input ends inside it.
 #[derive(Clone, Copy)]
@@ -12,21 +16,28 @@ enum Item<'a> {
     Cut,
 }
 
+// Lines are printed many at a time: whenever little room is left for the next one, and at the end.
 fn main(rt: HostRuntime) -> io::Result<()> {
-    let mut input = BufReader::new(rt.alloc(), rt.stdin())?;
-    let mut output = BufWriter::new(rt.alloc(), io::writer(&rt))?;
+    let mut input = rt.stdin();
+    let mut output = ArrayVec::<u8, 65536>::new();
     let mut buffer = [0u8; 255];
-    for _ in 0..u64::MAX {
+    for _ in 0..u32::MAX {
         match next_item(&mut input, &mut buffer)? {
             Some(item) => print_item(&mut output, item)?,
             None => break,
         }
+        if output.len() > 65000 {
+            rt.write_all(&output)?;
+            output.clear();
+        }
     }
-    output.flush()
+    rt.write_all(&output)
 }
 
 // The next item of the input, if there is one.
-fn next_item<'a>(input: &mut impl Read, buffer: &'a mut [u8; 255]) -> io::Result<Option<Item<'a>>> {
+fn next_item<'a>(input: &mut impl Read, buffer: &'a mut [u8; 255]) -> io::Result<Option<Item<'a>>>
+    ensures { IfOk result (λ next. IfSome next (λ item. length (bytes_of item) ≤ 255)) }
+{
     let mut size = [0u8; 1];
     if input.read(&mut size)? == 0 {
         return Ok(None);

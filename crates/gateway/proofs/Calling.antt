@@ -9,8 +9,9 @@ use Rattle.buffer.specs.Slice.{write}
 use Rattle.memory.specs.Codec.{header_at, decode, encode}
 use Rattle.memory.specs.Records.{Gateway}
 use Rattle.memory.specs.Soundness.{sound}
-use Rattle.memory.specs.Inside.Checking.{checked_as}
+use Rattle.memory.specs.Inside.Checking.{header_in, checked_as}
 use Rattle.memory.specs.declared.Header.{Header}
+use Rattle.memory.specs.declared.Unsound.{Unsound}
 use Rattle.refusal.specs.declared.Refusal.{Refusal}
 use Rattle.refusal.specs.declared.Refusal.TheVariants.{NotSound}
 use Rattle.gateway.specs.Effects.{Outcome}
@@ -22,30 +23,24 @@ use Rattle.gateway.specs.Answers.{Answer, Worked, answer_of, time_of}
 
 -- memory m that is not sound, and memory m that is
 module _ (m : List ℕ) where
-  refuted-as : {why : Refusal} → Err why ≡ checked_as m → (sound m ≡ false) × (why ≡ NotSound)
-  refuted-as {why} found = by (sound m) refl found
+  pub unsound : {found : Unsound} → Err found ≡ checked_as m → sound m ≡ false
+  unsound {found} refused = by (sound m) refl refused
     where
-      by : (b : Bool) → sound m ≡ b → Err why ≡ cond b (Ok (header_at m)) (Err NotSound) → (sound m ≡ false) × (why ≡ NotSound)
+      by : (b : Bool) → sound m ≡ b → Err found ≡ cond b (Ok (header_at m)) (Err (record { header = header_in m })) → sound m ≡ false
       by true e f = cc
-      by false e f = (e, cc)
-
-  pub unsound : {why : Refusal} → Err why ≡ checked_as m → sound m ≡ false
-  unsound found = (refuted-as found).0
-
-  pub not_sound : {why : Refusal} → Err why ≡ checked_as m → why ≡ NotSound
-  not_sound found = (refuted-as found).1
+      by false e f = e
 
   pub known : {h : Header} → Ok h ≡ checked_as m → Known m h
-  known {h} found = by (sound m) refl found
+  known {h} found = by (sound m) refl _ found
     where
-      by : (b : Bool) → sound m ≡ b → Ok h ≡ cond b (Ok (header_at m)) (Err NotSound) → Known m h
-      by true e f = record { soundness = e; header = cc }
-      by false e f = cc
+      by : (b : Bool) → sound m ≡ b → (refused : Unsound) → Ok h ≡ cond b (Ok (header_at m)) (Err refused) → Known m h
+      by true e refused f = record { soundness = e; header = cc }
+      by false e refused f = cc
 
   -- reading the agreed time
-  pub time-unsound : {why : Refusal} → Err why ≡ checked_as m → time_of (Err why) ≡ agreed_time m
+  pub time-unsound : {found : Unsound} {why : Refusal} → Err found ≡ checked_as m → why ≡ NotSound → time_of (Err why) ≡ agreed_time m
   unfolding agreed_time
-  time-unsound found = rw (unsound found, not_sound found)
+  time-unsound refused number = rw (unsound refused, number)
 
   pub time-sound : {h : Header} → Ok h ≡ checked_as m → time_of (Ok h.agreed) ≡ agreed_time m
   unfolding agreed_time
@@ -53,9 +48,10 @@ module _ (m : List ℕ) where
 
   -- a call with an output
   module _ (call : ℕ → Gateway → Outcome) (output : List ℕ) where
-    pub call-unsound : {why : Refusal} → Err why ≡ checked_as m → left (answer_of (Err why)) m output ≡ on_sound call m output
+    pub call-unsound : {found : Unsound} {why : Refusal} → Err found ≡ checked_as m → why ≡ NotSound
+        → left (answer_of (Err why)) m output ≡ on_sound call m output
     unfolding on_sound
-    call-unsound found = rw (unsound found, not_sound found)
+    call-unsound refused number = rw (unsound refused, number)
 
     pub call-sound : {h : Header} → Ok h ≡ checked_as m → {l : CallResult Answer} → l ≡ leaving (call (length output) (decode m)) m output
         → l ≡ on_sound call m output

@@ -13,7 +13,7 @@ ghost use Rattle.hurfaith.specs.Exported.{packed_answer, packed_work, packed_tim
 use commit::commit;
 use frame::lamps::LAMP_PLACE;
 use gateway::Opening;
-use lamp::lamp;
+use lamp::lamp_or_reason;
 use model::LeadTimes;
 use neighbours::neighbours_of;
 use opening::set_up::set_up;
@@ -169,7 +169,7 @@ pub extern "C" fn hurfaith_agreed_time(memory: &[u8]) -> u64
 pub extern "C" fn hurfaith_lamp(frame: &[u8]) -> u64
     ensures { LampAnswer frame.entry result }
 {
-    match lamp(frame) {
+    match lamp_or_reason(frame) {
         Ok(_) => packed(0, LAMP_PLACE, 0),
         Err(reason) => packed(reason.number(), 0, 0),
     }

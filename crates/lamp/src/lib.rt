@@ -12,9 +12,18 @@ use frame::tables::has_lamp;
 use model::kind_number;
 use reader::read_where;
 
-// The eighteen bytes of a frame's lamp, as the part of the frame that holds them, or the first reason why there are none: the last
-// is that the frame has no lamp.
-pub fn lamp(frame: &[u8]) -> Result<&[u8], FormError>
+// The eighteen bytes of a frame's lamp, as the part of the frame that holds them. The part is empty where there is no lamp to read.
+pub fn lamp(frame: &[u8]) -> &[u8]
+    ensures { IsLamp frame.entry result }
+{
+    match lamp_or_reason(frame) {
+        Ok(part) => part,
+        Err(_) => &frame[0..0],
+    }
+}
+
+// The same part, or the first reason why there is none: the last is that the frame has no lamp.
+pub fn lamp_or_reason(frame: &[u8]) -> Result<&[u8], FormError>
     ensures { MatchResult result (λ part. IsLamp frame.entry part × (lamp_refusal frame.now ≡ 0))
         (λ reason. lamp_form (reading frame.now) ≡ Err reason) }
 {

@@ -16,19 +16,19 @@ use writer::write;
 
 // A gateway: its memory, and the record of the events that it has committed.
 #[derive(Drop)]
-pub struct Gateway {
-    pub memory: [u8; 65536],
-    pub events: ArrayVec<u8, 4096>,
+pub struct Gateway<const M: usize, const R: usize> {
+    pub memory: [u8; M],
+    pub events: ArrayVec<u8, R>,
 }
 
-impl Gateway {
+impl<const M: usize, const R: usize> Gateway<M, R> {
     // A gateway before it is set up. A memory with 512 places of each kind has 49,408 bytes.
-    pub fn new() -> Gateway
-        ensures memory { result.memory ≡ replicate 65536 0 }
+    pub fn new() -> Gateway<M, R>
+        ensures memory { result.memory ≡ replicate M 0 }
         ensures events { result.events.items ≡ [] }
     {
         Gateway {
-            memory: [0; 65536],
+            memory: [0; M],
             events: ArrayVec::new(),
         }
     }

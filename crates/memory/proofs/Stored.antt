@@ -14,7 +14,7 @@ use Rattle.std.specs.List.{flat_map}
 use Rattle.model.specs.Messages.{kind_number, origin_of, quantity_of}
 use Rattle.model.specs.declared.Message.{Message}
 use Rattle.model.specs.declared.State.{State}
-use Rattle.memory.specs.Layout.{header_used, message_size, outstanding_size, queue_size, state_at, state_size, zeros_at, zeros_size}
+use Rattle.memory.specs.Layout.{header_used, message_size, outstanding_size, queue_size, state_at, state_size, stock_width, zeros_at, zeros_size}
 use Rattle.memory.specs.Codec.{mark_of, phase_of, mark_number, phase_number, cancel_number, state_bytes, message_bytes, entry_bytes}
 use Rattle.memory.specs.Codec.{sent_bytes, header_front, header_back}
 use Rattle.memory.specs.declared.Header.{Header}
@@ -33,6 +33,12 @@ row w ns = flat_map (bytes_of w) ns
 
 length-row : (w : ℕ) (ns : List ℕ) → length (row w ns) ≡ w * length ns
 length-row w ns = length-all (bytes_of w) w (length-bytes_of w) ns
+
+pub state-stored : (m : List ℕ) (at : ℕ) (s : State) {m₁ m₂ : List ℕ} → at + state_size ≤ length m
+    → m₁ ≡ write at (bytes_of stock_width s.stock) m → m₂ ≡ write (at + stock_width) (bytes_of 4 s.failed ++ (bytes_of 4 s.fitted ++ bytes_of 4 s.short)) m₁
+    → m₂ ≡ write at (state_bytes s) m
+unfolding state_bytes
+state-stored m at s fits p q = q ∙ rw p (write-behind at stock_width (at + stock_width) (bytes_of stock_width s.stock) _ m (length-bytes_of stock_width s.stock) refl (omega arith))
 
 pub state-row : (s : State) → row 4 (s.stock ∷ s.failed ∷ s.fitted ∷ s.short ∷ []) ≡ state_bytes s
 unfolding state_bytes

@@ -2,7 +2,11 @@
 // write the bytes, soundness tests them.
 #![tactic(auto)]
 
+ghost use Rattle.std.specs.Prelude.{◌≡◌};
+ghost use Rattle.refusal.specs.declared.Refusal.TheVariants.{NotSound};
+
 use model::{LeadTimes, Message, State};
+use refusal::Refusal;
 
 // The sizes in the memory, in bytes, as the definitions of its layout have them: the header; a queue place
 // and an outstanding place; in a place of either kind the mark and the message, in a queue place then a state, and zeros.
@@ -86,4 +90,18 @@ pub struct Header {
     pub round: Round,
     pub queued: u16,
     pub outstanding: u16,
+}
+
+// Memory that is not sound, which every call refuses: the header that it has all the same, of zeros where it is too short for one.
+#[derive(Clone, Copy)]
+pub struct Unsound {
+    pub header: Header,
+}
+
+impl From<Unsound> for Refusal {
+    ghost from_gives = { λ unsound refusal. refusal ≡ NotSound };
+
+    fn from(_unsound: Unsound) -> Refusal {
+        Refusal::NotSound
+    }
 }

@@ -1,5 +1,6 @@
 -- Laws of comparing lists of numbers.
-use mathlib.Core.Path.{◌≡◌, refl, ◌∙◌, ap}
+use mathlib.Core.Path.{◌≡◌, refl, sym, ◌∙◌, ap}
+use mathlib.Core.Bool.{true, false, false≢true}
 use Prim.Native.Nat.{ℕ, ◌<◌}
 use native.Mathlib.Omega.{arith}
 use mathlib.Core.List.{List, [], ◌∷◌, ◌++◌}
@@ -7,7 +8,7 @@ use lib.ListN.{length}
 use borrow.Author.Tests.{lt-ltb, le-ltb, eq-eqb}
 use Rattle.std.specs.declared.cmp.Ordering.{Ordering}
 use Rattle.std.specs.declared.cmp.Ordering.TheVariants.{Less, Equal, Greater}
-use Rattle.std.specs.Ordering.{MatchOrdering, ordering_then, nat_cmp}
+use Rattle.std.specs.Ordering.{MatchOrdering, ordering_then, is_ne, nat_cmp}
 use Rattle.model.specs.EventOrder.{compared}
 
 module _ (x y : ℕ) where
@@ -42,3 +43,14 @@ pub then-with : (first r x : Ordering) {P : Type 0} → (P → r ≡ x) → Matc
 then-with Less r x f p = p
 then-with Equal r x f p = f p
 then-with Greater r x f p = p
+
+-- a comparison that finds a difference decides, one that finds none does not
+pub then-decided : (c r : Ordering) → is_ne c ≡ true → ordering_then c r ≡ c
+then-decided Less r h = refl
+then-decided Equal r h = absurd (false≢true h)
+then-decided Greater r h = refl
+
+pub then-open : (c r : Ordering) → is_ne c ≡ false → ordering_then c r ≡ r
+then-open Less r h = absurd (false≢true (sym h))
+then-open Equal r h = refl
+then-open Greater r h = absurd (false≢true (sym h))

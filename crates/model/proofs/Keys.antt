@@ -24,6 +24,14 @@ three a b c a' b' c' =
     sym (then_assoc (nat_cmp a a') (nat_cmp b b') (nat_cmp c c'))
     ∙ ap (λ (r : Ordering). ordering_then (nat_cmp a a') (ordering_then (nat_cmp b b') r)) (sym (then-equal (nat_cmp c c')))
 
+pub by-first : (a b c a' b' c' : ℕ) → ordering_then (nat_cmp a a') (ordering_then (nat_cmp b b') (nat_cmp c c')) ≡ compared (a ∷ b ∷ c ∷ []) (a' ∷ b' ∷ c' ∷ [])
+by-first a b c a' b' c' = then_assoc (nat_cmp a a') (nat_cmp b b') (nat_cmp c c') ∙ three a b c a' b' c'
+
+-- what stands before the lamp decides, and where it does not the lamp with what stands behind it
+pub from-front : (a b : Message) → ordering_then (compared (front a) (front b)) (compared (a.lamp ++ back a) (b.lamp ++ back b)) ≡ compared (key a) (key b)
+unfolding key
+from-front a b = sym (compared-append (front a) (front b) (a.lamp ++ back a) (b.lamp ++ back b) refl)
+
 -- the key by its three stretches: the first that differs decides
 pub by-stretches : (a b : Message) → length a.lamp ≡ 18 → length b.lamp ≡ 18
     → ordering_then (ordering_then (compared (front a) (front b)) (compared a.lamp b.lamp)) (compared (back a) (back b)) ≡ compared (key a) (key b)

@@ -6,3 +6,4 @@ pub mod Replies
 pub mod Ordered
 pub mod Sending
 pub mod KindNumbers
+pub mod LeadTimeLaws

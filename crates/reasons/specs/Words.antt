@@ -1,5 +1,5 @@
 -- Why a byte string is refused, in words, as the program frames prints it.
-use Rattle.std.specs.Prelude.{ℕ, List, ◌++◌}
+use Rattle.std.specs.Prelude.{ℕ, Option, Some, None, List, ◌++◌}
 use Rattle.text.specs.Decimal.{field}
 use Rattle.text.specs.Letters.{codes}
 use Rattle.frame.specs.Reasons.{form_number}
@@ -17,9 +17,10 @@ reason_text WrongLamp = codes "lamp: a byte outside 33 to 126"
 reason_text WrongGateways = codes "gateway fields: they do not agree"
 reason_text NotTaken = codes "form: not taken in this call"
 
--- what is refused: its number and the reason
-unfoldable pub refused_text : FormError → List ℕ
-refused_text reason = field (form_number reason) ++ reason_text reason
+-- what is refused: its number and the reason; 0 alone where there is no reason
+unfoldable pub refused_text : Option FormError → List ℕ
+refused_text (Some reason) = field (form_number reason) ++ reason_text reason
+refused_text None = field 0
 
 -- why an item that the input cuts is refused, whatever its bytes are
 abbrev pub cut_reason : List ℕ

@@ -9,13 +9,18 @@ use buffer::copy;
 use frame::forms::FormError;
 use text::put_field;
 
-// Puts the number of a reason and the reason in words, and answers the position behind them.
-pub fn put_refused(out: &mut [u8], at: usize, reason: FormError) -> usize
+// Puts the number of a reason and the reason in words, and answers the position behind them. Without a reason the number is 0.
+pub fn put_refused(out: &mut [u8], at: usize, reason: Option<FormError>) -> usize
     requires { at + 61 ≤ length out.old }
     ensures { (Puts at (refused_text reason) out.old out.new result) × (result ≤ at + 61) }
 {
-    let behind_number = put_field(out, at, u32::from(reason.number()));
-    put_words(out, behind_number, words_of(reason))
+    match reason {
+        Some(reason) => {
+            let behind_number = put_field(out, at, u32::from(reason.number()));
+            put_words(out, behind_number, words_of(reason))
+        }
+        None => put_field(out, at, 0),
+    }
 }
 
 // Puts what is said of an item that the input cuts.

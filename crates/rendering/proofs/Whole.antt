@@ -46,10 +46,10 @@ listing-is zero h = absurd (omega arith)
 listing-is (suc n) h = refl
 
 module _ (n : ℕ) (low : 1 ≤ n) {k : ℕ} (same : k ≡ n) {t : Totals} (e : (t.arcs ≡ arc_count k) × (t.messages ≡ round_messages k)) where
-  listing-of : {j : ℕ} → j ≡ n → listing n ≡ first_line j t.arcs t.messages ++ joined arc_line (arcs k)
+  pub listing-of : {j : ℕ} → j ≡ n → listing n ≡ first_line j t.arcs t.messages ++ joined arc_line (arcs k)
   listing-of f = listing-is n low ∙ rw (f, e.0, e.1, same)
 
-  listing-length : length (listing n) ≡ length (first_line n t.arcs t.messages) + length (joined arc_line (arcs k))
+  pub listing-length : length (listing n) ≡ length (first_line n t.arcs t.messages) + length (joined arc_line (arcs k))
   listing-length = ap length (listing-of refl) ∙ length-append (first_line n t.arcs t.messages) (joined arc_line (arcs k))
 
   module _ (m : List ℕ) {L : ℕ} (long : L ≡ length (first_line n t.arcs t.messages) + length (joined arc_line (arcs k))) where

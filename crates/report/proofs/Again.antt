@@ -6,7 +6,7 @@ use Prim.Native.Nat.{ℕ, ◌≤◌, ◌<◌}
 use native.Mathlib.Omega.{arith}
 use lib.Dec.{leb, eqb}
 use lib.ListN.{length, length-take, take}
-use borrow.Author.Tests.{leb-true, leb-false, eqb-false, le-leb, lt-leb, not-false}
+use borrow.Author.Tests.{leb-true, leb-false, eqb-false, le-leb, lt-leb}
 use Rattle.buffer.specs.Slice.{Bytes, part, same_bytes, write}
 use Rattle.buffer.proofs.Equality.{bytes_same, same_bytes_lem}
 use Rattle.buffer.proofs.Standing.{stands-written}

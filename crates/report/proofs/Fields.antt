@@ -2,7 +2,7 @@
 use mathlib.Core.Path.{◌≡◌, refl, sym, ◌∙◌, ap}
 use Prim.Native.Nat.{ℕ, ◌+◌, ◌≤◌, ◌<◌}
 use native.Mathlib.Omega.{arith}
-use mathlib.Core.Bool.{Bool, true, false, cond}
+use mathlib.Core.Bool.{Bool, true, false}
 use mathlib.Core.List.{List, ◌++◌, append_assoc}
 use lib.Dec.{eqb}
 use lib.ListN.{length, set}
@@ -13,7 +13,7 @@ use Rattle.buffer.proofs.Putting.{puts-byte, puts-more, puts-length}
 use Rattle.model.specs.Messages.{kind_number, origin_of, quantity_of}
 use Rattle.model.specs.declared.Message.{Message}
 use Rattle.frame.specs.Kinds.{has_lamp, sense_number}
-use Rattle.std.specs.Prelude.{Ok, Err, is_ok}
+use Rattle.std.specs.Prelude.{Some, Ok, Err, is_ok}
 use Rattle.frame.specs.Reasons.{reading, frame_read}
 use Rattle.frame.specs.Lamps.{IsLamp, lamp_form, lamp_refusal, with_lamp}
 use Rattle.frame.specs.declared.Frame.{Frame}
@@ -72,17 +72,33 @@ module _ (item : Bor (List ℕ)) (good : is_ok (reading item.now) ≡ true) wher
   lamp-test : has_lamp (kind_number frame.message.kind) ≡ is_ok (lamp_form (reading item.now))
   lamp-test = sym (ok-passes with_lamp (reading item.now) ∙ rw good)
 
-  pub lamp-put : (part : Bor (List ℕ)) → IsLamp item part × (lamp_refusal item.now ≡ 0) → (at : ℕ) (m : List ℕ) {after : List ℕ} → after ≡ write at part.now m
-      → Puts at (lamp_text frame.message) m after (at + length part.now)
-  unfolding lamp_text
-  lamp-put part (is, none) at m w =
-      let carried : is_ok (lamp_form (reading item.now)) ≡ true = ok-number (lamp_form (reading item.now)) ∙ eq-eqb (lamp_refusal item.now) 0 none in
-      rw (lamp-test, carried, ← lamp-and-number.found item part is none) (record { position = refl; output = w })
+  -- the part that reading it hands back
+  module _ (part : Bor (List ℕ)) (is : IsLamp item part) where
+    refused : length part.now ≡ 0 → lamp_refusal item.now ≡ 0 → ⊥
+    refused h z = let size = lamp-and-number.whole item part is z in omega arith
 
-  pub dash-put : {reason : FormError} → lamp_form (reading item.now) ≡ Err reason → (at : ℕ) (m : List ℕ) → at < length m
-      → Puts at (lamp_text frame.message) m (set m at 45) (at + 1)
-  unfolding lamp_text
-  dash-put e at m room = rw (lamp-test, e) (puts-byte at 45 m room)
+    found : (length part.now ≡ 0 → ⊥) → lamp_refusal item.now ≡ 0
+    found h = by (eqb (lamp_refusal item.now) 0) refl
+      where
+        by : (b : Bool) → eqb (lamp_refusal item.now) 0 ≡ b → lamp_refusal item.now ≡ 0
+        by true e = eqb-true _ 0 e
+        by false e = absurd (h (ap length (lamp-and-number.refused item part is (eqb-false _ 0 e))))
+
+    pub part_length : (length part.now ≡ 0 → ⊥) → length part.now ≡ 18
+    part_length h = lamp-and-number.whole item part is (found h)
+
+    pub lamp-put : (at : ℕ) (m : List ℕ) {after : List ℕ} → (length part.now ≡ 0 → ⊥) → after ≡ write at part.now m
+        → Puts at (lamp_text frame.message) m after (at + length part.now)
+    unfolding lamp_text
+    lamp-put at m h w =
+        let carried : is_ok (lamp_form (reading item.now)) ≡ true = ok-number (lamp_form (reading item.now)) ∙ eq-eqb (lamp_refusal item.now) 0 (found h) in
+        rw (lamp-test, carried, ← lamp-and-number.found item part is (found h)) (record { position = refl; output = w })
+
+    pub dash-put : (at : ℕ) (m : List ℕ) → length part.now ≡ 0 → at < length m → Puts at (lamp_text frame.message) m (set m at 45) (at + 1)
+    unfolding lamp_text
+    dash-put at m h room =
+        let none : is_ok (lamp_form (reading item.now)) ≡ false = ok-number (lamp_form (reading item.now)) ∙ ne_eqb (lamp_refusal item.now) 0 (refused h) in
+        rw (lamp-test, none) (puts-byte at 45 m room)
 
 module _ (at : ℕ) (m s : List ℕ) where
   pub frame-put : {f : Frame} {m₁ m₂ : List ℕ} {p q : ℕ} → Ok f ≡ reading s → at + 100 ≤ length m
@@ -94,6 +110,6 @@ module _ (at : ℕ) (m s : List ℕ) where
       rw (← e, ← append_assoc (route f.message) (content f) (lamp_text f.message))
       (two at 77 m (omega arith) fields.0 fields.1 same-lamp)
 
-  pub refused-put : {reason : FormError} {now : List ℕ} {p : ℕ} → Err reason ≡ reading s → Puts at (refused_text reason) m now p → Puts at (line s) m now p
+  pub refused-put : {reason : FormError} {now : List ℕ} {p : ℕ} → Err reason ≡ reading s → Puts at (refused_text (Some reason)) m now p → Puts at (line s) m now p
   unfolding line
   refused-put e x = rw (← e) x

@@ -1,6 +1,6 @@
 -- The line that the program frames prints of a byte string: kind, from, to, hour, origin, quantity, sense and lamp, or the number
 -- with which it is refused and the reason in words.
-use Rattle.std.specs.Prelude.{ℕ, cond, Result, Ok, Err, List, [], ◌∷◌, ◌++◌}
+use Rattle.std.specs.Prelude.{ℕ, cond, Some, Result, Ok, Err, List, [], ◌∷◌, ◌++◌}
 use Rattle.text.specs.Decimal.{field}
 use Rattle.model.specs.Messages.{kind_number, origin_of, quantity_of}
 use Rattle.model.specs.declared.Message.{Message}
@@ -28,7 +28,7 @@ frame_text f = route f.message ++ (content f ++ lamp_text f.message)
 -- the line of what was read: the frame, or the reason
 abbrev pub line_of : Result Frame FormError → List ℕ
 line_of (Ok f) = frame_text f
-line_of (Err reason) = refused_text reason
+line_of (Err reason) = refused_text (Some reason)
 
 -- the line of a byte string, without its line end
 unfoldable pub line : List ℕ → List ℕ

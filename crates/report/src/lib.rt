@@ -54,7 +54,7 @@ pub fn put_line(out: &mut [u8], at: usize, item: &[u8]) -> usize
             let behind_fields = put_fields(out, at, frame);
             put_lamp(out, behind_fields, item)
         }
-        Err(reason) => put_refused(out, at, reason),
+        Err(reason) => put_refused(out, at, Some(reason)),
     }
 }
 
@@ -95,14 +95,11 @@ fn put_lamp(out: &mut [u8], at: usize, item: &[u8]) -> usize
     ensures { (Puts at (lamp_text (frame_read item.now).message) out.old out.new result)
         × (result ≤ at + 18) }
 {
-    match lamp(item) {
-        Ok(part) => {
-            copy(out, at, part);
-            at + part.len()
-        }
-        Err(_) => {
-            out[at] = b'-';
-            at + 1
-        }
+    let part = lamp(item);
+    if part.len() == 0 {
+        out[at] = b'-';
+        return at + 1;
     }
+    copy(out, at, part);
+    at + part.len()
 }

@@ -2,7 +2,7 @@
 // one behind it.
 #![tactic(auto)]
 
-ghost use Rattle.std.specs.Prelude.{◌≡◌, ◌+◌, ◌*◌, ◌≤◌, length};
+ghost use Rattle.std.specs.Prelude.{◌≡◌, [], ◌+◌, ◌*◌, ◌≤◌, length};
 ghost use Rattle.model.specs.Doing.{most_stock};
 ghost use Rattle.single_queue.specs.Inside.Queue.{place_of, entered};
 
@@ -17,13 +17,13 @@ use reader::read;
 
 // One of the two gateways: its state, and the record of the events that it has done.
 #[derive(Drop)]
-struct Shelf {
+struct Shelf<const R: usize> {
     state: State,
-    events: ArrayVec<u8, 4096>,
+    events: ArrayVec<u8, R>,
 }
 
 // Feeds the queue the opening list, and does its messages, at most 512. Answers the records of the two gateways.
-pub fn run(list: &[u8]) -> [ArrayVec<u8, 4096>; 2] {
+pub fn run<const R: usize>(list: &[u8]) -> [ArrayVec<u8, R>; 2] {
     let mut queue = ArrayVec::<Message, 1020>::new();
     enter_list(&mut queue, list);
     let mut first = shelf_with(0);
@@ -42,8 +42,9 @@ pub fn run(list: &[u8]) -> [ArrayVec<u8, 4096>; 2] {
 }
 
 // A gateway as it is set up, with so much stock.
-fn shelf_with(stock: u32) -> Shelf
-    ensures { result.state.stock ≡ stock }
+fn shelf_with<const R: usize>(stock: u32) -> Shelf<R>
+    ensures stock { result.state.stock ≡ stock }
+    ensures events { result.events.items ≡ [] }
 {
     Shelf {
         state: State {
@@ -80,7 +81,11 @@ fn place_of(queue: &[Message], message: Message) -> usize
 }
 
 // The gateway that a message is to does it: what it sends is entered, and its frame and the state after it end the record.
-fn do_message<const N: usize>(queue: &mut ArrayVec<Message, N>, shelf: &mut Shelf, message: Message)
+fn do_message<const N: usize, const R: usize>(
+    queue: &mut ArrayVec<Message, N>,
+    shelf: &mut Shelf<R>,
+    message: Message,
+)
     requires { shelf.old.state.stock + 65535 ≤ most_stock }
     ensures { shelf.new.state.stock ≤ shelf.old.state.stock + 65535 }
 {

@@ -2,10 +2,9 @@
 use mathlib.Core.Path.{◌≡◌, refl, sym, ◌∙◌}
 use Prim.Native.Nat.{ℕ, ◌<◌, ◌≤◌}
 use native.Mathlib.Nat.{add-zero}
-use mathlib.Core.Bool.{Bool, true, false, not, ◌&&◌, and-false}
+use mathlib.Core.Bool.{Bool, true, false, cond, not, ◌&&◌, and-false}
 use mathlib.Core.List.{List}
-use Rattle.std.specs.Prelude.{Err}
-use Rattle.refusal.specs.declared.Refusal.TheVariants.{NotSound}
+use Rattle.std.specs.Prelude.{Ok, Err}
 use lib.Dec.{leb}
 use lib.ListN.{length, get_or}
 use borrow.Author.Tests.{leb-true, le-leb, lt-leb}
@@ -18,7 +17,7 @@ use Rattle.memory.specs.Validity.{saved_stocks_bounded, held_stock_bounded}
 use Rattle.memory.specs.Soundness.{entry_exact, sent_exact, sound}
 use Rattle.soundness.specs.Inside.Passes.{header_sound, queue_sound, outstanding_sound}
 use Rattle.memory.specs.declared.Header.{Header}
-use Rattle.memory.specs.Inside.Checking.{checked_as}
+use Rattle.memory.specs.Inside.Checking.{blank_header, checked_as}
 use Rattle.memory.proofs.Chains.{refuted, granted, above, within}
 use Rattle.memory.proofs.Validated.{ValidSettings, settings-facts, facts-settings}
 use Rattle.lists.proofs.BoolLaws.{and_left, and_right}
@@ -132,9 +131,17 @@ module _ (m : List ℕ) where
   unfolding sound
   sound-short h = rw (lt-leb header_size (length m) h)
 
-  -- memory too short for a header
-  pub checked-short : length m < 256 → Err NotSound ≡ checked_as m
-  checked-short l = rw (← sound-short l)
+  -- memory too short for a header, and memory long enough for one that is not sound
+  pub checked-short : length m < 256 → {h : Header} → h ≡ blank_header → Err (record { header = h }) ≡ checked_as m
+  checked-short l e = rw (← sound-short l, lt-leb header_size (length m) l, e)
+
+  pub checked-long : 256 ≤ length m → {h : Header} {ok : Bool} → h ≡ header_at m → ok ≡ sound m
+      → cond ok (Ok h) (Err (record { header = h })) ≡ checked_as m
+  checked-long l e s = rw (le-leb header_size (length m) l, e, s)
+
+  pub checked-refused : 256 ≤ length m → {h : Header} {ok : Bool} → h ≡ header_at m → ok ≡ sound m → not ok ≡ true
+      → Err (record { header = h }) ≡ checked_as m
+  checked-refused l {h} {ok} e s n = rw (← checked-long l e s, refuted refl n)
 
   module _ {h : Header} {ok : Bool} (e : h ≡ header_at m) (p : ok ≡ header_sound m) where
     pub sound-header : not ok ≡ true → false ≡ sound m

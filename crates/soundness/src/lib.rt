@@ -8,7 +8,7 @@ ghost use Rattle.memory.specs.Layout.{header_size, queue_size, outstanding_size,
 ghost use Rattle.memory.specs.Codec.{header_at};
 ghost use Rattle.memory.specs.Validity.{brings};
 ghost use Rattle.memory.specs.Soundness.{sound};
-ghost use Rattle.memory.specs.Inside.Checking.{checked_as};
+ghost use Rattle.memory.specs.Inside.Checking.{blank_header, checked_as};
 ghost use Rattle.soundness.specs.Inside.Passes.{header_sound, most_brought, passed_on, higher_with, stocks_fit, entry_accepted, queue_sound, outstanding_sound};
 
 use decoding::{entry_of, sent_of};
@@ -16,9 +16,10 @@ use entries::{is_pending, is_processed};
 use exactness::{entry_exact, sent_exact};
 use following::{follows, pending_seen, processed_behind};
 use header::read_header;
-use memory::{Entry, HEADER_SIZE, Header, OUTSTANDING_SIZE, QUEUE_SIZE, Settings};
-use model::quantity_of;
-use refusal::Refusal;
+use memory::{
+    Entry, HEADER_SIZE, Header, OUTSTANDING_SIZE, Phase, QUEUE_SIZE, Round, Settings, Unsound,
+};
+use model::{LeadTimes, State, quantity_of};
 use validity::{entry_valid, round_possible, sent_valid, settings_valid, size_for};
 
 // What a stock and the Restocks still to be done from it may come to, what 512 Restocks bring at most, and both together.
@@ -40,17 +41,49 @@ pub struct Passed {
 }
 
 // The header of lent memory that is sound. Other memory is refused by every call.
-pub fn checked(memory: &[u8]) -> Result<Header, Refusal>
+pub fn checked(memory: &[u8]) -> Result<Header, Unsound>
     ensures { result ≡ checked_as memory.now }
 {
     if memory.len() < HEADER_SIZE {
-        return Err(Refusal::NotSound);
+        return Err(Unsound {
+            header: no_header(),
+        });
     }
     let header = read_header(memory);
     if !all_sound(memory, header) {
-        return Err(Refusal::NotSound);
+        return Err(Unsound { header });
     }
     Ok(header)
+}
+
+// A header of zeros, for memory that is too short for one.
+fn no_header() -> Header
+    ensures { result ≡ blank_header }
+{
+    Header {
+        settings: Settings {
+            n: 0,
+            own: 0,
+            supplier: 0,
+            last: 0,
+            q: 0,
+            u: 0,
+            hours: LeadTimes {
+                request: 0,
+                delivery: 0,
+                life: 0,
+            },
+        },
+        state: State::default(),
+        agreed: 0,
+        round: Round {
+            phase: Phase::Idle,
+            arrived: 0,
+            note: 0,
+        },
+        queued: 0,
+        outstanding: 0,
+    }
 }
 
 // Whether memory that is long enough for a header is sound.

@@ -7,11 +7,14 @@ use committing::commit_both;
 use lines::Gateway;
 use working::{nothing_due, start_if_due, work_both};
 
-// Turns until nothing is left to do, at most 1000. What the gateways commit stands in their records.
-pub fn take_turns(gateways: &mut [Gateway; 2]) {
-    let mut line = ArrayVec::<u8, 65536>::new();
+// Turns until nothing is left to do, at most 1000. The frames under way stand in the line; what the gateways commit stands in their
+// records.
+pub fn take_turns<const M: usize, const R: usize, const N: usize>(
+    gateways: &mut [Gateway<M, R>; 2],
+    line: &mut ArrayVec<u8, N>,
+) {
     for _ in 0..1000 {
-        exchange(gateways, &mut line);
+        exchange(gateways, line);
         commit_both(gateways);
         if line.is_empty() && gateways.iter().all(nothing_due) {
             break;
@@ -20,7 +23,10 @@ pub fn take_turns(gateways: &mut [Gateway; 2]) {
 }
 
 // The first three steps of a turn: both gateways work, the frames that are then under way are brought, gateway 0 gets the start call.
-fn exchange<const N: usize>(gateways: &mut [Gateway; 2], line: &mut ArrayVec<u8, N>) {
+fn exchange<const M: usize, const R: usize, const N: usize>(
+    gateways: &mut [Gateway<M, R>; 2],
+    line: &mut ArrayVec<u8, N>,
+) {
     work_both(gateways, line);
     *line = bring_all(gateways, line);
     start_if_due(&mut gateways[0], line);

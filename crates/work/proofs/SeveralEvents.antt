@@ -17,15 +17,17 @@ use Rattle.memory.specs.Inside.Pieces.{header_written}
 use Rattle.memory.specs.Inside.Checking.{checked_as}
 use Rattle.memory.specs.Validity.{still_brings}
 use Rattle.memory.specs.declared.Header.{Header}
+use Rattle.memory.specs.declared.Unsound.{Unsound}
 use Rattle.refusal.specs.Numbers.{refusal_number, number_if}
 use Rattle.refusal.specs.declared.Refusal.{Refusal}
+use Rattle.refusal.specs.declared.Refusal.TheVariants.{NotSound}
 use Rattle.memory.proofs.Validated.{valid-facts}
 use Rattle.memory.proofs.SoundMemory.{sound-facts, reading-laws}
 use Rattle.gateway.specs.Effects.{bytes_of_frames}
 use Rattle.gateway.specs.Working.{Progress, worked}
 use Rattle.gateway.specs.Calls.{left, worked_off}
 use Rattle.gateway.specs.Inside.Premises.{Known}
-use Rattle.gateway.proofs.Calling.{unsound, not_sound}
+use Rattle.gateway.proofs.Calling.{unsound}
 use Rattle.gateway.proofs.Dispatching.{refusal-numbered}
 use Rattle.gateway.specs.Answers.{worked_as}
 use Rattle.gateway.specs.declared.Worked.{Worked}
@@ -251,7 +253,7 @@ module _ {before output₀ : List ℕ} {h : Header} {room : ℕ} {memory output 
         (rw going.same at f)
 
 -- work on memory that is not sound
-pub work-unsound : (budget : ℕ) (m output : List ℕ) {why : Refusal} → Err why ≡ checked_as m
+pub work-unsound : (budget : ℕ) (m output : List ℕ) {found : Unsound} {why : Refusal} → Err found ≡ checked_as m → why ≡ NotSound
     → left (worked_as (record { count = 0; stopped = Some why; written = 0 })) m output ≡ worked_off budget m output
 unfolding worked_off
-work-unsound budget m output found = rw (unsound m found, not_sound m found)
+work-unsound budget m output refused number = rw (unsound m refused, number)

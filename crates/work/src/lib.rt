@@ -13,6 +13,7 @@ use events::work_one;
 use gateway::Worked;
 use header::write_header;
 use memory::Header;
+use refusal::Refusal;
 use replies::Turn;
 use soundness::checked;
 
@@ -21,9 +22,9 @@ pub fn work(memory: &mut [u8], output: &mut [u8], budget: u32) -> Worked
 {
     match checked(memory) {
         Ok(header) => work_off(memory, output, budget, header),
-        Err(why) => Worked {
+        Err(unsound) => Worked {
             count: 0,
-            stopped: Some(why),
+            stopped: Some(Refusal::from(unsound)),
             written: 0,
         },
     }

@@ -38,7 +38,14 @@ pub fn put(out: &mut [u8], at: usize, frame: Frame) -> usize
     let map = map_of(frame);
     let behind_head = put_head(out, at, map, frame.message);
     let behind_body = put_body(out, behind_head, map, frame.message);
-    put_number(out, behind_body, SENSE, map, sense_number(frame.sense))
+    put_number(
+        out,
+        behind_body,
+        SENSE,
+        WIDTHS.sense,
+        map,
+        sense_number(frame.sense),
+    )
 }
 
 // Map, kind, from and to.
@@ -61,22 +68,44 @@ fn put_body(out: &mut [u8], at: usize, map: u8, message: Message) -> usize
     requires { at + length (body_bytes map message) ≤ length out.old }
     ensures { Puts at (body_bytes map message) out.old out.new result }
 {
-    let behind_hour = put_number(out, at, HOUR, map, message.hour);
-    let behind_origin = put_number(out, behind_hour, ORIGIN, map, origin_of(message.kind));
+    let kind = message.kind;
+    let behind_hour = put_number(out, at, HOUR, WIDTHS.hour, map, message.hour);
+    let behind_origin = put_number(
+        out,
+        behind_hour,
+        ORIGIN,
+        WIDTHS.origin,
+        map,
+        origin_of(kind),
+    );
     let behind_lamp = put_lamp(out, behind_origin, map, message.lamp);
-    put_number(out, behind_lamp, QUANTITY, map, quantity_of(message.kind))
+    put_number(
+        out,
+        behind_lamp,
+        QUANTITY,
+        WIDTHS.quantity,
+        map,
+        quantity_of(kind),
+    )
 }
 
-// A field that is a number, where its bit stands in the map.
-fn put_number<T: Number>(out: &mut [u8], at: usize, bit: u8, map: u8, number: T) -> usize
-    requires { (0 < bit) × (at + length (field_bytes map bit (bytes_of T.WIDTH (T.value number))) ≤ length out.old) }
+// A field of that width that is a number, where its bit stands in the map.
+fn put_number<T: Number>(
+    out: &mut [u8],
+    at: usize,
+    bit: u8,
+    width: usize,
+    map: u8,
+    number: T,
+) -> usize
+    requires { (0 < bit) × (width ≡ T.WIDTH) × (at + length (field_bytes map bit (bytes_of T.WIDTH (T.value number))) ≤ length out.old) }
     ensures { Puts at (field_bytes map bit (bytes_of T.WIDTH (T.value number))) out.old out.new result }
 {
     if !stands(bit, map) {
         return at;
     }
     number.write(out, at);
-    at + T::WIDTH
+    at + width
 }
 
 // The lamp, where it stands in the map.

@@ -1,22 +1,20 @@
 -- `order::compare` meets its contract.
-use mathlib.Core.Path.{◌≡◌}
-use Rattle.std.specs.Ordering.{ordering_then}
-use borrow.Author.Rules.{rules}
+use mathlib.Core.Path.{sym, ◌∙◌}
+use mathlib.Core.List.{◌++◌}
 use Rattle.model.specs.EventOrder.{compared}
-use Rattle.model.proofs.Arrays.{lamp-length}
-use Rattle.model.proofs.Comparing.{then-with}
-use Rattle.model.proofs.Keys.{back, by-stretches}
+use Rattle.model.proofs.Comparing.{then-decided, then-open}
+use Rattle.model.proofs.Keys.{back, from-front}
 use Rattle.order.proofs.compare.Goals as goal
 
-pub returns : goal.returns
-unfolding compared
-returns c =
+pub returns-then-is_ne : goal.returns-then-is_ne
+returns-then-is_ne c =
     let a = c.args.a in
     let b = c.args.b in
-    let with-lamp : c.then_with.result ≡ ordering_then c.before_lamp.result (compared a.lamp b.lamp) =
-    then-with c.before_lamp.result c.then_with.result (compared a.lamp b.lamp) (λ p. search rules) c.then_with.ensures
-    in
-    let whole : c.then_with-2.result ≡ ordering_then c.then_with.result (compared (back a) (back b)) =
-    then-with c.then_with.result c.then_with-2.result (compared (back a) (back b)) (λ p. search rules) c.then_with-2.ensures
-    in
-    rw (whole, with-lamp, c.before_lamp.ensures) (by-stretches a b (lamp-length a _ c.well_formed.0) (lamp-length b _ c.well_formed.1.0))
+    let rest = compared (a.lamp ++ back a) (b.lamp ++ back b) in
+    sym (then-decided c.before_lamp-first.result rest (sym c.is_ne.ensures ∙ c.if-is_ne.true))
+    ∙ rw c.before_lamp-first.ensures (from-front a b)
+
+pub returns : goal.returns
+returns c =
+    c.from_lamp.ensures ∙ sym (then-open c.before_lamp-first.result _ (sym c.is_ne.ensures ∙ c.if-is_ne.false))
+    ∙ rw c.before_lamp-first.ensures (from-front c.args.a c.args.b)

@@ -1,4 +1,5 @@
 -- `writer::put` meets its contract.
+use mathlib.Core.Path.{refl}
 use native.Mathlib.Omega.{arith}
 use Rattle.frame.proofs.Output.{head-room, body-room, tail-room, frame-put}
 use Rattle.writer.proofs.put.Goals as goal
@@ -12,6 +13,7 @@ put_body-behind_body-requires c = search body-room
 pub put_number-requires : goal.put_number-requires
 put_number-requires c = (
   omega arith,
+  refl,
   tail-room c.args.frame _ _ c.requires c.map_of-map.ensures c.put_head-behind_head.ensures c.put_head-behind_head.auto.out
       c.put_body-behind_body.ensures c.put_body-behind_body.auto.out c.sense_number.ensures,
 )

@@ -15,8 +15,8 @@ write-requires g c = search (field_room, length-bytes_of)
 pub overflow_add-result : goal.overflow_add-result
 overflow_add-result g c =
     let size = length-bytes_of g.T.Number.WIDTH (g.T.Number.value c.args.number) in
-    let room = field_room c.args.map c.args.bit c.stands.ensures c.args.at c.args.out.now _ (ap not c.if-not-stands.false) size c.requires.1 in
+    let room = field_room c.args.map c.args.bit c.stands.ensures c.args.at c.args.out.now _ (ap not c.if-not-stands.false) size c.requires.2 in
     omega (arith, room)
 
 pub returns : goal.returns
-returns g c = rw c.WIDTH.ensures (search (field_put, length-bytes_of))
+returns g c = rw c.requires.1 (search (field_put, length-bytes_of))
